@@ -6,7 +6,7 @@ use keep_edit_plan::IndexChange;
 use keep_rules::Index;
 
 /// Whether a change of an index was made where it is. If not, the index is as before: memory was refused, or the node
-/// of a line can't come where the others are.
+/// of a line can't come between the others, or go from there.
 pub(crate) fn change_index(index: &mut Index, change: IndexChange<'_>) -> bool
     requires { CanChange index.old change }
     ensures changed { result ≡ true → index.new ≡ changed_index index.old change.entry }
@@ -18,11 +18,12 @@ pub(crate) fn change_index(index: &mut Index, change: IndexChange<'_>) -> bool
             true
         }
         IndexChange::Key { node, key } => index.set_key(node, key).is_ok(),
-        IndexChange::Line {
+        IndexChange::AddedLine {
             parent,
             key,
             line,
             kind,
         } => index.insert_line(parent, key, line, kind).is_ok(),
+        IndexChange::RemovedLine { node, line } => index.remove_line(node, line).is_ok(),
     }
 }

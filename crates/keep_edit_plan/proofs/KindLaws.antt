@@ -132,7 +132,8 @@ module _ (d : ProfiledText) (syntax : Syntax) (index : NodeInfos) (path : List P
   pub some_below : (count : ℕ) → count ≡ length (children_numbered index id.0) → 0 < count → children path (node_paths (mentions_in s)) ≡ [] → ⊥
   some_below count is some empty = omega (arith, is, some, ap length (its_children ∙ empty))
 
-  nothing_below : (count : ℕ) → count ≡ length (children_numbered index id.0) → count ≤ 0 → children path (node_paths (mentions_in s)) ≡ []
+  -- no node is, if none is counted
+  pub nothing_below : (count : ℕ) → count ≡ length (children_numbered index id.0) → count ≤ 0 → children path (node_paths (mentions_in s)) ≡ []
   nothing_below count is few = sym its_children ∙ no_length (children_numbered index id.0) (omega (arith, is, few))
     where
       no_length : (xs : List (List Part)) → length xs ≤ 0 → xs ≡ []

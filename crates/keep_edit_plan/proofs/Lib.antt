@@ -31,5 +31,6 @@ pub mod BracketPlaces
 pub mod KeysLaws
 pub mod InsertedLaws
 pub mod LineChangeLaws
+pub mod LineRemovalLaws
 pub mod GivenLaws
 pub mod Shared

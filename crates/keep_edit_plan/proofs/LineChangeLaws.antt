@@ -103,7 +103,7 @@ module _ (d : ProfiledText) (syntax : Syntax) (index : NodeInfos) (path : List P
     at : nodes_after line.before ≡ met_before (numbers_of numbers) (infos_in s)
     at = place_is (numbers_of numbers) (infos_in s) (nodes_after line.before) place
 
-    pub line_changed : IsIndexChange s new (change.Line parent text numbers kind)
+    pub line_changed : IsIndexChange s new (change.AddedLine parent text numbers kind)
     line_changed =
         let here : node_number old_index.paths (take i.from path) ≡ Some parent.0 = ap (λ (t : NodeInfos). node_number t.paths (take i.from path)) (sym (stated_is d syntax index s holds read)) ∙ found in
         let (low, parent_is) = number_is old_index.paths (take i.from path) parent.0 here in

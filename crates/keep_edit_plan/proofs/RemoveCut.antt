@@ -24,7 +24,7 @@ use Rattle.keep_types.specs.declared.syntax.Owner.TheVariants as owner
 use Rattle.keep_types.specs.declared.syntax.Statement.{Statement}
 use Rattle.keep_types.specs.declared.syntax.ValueInfo.{ValueInfo}
 use Rattle.keep_syntax.specs.declared.syntax.Syntax.{Syntax}
-use Rattle.keep_syntax.specs.Tree.{Document, text}
+use Rattle.keep_syntax.specs.Tree.{Document, Ended, text}
 use Rattle.keep_syntax.specs.Contract.{statements_of, values_of}
 use Rattle.keep_syntax.specs.Numbered as numbered
 use Rattle.keep_syntax.specs.Numbered.{span}
@@ -39,7 +39,7 @@ use Rattle.keep_edit_spec.specs.Edits.{remove, place, changed_or_same}
 use Rattle.keep_edit_spec.specs.Laws.{IsLawfulEdit}
 use Rattle.keep_edit_spec.specs.Refusals.{refusal}
 use Rattle.keep_edit_spec.specs.Removal.{past_space, preserved_text, entry_place, line_place, section_place}
-use Rattle.keep_edit_spec.proofs.Shared.{Rules, SomeOf, IsAloneAt, rules_of_document, has_some, remove_lawful, alone_of_has, has_of_number, begun_alone, no_both, shared_define, IsValueAt, IsNested, IsEdged, IsComma, is_high, IsLow, IsSectionPlaced, IsPlaced, IsRemoved, removed}
+use Rattle.keep_edit_spec.proofs.Shared.{Rules, SomeOf, IsAloneAt, rules_of_document, has_some, remove_lawful, alone_of_has, has_of_number, begun_alone, no_both, shared_define, IsValueAt, IsLineValue, IsNested, IsEdged, IsComma, is_high, IsLow, IsSectionPlaced, IsPlaced, IsRemoved, removed}
 use Rattle.keep_edit_plan.specs.Reading.{limit, ProfiledText, IsTextOfTree, Holds}
 use Rattle.keep_edit_plan.specs.Answers.{value_number_of, IsSpanOf}
 use Rattle.keep_edit_plan.specs.Removing.{IsHeaded, IsRemovalOf, cut_place, KeepsNothing, KeepsGap, IsEntryIn, IsCutAt}
@@ -253,27 +253,39 @@ module _ (d : ProfiledText) (syntax : Syntax) (index : NodeInfos) (path : List P
       (ap (λ (l : List ValueInfo). slice_get l number) (sym values_are) ∙ here)
 
   -- a keyval's line
-  pub record IsLineArm (info : ValueInfo) (line : ℕ) : Type 0 where
+  pub record IsLineOfValue (number : ℕ) (info : ValueInfo) (line : ℕ) : Type 0 where
+    pub pre : List Ended
+    pub rest : List Ended
+    pub was : s.ended ≡ pre ++ rest
+    pub found : IsLineValue path s pre rest
+    pub own_is : found.own ≡ info
+    pub value_is : found.value.number ≡ number
+    pub line_is : found.number ≡ line
+
+  pub record IsLineArm (number : ℕ) (info : ValueInfo) (line : ℕ) : Type 0 where
     pub within : line < length (statements_of syntax)
     pub ends : info.span.end ≤ length d.text
     pub cut : (st : Statement) (cut : Cut) → slice_get (statements_of syntax) line ≡ Some st → cut_place d.text cut ≡ line_place d.text st info → KeepsNothing cut → IsCutAt path s d.text cut
+    pub of : IsLineOfValue number info line
 
-  pub line_arm : (number : ℕ) (info : ValueInfo) (line : ℕ) → value_number_of path s ≡ Some number → slice_get (values_of syntax) number ≡ Some info → info.owner ≡ owner.Line line → IsLineArm info line
+  pub line_arm : (number : ℕ) (info : ValueInfo) (line : ℕ) → value_number_of path s ≡ Some number → slice_get (values_of syntax) number ≡ Some info → info.owner ≡ owner.Line line → IsLineArm number info line
   line_arm number info line found here owned =
       let (c, h) = the_change d path s read allowed in
       let there = value_there d syntax index path s number holds read found info here in
       elim h.placed [
         | inl p ↦
-            (let same : p.own ≡ info = own_is number info p.own found here p.value in
-            let line_is : p.number ≡ line = one_line p.number line (sym p.line ∙ ap (λ (i : ValueInfo). i.owner) same ∙ owned) in
-            let occurs : slice_get (statements_of syntax) line ≡ Some p.statement = ap (λ (l : List Statement). slice_get l line) statements_are ∙ ap (slice_get (numbered.statements s)) (sym line_is) ∙ p.here in
+            (let v : IsLineValue path s p.pre p.rest = p.found in
+            let same : v.own ≡ info = own_is number info v.own found here v.value in
+            let line_is : v.number ≡ line = one_line v.number line (sym v.line ∙ ap (λ (i : ValueInfo). i.owner) same ∙ owned) in
+            let occurs : slice_get (statements_of syntax) line ≡ Some v.statement = ap (λ (l : List Statement). slice_get l line) statements_are ∙ ap (slice_get (numbered.statements s)) (sym line_is) ∙ v.here in
             record {
-              within = slice_get_within (statements_of syntax) line p.statement occurs;
+              within = slice_get_within (statements_of syntax) line v.statement occurs;
               ends = there.span.within;
               cut = λ st cut is at keeps.
-                  (let one : st ≡ p.statement = one_of_two (slice_get (statements_of syntax) line) st p.statement is occurs in
+                  (let one : st ≡ v.statement = one_of_two (slice_get (statements_of syntax) line) st v.statement is occurs in
                   low_cut d.text path s read.reads.spelled c h.place h.cut cut
-                  (at ∙ ap (λ (t : Statement). line_place d.text t info) one ∙ ap (line_place d.text p.statement) (sym same) ∙ ap (λ (b : List ℕ). line_place b p.statement p.own) read.reads.spelled ∙ p.place) keeps p.low);
+                  (at ∙ ap (λ (t : Statement). line_place d.text t info) one ∙ ap (line_place d.text v.statement) (sym same) ∙ ap (λ (b : List ℕ). line_place b v.statement v.own) read.reads.spelled ∙ p.place) keeps p.low);
+              of = record { pre = p.pre; rest = p.rest; was = p.was; found = v; own_is = same; value_is = one_of_two (value_number_of path s) v.value.number number v.value.is found; line_is = line_is };
             })
         | inr (inl p) ↦ absurd (not_nested p.own.owner line p.nested (ap (λ (i : ValueInfo). i.owner) (own_is number info p.own found here p.value) ∙ owned))
         | inr (inr p) ↦ absurd (no_header d path s number c read found p)
@@ -289,7 +301,7 @@ module _ (d : ProfiledText) (syntax : Syntax) (index : NodeInfos) (path : List P
       let (c, h) = the_change d path s read allowed in
       let there = value_there d syntax index path s number holds read found info here in
       elim h.placed [
-        | inl p ↦ absurd (other p.number (sym (ap (λ (i : ValueInfo). i.owner) (own_is number info p.own found here p.value)) ∙ p.line))
+        | inl p ↦ absurd (other p.found.number (sym (ap (λ (i : ValueInfo). i.owner) (own_is number info p.found.own found here p.found.value)) ∙ p.found.line))
         | inr (inl p) ↦
             (let same : p.own ≡ info = own_is number info p.own found here p.value in
             let edged : IsEdged d.text info = subst (λ (i : ValueInfo). IsEdged d.text i) same (subst (λ (b : List ℕ). IsEdged b p.own) (sym read.reads.spelled) p.edged) in
@@ -321,7 +333,7 @@ module _ (d : ProfiledText) (syntax : Syntax) (index : NodeInfos) (path : List P
   section_arm number none headed =
       let (c, h) = the_change d path s read allowed in
       elim h.placed [
-        | inl p ↦ absurd (valued p.own p.value)
+        | inl p ↦ absurd (valued p.found.own p.found.value)
         | inr (inl p) ↦ absurd (valued p.own p.value)
         | inr (inr p) ↦
             (let same : p.number ≡ number = headed_is number p.number headed c p refl in

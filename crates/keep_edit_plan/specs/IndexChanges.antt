@@ -5,7 +5,7 @@ use Rattle.keep_meaning.specs.Counts.{statements_in}
 use Rattle.keep_meaning.specs.Marks.{start, reading_after}
 use Rattle.keep_meaning.specs.Meaning.{mentions_in}
 use Rattle.keep_meaning.specs.Nodes.{node_number}
-use Rattle.keep_path.specs.NodeInfos.{NodeInfos, with_kind, with_node, with_path}
+use Rattle.keep_path.specs.NodeInfos.{NodeInfos, with_kind, with_node, with_path, without_node}
 use Rattle.keep_path.specs.Path.{EndsInKey, beside, key}
 use Rattle.keep_index_store.specs.Renumbering.{numbers_of}
 use Rattle.keep_rules.specs.LinePlaces.{IsPlaceOf, met_before}
@@ -13,25 +13,27 @@ use Rattle.keep_rules.specs.Lookup.{path_numbered}
 use Rattle.keep_rules.specs.Nested.{AreNested}
 use Rattle.keep_edit_plan.specs.Reading.{telling_in}
 use Rattle.keep_edit_plan.specs.declared.plan.IndexChange.{IndexChange}
-use Rattle.keep_edit_plan.specs.declared.plan.IndexChange.TheVariants.{Kind, Key, Line}
+use Rattle.keep_edit_plan.specs.declared.plan.IndexChange.TheVariants.{Kind, Key, AddedLine, RemovedLine}
 
 -- The node is there. Where another key is its path's last one, the path ends in a key, and no node is at the new one.
--- No node is at the path of a line's key, and the nodes that are met before the line come first.
+-- No node is at the path of a new line's key, and the nodes that are met before the line come first.
 abbrev pub CanChange : NodeInfos → IndexChange → Type 0
 CanChange t (Kind node kind) = node.0 < length t.paths
 CanChange t (Key node text) =
     (node.0 < length t.paths) × EndsInKey (path_numbered t node.0)
     × (node_number t.paths (beside (path_numbered t node.0) text.now) ≡ None)
-CanChange t (Line parent text line kind) =
+CanChange t (AddedLine parent text line kind) =
     (parent.0 < length t.paths) × (node_number t.paths (path_numbered t parent.0 ++ key text.now ∷ []) ≡ None)
     × IsPlaceOf (numbers_of line) t.infos (met_before (numbers_of line) t.infos)
+CanChange t (RemovedLine node line) = node.0 < length t.paths
 
 abbrev pub changed_index : NodeInfos → IndexChange → NodeInfos
 changed_index t (Kind node kind) = with_kind t node.0 kind
 changed_index t (Key node text) = with_path t (path_numbered t node.0) (beside (path_numbered t node.0) text.now)
-changed_index t (Line parent text line kind) =
+changed_index t (AddedLine parent text line kind) =
     with_node t (met_before (numbers_of line) t.infos) (numbers_of line) (path_numbered t parent.0 ++ key text.now ∷ [])
     kind
+changed_index t (RemovedLine node line) = without_node t node.0 (numbers_of line)
 
 -- What is known of the nodes of the new document is what is known of those of the old one, with this change. They are
 -- nested as its headers say.

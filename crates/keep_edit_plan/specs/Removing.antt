@@ -7,12 +7,14 @@ use Rattle.keep_meaning.specs.KeyText.{text_at}
 use Rattle.keep_path.specs.Path.{Part}
 use Rattle.keep_meaning.specs.Counts.{numbered_in}
 use Rattle.keep_meaning.specs.Nodes.{numbered_at, last_number, statement_number, is_define, is_begun}
+use Rattle.keep_rules.specs.declared.index.NodeId.{NodeId}
 use Rattle.keep_edit_spec.specs.declared.fault.EditFault.{EditFault}
 use Rattle.keep_edit_spec.specs.Changed.{Place}
 use Rattle.keep_edit_spec.specs.Edits.{remove, place}
 use Rattle.keep_edit_spec.specs.Refusals.{refusal}
 use Rattle.keep_edit_plan.specs.Reading.{limit}
 use Rattle.keep_edit_plan.specs.Answers.{value_number_of, IsSpanOf}
+use Rattle.keep_edit_plan.specs.Plans.{IsNodeOf}
 use Rattle.keep_edit_plan.specs.declared.remove.Cut.{Cut}
 use Rattle.keep_edit_plan.specs.declared.remove.Piece.{Piece}
 use Rattle.keep_edit_plan.specs.declared.remove.Piece.TheVariants.{Value, Section}
@@ -41,6 +43,11 @@ IsPieceOf path s (Section number) = (value_number_of path s ≡ None) × IsHeade
 abbrev pub IsRemovalOf : Profile → List Part → Document → Result Piece EditFault → Type 0
 IsRemovalOf profile path s (Ok piece) = (refusal profile limit s (remove path) ≡ None) × IsPieceOf path s piece
 IsRemovalOf profile path s (Err f) = refusal profile limit s (remove path) ≡ Some f
+
+-- the node of the path, and what is removed with it; or why it is refused
+abbrev pub IsRemovalFound : Profile → List Part → Document → Result (NodeId × Piece) EditFault → Type 0
+IsRemovalFound profile path s (Ok found) = IsNodeOf path s found.0 × IsRemovalOf profile path s (Ok found.1)
+IsRemovalFound profile path s (Err f) = IsRemovalOf profile path s (Err f)
 
 -- ---- where the text is cut
 

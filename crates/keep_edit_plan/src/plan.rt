@@ -21,11 +21,16 @@ pub enum IndexChange<'a> {
         key: &'a str,
     },
     /// A line comes with these numbers: below a table there is one node more, by this key, with nothing below it.
-    Line {
+    AddedLine {
         parent: NodeId,
         key: &'a str,
         line: LineNumbers,
         kind: Kind,
+    },
+    /// The line with these numbers goes, and with it this node, below which there is nothing.
+    RemovedLine {
+        node: NodeId,
+        line: LineNumbers,
     },
 }
 

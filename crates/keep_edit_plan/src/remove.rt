@@ -13,12 +13,15 @@ ghost use Rattle.keep_edit_spec.specs.Removal as removal;
 ghost use Rattle.keep_edit_plan.specs.Plans.{EditPlanned, IsPlanOf};
 ghost use Rattle.keep_edit_plan.specs.Reading.{IsAccepted, IsTextOfTree};
 ghost use Rattle.keep_edit_plan.specs.Removing.{cut_place, KeepsNothing, KeepsGap, IsEntryIn, IsCutAt, IsRemovalOf};
+ghost use Rattle.keep_edit_plan.specs.Removing.{IsRemovalFound};
+
+mod change;
 
 use crate::document::DocumentRef;
 use crate::plan::{Plan, plan_at};
 use crate::text_edit::part_at;
 use keep_edit_spec::EditFault;
-use keep_rules::{Origin, Path};
+use keep_rules::{NodeId, Origin, Path};
 use keep_syntax::{Owner, Span, Statement, StatementKind, Syntax, ValueInfo};
 use std::alloc::Global;
 
@@ -51,14 +54,15 @@ impl<'a> DocumentRef<'a> {
         ensures of { IsAccepted self.now }
     {
         let text = self.text;
-        let piece = self.piece(path)?;
+        let (node, piece) = self.piece(path)?;
         let cut = self.cut(piece);
-        plan_at(alloc, cut.span, part_at(text, cut.preserved), None)
+        let change = self.removed_line(node, piece);
+        plan_at(alloc, cut.span, part_at(text, cut.preserved), change)
     }
 
-    /// What is removed with the node of a path, or why it can't be. It takes no memory.
-    fn piece(&self, path: &Path) -> Result<Piece, EditFault>
-        ensures { (s : tree.Document) → IsTextOfTree self.now s → IsRemovalOf self.now.profile path.now s result }
+    /// The node of a path and what is removed with it, or why it can't be. It takes no memory.
+    fn piece(&self, path: &Path) -> Result<(NodeId, Piece), EditFault>
+        ensures { (s : tree.Document) → IsTextOfTree self.now s → IsRemovalFound self.now.profile path.now s result }
     {
         if path.len() == 0 {
             return Err(EditFault::NotKey);
@@ -68,10 +72,10 @@ impl<'a> DocumentRef<'a> {
         };
         let node = self.index.node(id);
         match node.origin {
-            Origin::Value(number) => Ok(Piece::Value(number)),
+            Origin::Value(number) => Ok((id, Piece::Value(number))),
             Origin::Header(number) => {
                 if node.marks == 1 {
-                    Ok(Piece::Section(number))
+                    Ok((id, Piece::Section(number)))
                 } else {
                     Err(EditFault::Scattered)
                 }
@@ -80,7 +84,7 @@ impl<'a> DocumentRef<'a> {
                 if node.passed {
                     Err(EditFault::Scattered)
                 } else {
-                    Ok(Piece::Section(number))
+                    Ok((id, Piece::Section(number)))
                 }
             }
             _ => Err(EditFault::Scattered),

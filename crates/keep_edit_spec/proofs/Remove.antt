@@ -20,6 +20,7 @@ pub mod RemoveAny
 pub mod RemoveEntry
 pub mod RemovePlace
 pub mod RemoveLinePlace
+pub mod LineOfValue
 pub mod RemoveSectionPlace
 pub mod RemovePlaces
 pub mod RemoveTakesLine

@@ -8,7 +8,7 @@ pub use Rattle.keep_syntax.proofs.DocumentLaws.{one_document}
 pub use Rattle.keep_syntax.proofs.GapCodeLaws.{first-drop}
 pub use Rattle.keep_syntax.proofs.KeyLaws.{key_first_solid, name_begins, part_begins}
 pub use Rattle.keep_syntax.proofs.LawLaws.{tokens_few}
-pub use Rattle.keep_syntax.proofs.LineNumberingLaws.{after_lines-at, after_lines-statements, over_ended}
+pub use Rattle.keep_syntax.proofs.LineNumberingLaws.{after_lines-at, after_lines-statements, after_lines-values, over_ended}
 pub use Rattle.keep_syntax.proofs.LineStartLaws.{HaveBytes, all_from, before_step, from_step, line_low, line_of, line_step, next_high, next_of, next_step, none_before, same_begin}
 pub use Rattle.keep_syntax.proofs.GrowthLaws.{width-append}
 pub use Rattle.keep_syntax.proofs.ProfileTest.{allowed_value, value_allowed}

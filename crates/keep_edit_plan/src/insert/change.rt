@@ -36,7 +36,7 @@ impl<'a> DocumentRef<'a> {
             return None;
         };
         let parent = self.index.find_first(path, from)?;
-        Some(IndexChange::Line {
+        Some(IndexChange::AddedLine {
             parent,
             key: key.as_str(),
             line: self.line_numbers(header),

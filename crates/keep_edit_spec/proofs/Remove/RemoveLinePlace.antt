@@ -27,7 +27,7 @@ use Rattle.keep_syntax.specs.Tree.{Written, Gap, Name, Value, Content, blank, ke
 use Rattle.keep_syntax.specs.Grammar.{IsSpace, IsAfter, IsComment, IsLine, IsEnded, IsDocument, IsName, IsContent}
 use Rattle.keep_syntax.specs.Numbered as syntax
 use Rattle.keep_syntax.specs.Numbered.{span, width, Count, key_count, info, nested_of, entries_values, value_end, line_start, line_values, line_statements, over_lines, next_line, first_line, after_lines, statement}
-use Rattle.keep_syntax.proofs.Shared.{over_ended, after_lines-at, after_lines-statements, key_first_solid, name_begins, is_solid, space_class, newline_class, comment_class}
+use Rattle.keep_syntax.proofs.Shared.{over_ended, after_lines-at, after_lines-statements, after_lines-values, key_first_solid, name_begins, is_solid, space_class, newline_class, comment_class}
 use Rattle.keep_path.specs.Path.{Part}
 use Rattle.keep_meaning.specs.Marks.{Mention, Reading, start, below}
 use Rattle.keep_meaning.specs.Meaning.{body_fact, entries_mentions, step, line_mentions, after_line, lines_mentions, reading_after_lines, line_of, lines, mentions_in}
@@ -41,10 +41,11 @@ use Rattle.keep_edit_spec.proofs.Common.Texts.{text_of-append}
 use Rattle.keep_edit_spec.proofs.Common.LineLaws.{lines_mentions-append}
 use Rattle.keep_edit_spec.proofs.Common.LineTexts.{clear_cases, drop_prefix-is}
 use Rattle.keep_edit_spec.proofs.Common.SetDocument.{mentions_of}
+use Rattle.keep_edit_spec.proofs.Common.ValueNumber.{number_of_value}
 use Rattle.keep_edit_spec.proofs.Common.ValuesMention.{value_ends}
 use Rattle.keep_edit_spec.proofs.Common.DoneAtValue.{EachOf, of_within, of_or_else}
 use Rattle.keep_edit_spec.proofs.Remove.RemoveEntry.{named_split}
-use Rattle.keep_edit_spec.proofs.Remove.RemovePlace.{run_ends, same_place, IsValueAt, value_at_split}
+use Rattle.keep_edit_spec.proofs.Remove.RemovePlace.{run_ends, same_place, IsValueAt}
 use Rattle.keep_edit_spec.proofs.Values.ValuePlace.{get_here}
 
 -- ---- a line among lines
@@ -131,6 +132,11 @@ pub record IsLineValue (path : List Part) (s : Document) (pre rest : List Ended)
   pub line_ends : statement.line.end ≡ statement.line.start + length (head_text rest s.last)
   pub begins : statement.span.start ≡ statement.line.start + length (text_of (head_line rest s.last).before)
   pub ends : own.span.end ≡ statement.span.start + length (content_text (head_line rest s.last).content)
+  pub its_line : IsOwnLine path s pre rest
+  pub keys : own.keys ≡ key_count its_line.name.key
+  pub statements_before : number ≡ (after_lines (first_line s) pre).statements
+  pub values_before : value.number ≡ (after_lines (first_line s) pre).values
+  pub keys_before : own.first_key ≡ (after_lines (first_line s) pre).parts
 
 width-append : (a b : List Written) → width (a ++ b) ≡ width a + width b
 width-append a b = ap (λ (t : List ℕ). length t) (text_of-append a b) ∙ length-append (text_of a) (text_of b)
@@ -169,10 +175,15 @@ module _ (path : List Part) (s : Document) (rules : Rules (mentions_in s)) (pre 
       ∙ ap (λ (x : Content). over_ended line_statements (first_line s) pre ++ (syntax.content_statements c l line_end x ++ over_tail line_statements c rest s.last)) h.content in
       let count : valued (left ++ map (below r.body) split.ways) ≡ length prefix =
       omega (arith, valued-append left (map (below r.body) split.ways), valued-below r.body split.ways, split.few, prefix_valued start (first_line s) pre) in
+      let many : c.values ≡ length prefix = omega (arith, after_lines-values (first_line s) pre) in
       record {
         own = own;
-        value = value_at_split path s (left ++ map (below r.body) split.ways) (below r.body split.mention) (map (below r.body) split.more ++ right) prefix own (inner ++ over_tail values_of c rest s.last)
-            rules mentioned (ap (λ (x : List Part). r.body ++ x) split.place ∙ h.named) split.tells values count;
+        value = record {
+          number = c.values;
+          is = number_of_value path s (left ++ map (below r.body) split.ways) (below r.body split.mention) (map (below r.body) split.more ++ right)
+              rules mentioned (ap (λ (x : List Part). r.body ++ x) split.place ∙ h.named) split.tells ∙ ap Some (count ∙ sym many);
+          here = ap (λ (x : List ValueInfo). slice_get x c.values) values ∙ get_here prefix own (inner ++ over_tail values_of c rest s.last) c.values many;
+        };
         number = c.statements;
         line = refl;
         statement = st;
@@ -182,6 +193,11 @@ module _ (path : List Part) (s : Document) (rules : Rules (mentions_in s)) (pre 
         line_ends = refl;
         begins = refl;
         ends = omega (arith, value_long at v, ap (λ (x : Content). width (content_leaves x)) h.content, width-append (name_leaves name) (value_leaves v));
+        its_line = h;
+        keys = refl;
+        statements_before = refl;
+        values_before = refl;
+        keys_before = refl;
       }
     where
       regroup : (a b c d : List Mention) (m : Mention) → a ++ ((b ++ m ∷ c) ++ d) ≡ (a ++ b) ++ m ∷ (c ++ d)
@@ -398,14 +414,12 @@ drop_one (e ∷ es) last = ap (λ (t : List ℕ). text_of (ended_leaves e) ++ t)
 -- ---- a keyval's line
 
 pub record IsLinePlaced (path : List Part) (s : Document) (c : Changed Document) : Type 0 where
-  pub own : ValueInfo
-  pub value : IsValueAt path s own
-  pub number : ℕ
-  pub line : own.owner ≡ owner.Line number
-  pub statement : Statement
-  pub here : slice_get (syntax.statements s) number ≡ Some statement
+  pub pre : List Ended
+  pub rest : List Ended
+  pub was : s.ended ≡ pre ++ rest
+  pub found : IsLineValue path s pre rest
   pub low : IsLow c.old c.after
-  pub place : line_place (text s) statement own ≡ place_of c
+  pub place : line_place (text s) found.statement found.own ≡ place_of c
 
 head_valid : (profile : Profile) (pre rest : List Ended) (last : Line) → AllByRecursion (IsEnded profile) (pre ++ rest) → IsLine profile last → IsLine profile (head_line rest last)
 head_valid profile [] [] last h is = is
@@ -534,12 +548,10 @@ module _ (profile : Profile) (path : List Part) (s : Document) (valid : IsDocume
       ap is_hash (next_byte (text s) v.own.span.end l.after (h.comment.text ++ rest) scan)
       ∙ not_true (is_hash (first (h.comment.text ++ rest))) (comment_class (λ b. not (is_hash b)) h.comment.text rest refl commented.1) in
       record {
-        own = v.own;
-        value = v.value;
-        number = v.number;
-        line = v.line;
-        statement = v.statement;
-        here = v.here;
+        pre = h.pre;
+        rest = h.rest;
+        was = h.was;
+        found = v;
         low = record {
           opens = ap (λ (t : List ℕ). is_high (first (t ++ c.after))) old
               ∙ ap (λ (t : List ℕ). is_high (first t)) (append_assoc (content_text l.content) (text_of l.after) c.after)
@@ -580,12 +592,10 @@ module _ (profile : Profile) (path : List Part) (s : Document) (valid : IsDocume
       ap is_hash (next_byte (text s) v.own.span.end l.after (head_newline rest ++ c.after) scan)
       ∙ newline_stops is_hash pre rest all refl refl refl c.after (none_after rest h.after) in
       record {
-        own = v.own;
-        value = v.value;
-        number = v.number;
-        line = v.line;
-        statement = v.statement;
-        here = v.here;
+        pre = pre;
+        rest = rest;
+        was = was;
+        found = v;
         low = without_low profile s pre rest 1 c.old c.after valid was h.old h.after;
         place = place_is false (text s) v.statement v.own hash
             ∙ same_place v.statement.line.start (length c.before) v.statement.line.end (length c.before + length c.old) [] c.new (sym begins)

@@ -1,8 +1,8 @@
-//! The index where a line comes: it changes in place.
+//! The index where a line comes or goes: it changes in place.
 ghost use Rattle.std.specs.Prelude.{◌≡◌, ◌<◌, ◌≤◌, ◌∷◌, ◌++◌, [], ℕ, OnErr, OnOk, length};
 ghost use Rattle.keep_index_store.specs.Renumbering.{numbers_of};
 ghost use Rattle.keep_meaning.specs.LinesMore as spec;
-ghost use Rattle.keep_path.specs.NodeInfos.{with_node};
+ghost use Rattle.keep_path.specs.NodeInfos.{with_node, without_node};
 ghost use Rattle.keep_path.specs.Path.{key};
 ghost use Rattle.keep_rules.specs.LinePlaces.{IsPlaceOf};
 ghost use Rattle.keep_rules.specs.Lookup.{path_numbered};
@@ -68,5 +68,21 @@ impl Index {
     {
         let at = first_met_from(&self.nodes, line);
         self.nodes.insert_key(parent.0, text, line, kind, at)
+    }
+
+    /// The line of a node goes: a keyval of one key part, with a value in which nothing is nested. Each node after it
+    /// has the number before its own. `line` has the numbers of the line in the syntax, and the facts about all others
+    /// have their numbers without it. It takes no memory.
+    ///
+    /// # Errors
+    ///
+    /// `NotInPlace` where the node is the root, or is no child by key, or has children, and where a number is not
+    /// stored in 32 bits; then nothing has changed, and the index has to be built anew.
+    pub fn remove_line(&mut self, node: NodeId, line: LineNumbers) -> Result<(), NotInPlace>
+        requires { node.0 < length self.old.paths }
+        ensures removed { OnOk result (self.new ≡ without_node self.old node.0 (numbers_of line)) }
+        ensures refused { OnErr result (self.new ≡ self.old) }
+    {
+        self.nodes.remove_key(node.0, line)
     }
 }

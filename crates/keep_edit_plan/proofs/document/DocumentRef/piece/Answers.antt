@@ -1,6 +1,6 @@
 use Rattle.std.proofs.Common.{arith}
 use Rattle.keep_edit_plan.proofs.AnswerLaws.{seen}
-use Rattle.keep_edit_plan.proofs.FoundLaws.{none_found, one_found}
+use Rattle.keep_edit_plan.proofs.FoundLaws.{none_found, number_found_at, one_found}
 use Rattle.keep_edit_plan.proofs.RemoveNode.{no_removal, not_root, other_of, value_piece, table_alone, table_shared, element_alone, element_shared, other_scattered}
 use Rattle.keep_edit_plan.proofs.document.DocumentRef.piece.Goals as goal
 
@@ -11,13 +11,13 @@ pub returns-in-Value : goal.returns-in-Value
 returns-in-Value c = λ s read.
     let root = not_root c.args.path.now (λ e. absurd (omega (arith, c.if-len-eq0.false, c.len.ensures.count, e))) in
     let stated = one_found _ _ _ _ s (seen c.self.view_is c.self.invariant) read _ _ _ c.in-Some.is c.find.ensures.found c.node-node.ensures in
-    value_piece c.args.self.now.profile c.args.path.now s _ stated read.obeys root _ c.in-Value.is
+    (number_found_at _ _ _ _ s (seen c.self.view_is c.self.invariant) read _ _ c.in-Some.is c.find.ensures.found, value_piece c.args.self.now.profile c.args.path.now s _ stated read.obeys root _ c.in-Value.is)
 
 pub returns-then-node-eq1 : goal.returns-then-node-eq1
 returns-then-node-eq1 c = λ s read.
     let root = not_root c.args.path.now (λ e. absurd (omega (arith, c.if-len-eq0.false, c.len.ensures.count, e))) in
     let stated = one_found _ _ _ _ s (seen c.self.view_is c.self.invariant) read _ _ _ c.in-Some.is c.find.ensures.found c.node-node.ensures in
-    table_alone c.args.self.now.profile c.args.path.now s _ stated read.obeys root _ c.in-Header.is c.if-node-eq1.true
+    (number_found_at _ _ _ _ s (seen c.self.view_is c.self.invariant) read _ _ c.in-Some.is c.find.ensures.found, table_alone c.args.self.now.profile c.args.path.now s _ stated read.obeys root _ c.in-Header.is c.if-node-eq1.true)
 
 pub returns-else-node-eq1 : goal.returns-else-node-eq1
 returns-else-node-eq1 c = λ s read.
@@ -35,7 +35,7 @@ pub returns-else-node : goal.returns-else-node
 returns-else-node c = λ s read.
     let root = not_root c.args.path.now (λ e. absurd (omega (arith, c.if-len-eq0.false, c.len.ensures.count, e))) in
     let stated = one_found _ _ _ _ s (seen c.self.view_is c.self.invariant) read _ _ _ c.in-Some.is c.find.ensures.found c.node-node.ensures in
-    element_alone c.args.self.now.profile c.args.path.now s _ stated read.obeys root _ c.in-Element.is c.if-node.false
+    (number_found_at _ _ _ _ s (seen c.self.view_is c.self.invariant) read _ _ c.in-Some.is c.find.ensures.found, element_alone c.args.self.now.profile c.args.path.now s _ stated read.obeys root _ c.in-Element.is c.if-node.false)
 
 pub returns-in_default-origin : goal.returns-in_default-origin
 returns-in_default-origin c = λ s read.

@@ -1,4 +1,4 @@
-use Rattle.std.proofs.Common.{[], None}
+use Rattle.std.proofs.Common.{[]}
 use Rattle.std.proofs.lemmas.Result.{err_from_is_err_and}
 use Rattle.keep_meaning.specs.KeyText.{text_at}
 use Rattle.keep_edit_spec.specs.Edits.{remove}
@@ -7,35 +7,42 @@ use Rattle.keep_edit_plan.proofs.EditedLaws.{refused_planned, planned, plan_of_e
 use Rattle.keep_edit_plan.proofs.RemoveCut.{removal_law, removal_done}
 use Rattle.keep_edit_plan.proofs.document.DocumentRef.remove_plan.Goals as goal
 
-pub returns-in_err-piece-clause-planned : goal.returns-in_err-piece-clause-planned
-returns-in_err-piece-clause-planned c = λ s read.
+pub returns-in_err-node-clause-planned : goal.returns-in_err-node-clause-planned
+returns-in_err-node-clause-planned c = λ s read.
     let p = err_from_is_err_and c.from_residual.result c.from_residual.ensures.1 in
-    rw (p.1, p.2) (refused_planned s (remove c.args.path.now) c.args.self.now [] _ (c.in_err-piece.ensures s read))
+    rw (p.1, p.2) (refused_planned s (remove c.args.path.now) c.args.self.now [] _ (c.in_err-node.ensures s read))
 
 pub cut-cut-requires : goal.cut-cut-requires
 cut-cut-requires c =
     let h = seen c.self.view_is c.self.invariant in
-    (c.args.path.now, h.tree, h.read, c.in_ok-piece.ensures h.tree h.read)
+    (c.args.path.now, h.tree, h.read, (c.in_ok-node.ensures h.tree h.read).1)
+
+pub removed_line-change-requires : goal.removed_line-change-requires
+removed_line-change-requires c =
+    let h = seen c.self.view_is c.self.invariant in
+    (h.tree, h.read, (c.args.path.now, c.in_ok-node.ensures h.tree h.read))
 
 pub part_at-requires : goal.part_at-requires
 part_at-requires c =
     let h = seen c.self.view_is c.self.invariant in
-    let at = c.cut-cut.ensures c.args.path.now h.tree h.read (c.in_ok-piece.ensures h.tree h.read) in
+    let at = c.cut-cut.ensures c.args.path.now h.tree h.read (c.in_ok-node.ensures h.tree h.read).1 in
     rw (text_seen c.self.view_is) at.2
 
 pub returns-clause-planned : goal.returns-clause-planned
 returns-clause-planned c = λ s read.
-    let piece = c.in_ok-piece.ensures s read in
-    let at = c.cut-cut.ensures c.args.path.now s read piece in
+    let found = c.in_ok-node.ensures s read in
+    let at = c.cut-cut.ensures c.args.path.now s read found.1 in
     let is = rw (c.part_at.ensures, text_seen c.self.view_is) at c.plan_at.ensures in
     planned c.args.self.now s (remove c.args.path.now) c.cut-cut.result.span (text_at c.args.self.now.text c.cut-cut.result.preserved) read
-    (removal_done c.args.self.now c.args.path.now s c.in_ok-piece.piece c.cut-cut.result piece at) (removal_law c.args.self.now c.args.path.now s read piece.0) None tt (λ one. absurd one) c.plan_at.result is
+    (removal_done c.args.self.now c.args.path.now s _ c.cut-cut.result found.1 at) (removal_law c.args.self.now c.args.path.now s read found.1.0)
+    c.removed_line-change.result (c.removed_line-change.ensures s read c.args.path.now found) (λ one. absurd one) c.plan_at.result is
 
 pub returns-clause-of_edit : goal.returns-clause-of_edit
 returns-clause-of_edit c =
     let h = seen c.self.view_is c.self.invariant in
-    let piece = c.in_ok-piece.ensures h.tree h.read in
-    let at = c.cut-cut.ensures c.args.path.now h.tree h.read piece in
+    let found = c.in_ok-node.ensures h.tree h.read in
+    let at = c.cut-cut.ensures c.args.path.now h.tree h.read found.1 in
     let is = rw (c.part_at.ensures, text_seen c.self.view_is) at c.plan_at.ensures in
     plan_of_edit c.args.self.now h.tree (remove c.args.path.now) c.cut-cut.result.span (text_at c.args.self.now.text c.cut-cut.result.preserved) h.read
-    (removal_done c.args.self.now c.args.path.now h.tree c.in_ok-piece.piece c.cut-cut.result piece at) (removal_law c.args.self.now c.args.path.now h.tree h.read piece.0) None tt c.plan_at.result is
+    (removal_done c.args.self.now c.args.path.now h.tree _ c.cut-cut.result found.1 at) (removal_law c.args.self.now c.args.path.now h.tree h.read found.1.0)
+    c.removed_line-change.result (c.removed_line-change.ensures h.tree h.read c.args.path.now found) c.plan_at.result is

@@ -1,0 +1,25 @@
+use Rattle.std.proofs.Common.{Ok, subst}
+use Rattle.keep_edit_plan.specs.Removing.{IsRemovalOf}
+use Rattle.keep_edit_plan.specs.declared.remove.Piece.{Piece}
+use Rattle.keep_edit_plan.proofs.AnswerLaws.{seen}
+use Rattle.keep_edit_plan.proofs.FoundLaws.{value_nested}
+use Rattle.keep_edit_plan.proofs.KindLaws.{node_within}
+use Rattle.keep_edit_plan.proofs.LineRemovalLaws.{line_removed}
+use Rattle.keep_edit_plan.proofs.document.DocumentRef.removed_line.Goals as goal
+
+pub value-value-requires : goal.value-value-requires
+value-value-requires c =
+    let (s, read, (path, here)) = c.requires in
+    let removal = subst (λ (p : Piece). IsRemovalOf c.args.self.now.profile path s (Ok p)) c.in-Value.is here.1 in
+    value_nested _ _ _ path s _ (seen c.self.view_is c.self.invariant) read removal.1
+
+pub child_count-requires : goal.child_count-requires
+child_count-requires c =
+    let (s, read, (path, here)) = c.requires in
+    node_within _ _ _ path s (seen c.self.view_is c.self.invariant) read c.args.node here.0
+
+pub returns : goal.returns
+returns c = λ s read path here.
+    let removal = subst (λ (p : Piece). IsRemovalOf c.args.self.now.profile path s (Ok p)) c.in-Value.is here.1 in
+    line_removed _ _ _ path s (seen c.self.view_is c.self.invariant) read c.args.node here.0 removal.0 _ removal.1 _ c.value-value.ensures.stored
+    _ c.in-Line.is c.if-value-ne1.false _ c.child_count.ensures c.if-child_count-gt0.false
