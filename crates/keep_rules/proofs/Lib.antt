@@ -43,6 +43,8 @@ mod NestedGrowthLemmas
 mod StatementNestedLaws
 pub mod LinePlaceLemmas
 mod DocumentLemmas
+mod ElementLemmas
+mod HeaderJoinLemmas
 mod RefusalLaws
 mod ValueLaws
 pub mod Shared

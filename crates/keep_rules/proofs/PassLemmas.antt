@@ -39,7 +39,7 @@ use Rattle.keep_rules.proofs.MarkLemmas.{state_represents}
 pub passing-none : (tables : List (List Part)) (path : List Part) → elements_of path tables ≡ 0 → passing_mentions tables path ≡ record { path = path; kind = through } ∷ []
 passing-none tables path none = ap (λ c. cond (0 == c) (record { path = path; kind = through } ∷ []) (record { path = path; kind = past } ∷ record { path = entered_path tables path; kind = passed } ∷ [])) none
 
-entered-none : (tables : List (List Part)) (path : List Part) → elements_of path tables ≡ 0 → entered_path tables path ≡ path
+pub entered-none : (tables : List (List Part)) (path : List Part) → elements_of path tables ≡ 0 → entered_path tables path ≡ path
 entered-none tables path none = ap (λ c. cond (0 == c) path (path ++ index (c - 1) ∷ [])) none
 
 not_zero : (c : ℕ) → 0 < c → (0 == c) ≡ false

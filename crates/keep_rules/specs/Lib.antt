@@ -25,6 +25,7 @@ pub mod StatementsTold
 pub mod StatementsNested
 pub mod LinePlaces
 pub mod ReadDocuments
+pub mod HeaderJoins
 pub mod ValueTexts
 pub use Rattle.keep_meaning.specs.Marks
 pub use Rattle.keep_meaning.specs.Meaning

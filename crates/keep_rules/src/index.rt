@@ -18,6 +18,7 @@ ghost use Rattle.keep_path.specs.Step.{part_of};
 ghost use Rattle.keep_path.specs.PathText.{encoded_path};
 ghost use Rattle.keep_rules.specs.ReadDocuments.{IsBuilt, IsChecked, IsIndexOf, WasRead, WasReadAlone};
 
+mod headers;
 mod lines;
 
 use crate::path_text::{PathRoom, push_path};

@@ -1,0 +1,40 @@
+-- A header after the end of a document, where it goes through the nodes of the document's index: what it joins there.
+use Rattle.std.specs.Prelude.{◌≡◌, ℕ, suc, ◌<◌, ◌≤◌, List, [], ◌∷◌, length}
+use Rattle.keep_syntax.specs.Tree.{Document}
+use Rattle.keep_path.specs.NodeInfos.{NodeInfos}
+use Rattle.keep_path.specs.Path.{Part}
+use Rattle.keep_meaning.specs.Counts.{Count, numbered_mentions}
+use Rattle.keep_meaning.specs.StatementsMore.{reading_at_end}
+use Rattle.keep_index_store.specs.declared.tree.joining.Join.{Join}
+use Rattle.keep_index_store.specs.Joined.{joined_all}
+use Rattle.keep_index_store.specs.Tree.{TrieInfos, node_infos}
+use Rattle.keep_index_store.specs.Trie.{paths_of, path_at}
+use Rattle.keep_rules.specs.Descents.{descent_mentions, descent_path}
+use Rattle.keep_rules.specs.MentionInfos.{with_mentions}
+use Rattle.keep_rules.specs.ReadDocuments.{IsIndexOf}
+
+-- the full paths of the `[[..]]` lines of a document
+abbrev pub tables_at_end : Document → List (List Part)
+tables_at_end d = (reading_at_end d).tables
+
+-- each is of a later node than the one before, from `low` on, and none of a later one than `last`
+abbrev pub AreUpTo : ℕ → ℕ → List Join → Type 0
+AreUpTo low last [] = low ≤ suc last
+AreUpTo low last (j ∷ js) = (low ≤ j.id) × AreUpTo (suc j.id) last js
+
+-- the nodes, where these facts are joined to theirs
+abbrev pub with_joins : TrieInfos → List Join → NodeInfos
+with_joins t joins = record { paths = paths_of t.trie; infos = joined_all t.infos joins }
+
+-- A header of that statement, whose first key part has the number `first`, goes through these keys to the node `to`,
+-- and joins these facts to those of the nodes that it goes through.
+pub record PassesKeys (t : TrieInfos) (joins : List Join) (statement first : ℕ) (keys : List (List ℕ)) (to : ℕ)
+    : Type 0 where
+  pub within : to < length t.trie
+  pub ascending : AreUpTo 0 to joins
+  pub leads : (d : Document) → IsIndexOf d (node_infos t)
+      → path_at t.trie to ≡ descent_path (tables_at_end d) [] keys
+  pub joined : (d : Document) → IsIndexOf d (node_infos t)
+      → (c : Count) → c.keys ≡ first → c.statements ≡ statement
+      → with_joins t joins
+      ≡ with_mentions (node_infos t) (numbered_mentions c (descent_mentions (tables_at_end d) [] keys))
