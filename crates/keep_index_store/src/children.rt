@@ -199,6 +199,7 @@ impl Children {
             (λ id. (0 < length (child_ids self.now))
             × (id ≡ slice_index_or (child_ids self.now) (length (child_ids self.now) - 1) 0)) }
         ensures none { IfNone result (holds_of self.now ≡ by_index → length (child_ids self.now) ≡ 0) }
+        ensures listed { IfSome result (λ id. holds_of self.now ≡ by_index) }
     {
         match &self.form {
             Form::Run { len, first } => run::last_child(*len, *first),

@@ -200,6 +200,7 @@ impl Nodes {
         ensures none { IfNone result
             (holds_of (node_at self.now.items id).children ≡ by_index
             → length (child_ids (node_at self.now.items id).children) ≡ 0) }
+        ensures listed { IfSome result (λ last. holds_of (node_at self.now.items id).children ≡ by_index) }
     {
         self.list[id].children.last_item()
     }

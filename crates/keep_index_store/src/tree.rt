@@ -165,6 +165,7 @@ impl Tree {
         ensures none { IfNone result
             (holds_at self.now.trie id ≡ by_index → length (children_of self.now.trie id) ≡ 0) }
         ensures within { IfSome result (λ last. last < length self.now.trie) }
+        ensures listed { IfSome result (λ last. holds_at self.now.trie id ≡ by_index) }
     {
         self.nodes.last_item(id)
     }

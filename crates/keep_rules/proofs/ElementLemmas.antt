@@ -5,7 +5,7 @@
 -- (`statement_named`). The kind of a node is told by the mentions at its path alone.
 --
 -- Theorems: `tables_some` and `tables_none`, of a node of an index.
-use Rattle.std.proofs.Common.{◌≡◌, ℕ, zero, suc, ◌+◌, ◌<◌, Bool, true, false, cond, ◌||◌, ◌&&◌, List, [], ◌∷◌, ◌++◌, length, get_or, map, refl, sym, ap, subst, ◌∙◌, arith, Option, Some, None}
+use Rattle.std.proofs.Common.{◌≡◌, ℕ, ◌+◌, ◌<◌, Bool, true, false, cond, ◌||◌, ◌&&◌, List, [], ◌∷◌, ◌++◌, length, get_or, map, refl, sym, ap, subst, ◌∙◌, arith, Option, Some, None}
 use Rattle.std.specs.Prelude.{◌==◌, nat_lt, filter, slice_get}
 use Rattle.std.specs.List.{list_any, filter_map, cons_option}
 use Rattle.std.specs.Option.{option_map}
@@ -28,7 +28,7 @@ use Rattle.keep_meaning.specs.Fact.{Fact}
 use Rattle.keep_meaning.specs.Counts.{Numbered, line_statement, numbered_in, statements_in}
 use Rattle.keep_meaning.specs.Marks.{Mention, Reading, Statement, through, past, passed, define, element, begun, dotted, value, item, below, keyval, header, element_header, elements_of, entered_path, fact_of, passing_mentions, header_path, header_prefixes, statement_mentions, next_reading, mentions_from, reading_after, start}
 use Rattle.keep_meaning.specs.Meaning.{body_fact, entries_mentions, entry_mentions, keyed_mentions, keys_of, lines, mentions_in, statement_of, valued_mentions}
-use Rattle.keep_meaning.specs.Nodes.{fact_kind, first_of, infos_in, is_at, is_element, kind_at, kind_or_table, kinds_at, mention_kind_of, mention_of, mentioned_kind, moment_kind, node_at, node_info, node_path, node_paths, nodes_in, numbered_at}
+use Rattle.keep_meaning.specs.Nodes.{fact_kind, first_of, is_at, is_element, kind_at, kind_or_table, kinds_at, mention_kind_of, mention_of, mentioned_kind, moment_kind, node_at, node_info, node_paths, nodes_in, numbered_at}
 use Rattle.keep_meaning.specs.StatementsMore.{reading_at_end}
 use Rattle.keep_meaning.proofs.Shared.{mentions-numbered_in, mentions_in-statements, paths-nodes_in}
 use Rattle.keep_rules.specs.ReadDocuments.{IsIndexOf}

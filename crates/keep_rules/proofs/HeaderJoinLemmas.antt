@@ -2,12 +2,14 @@
 --
 -- Each key leads to a later node (`child_later`), so the joins are of ascending nodes. A join is what one more mention
 -- of its node says (`one_joined`). The kind of a node tells whether a header goes on from the node itself
--- (`through_key`) or from its last element (`past_key`), which is its last child, as the nodes are nested (`last_entered`).
+-- (`through_key`) or from its last element (`past_key`). That is its last child, as the nodes are nested
+-- (`last_entered`).
 --
--- Theorems: `no_keys_passed`, `through_key` and `past_key`: the keys but the last; `table_told`: the whole header `[..]`.
-use Rattle.std.proofs.Common.{◌≡◌, ℕ, suc, ◌+◌, ◌-◌, ◌<◌, ◌≤◌, true, false, List, [], ◌∷◌, ◌++◌, length, get_or, map, set, take, refl, sym, ap, subst, ◌∙◌, arith, length-append, inl, inr, Some, None, Result, Ok, Err}
+-- Theorems: `no_keys_passed`, `through_key` and `past_key`: the keys but the last; `table_told` and `element_told`: a
+-- whole header `[..]` and `[[..]]`.
+use Rattle.std.proofs.Common.{◌≡◌, ℕ, suc, ◌+◌, ◌-◌, ◌<◌, ◌≤◌, true, false, List, [], ◌∷◌, ◌++◌, length, get_or, map, set, take, refl, sym, ap, subst, ◌∙◌, arith, length-append, inl, inr, Option, Some, Result, Ok, Err}
 use Rattle.std.specs.Global.{Global}
-use Rattle.std.specs.Prelude.{Contains, OnErr, OnOk, String, slice_get, string_bytes}
+use Rattle.std.specs.Prelude.{OnErr, OnOk, String, slice_get, string_bytes}
 use Rattle.std.specs.Result.{is_err}
 use Rattle.std.specs.Option.{option_and_then}
 use Rattle.std.proofs.lemmas.Bool.{cases_lt}
@@ -21,31 +23,30 @@ use Rattle.keep_syntax.specs.Tree.{Document}
 use Rattle.keep_path.specs.NodeInfos.{NodeInfos, no_info}
 use Rattle.keep_path.specs.Path.{Part, key, index}
 use Rattle.keep_meaning.specs.Counts.{Count, Numbered, count_after, count_with_mention, numbered_mentions}
-use Rattle.keep_meaning.specs.Marks.{Mention, define, elements_of, entered_path, header, header_path, header_prefixes, passed, passing_mentions, past, through}
+use Rattle.keep_meaning.specs.Marks.{Mention, begun, define, element, element_header, elements_of, entered_path, header, header_prefixes, passed, passing_mentions, past, through}
 use Rattle.keep_meaning.specs.Meaning.{mentions_in}
 use Rattle.keep_meaning.specs.Nodes.{children, node_number, node_paths}
 use Rattle.keep_meaning.specs.StatementsMore.{AreNumbersAtEnd, count_at_end, said_next}
 use Rattle.keep_meaning.proofs.Shared.{numbered_mentions-append, paths-nodes_in}
 use Rattle.keep_index_store.specs.declared.facts.NodeFacts.{NodeFacts}
 use Rattle.keep_index_store.specs.declared.tree.joining.Join.{Join}
-use Rattle.keep_index_store.specs.Facts.{info_of, joined_info, named_info, passed_info}
+use Rattle.keep_index_store.specs.Facts.{info_of, joined_info, named_info, passed_info, unnamed_info}
 use Rattle.keep_index_store.specs.Growth.{Grows}
 use Rattle.keep_index_store.specs.Joined.{AreAscending, joined_all}
 use Rattle.keep_index_store.specs.Tree.{TrieInfos, node_infos}
 use Rattle.keep_index_store.specs.Trie.{Holding, IsTrie, TrieNode, children_of, link, path_at, paths_of}
 use Rattle.keep_index_store.proofs.Shared.{child_at, first, length-paths_of, one_node, path_at-link, path_at-root, push_same}
 use Rattle.keep_rules.specs.Descents.{descent_mentions, descent_path}
-use Rattle.keep_rules.specs.HeaderJoins.{AreUpTo, PassesKeys, tables_at_end, with_joins}
+use Rattle.keep_rules.specs.HeaderJoins.{AreUpTo, IsTablesOf, PassesKeys, tables_at_end, with_joins}
 use Rattle.keep_rules.specs.MentionInfos.{mention_info, with_info, with_mentions}
-use Rattle.keep_rules.specs.Nested.{AreNested}
 use Rattle.keep_rules.specs.ReadDocuments.{IsIndexOf}
 use Rattle.keep_rules.proofs.AddedInfoLemmas.{with_info_fresh, with_info_there}
 use Rattle.keep_rules.proofs.ElementLemmas.{tables_none, tables_some}
 use Rattle.keep_rules.proofs.KeyWalkInfoLemmas.{header_counts}
 use Rattle.keep_rules.proofs.KeyWalkLemmas.{descent_mentions-append, descent_path-append, header_path-split, header_prefixes-split}
 use Rattle.keep_rules.proofs.LookupLemmas.{count_is, nth_is, number_is, number_some}
-use Rattle.keep_rules.proofs.MentionInfoLemmas.{define_info, passed_is_info, past_info, through_info, with_mentions-append}
-use Rattle.keep_rules.proofs.PassLemmas.{entered-none, passing-none, passing-some}
+use Rattle.keep_rules.proofs.MentionInfoLemmas.{begun_info, define_info, element_info, passed_is_info, past_info, through_info, with_mentions-append}
+use Rattle.keep_rules.proofs.PassLemmas.{entered-none, entered-some, passing-none, passing-some}
 
 -- ---- ascending nodes
 
@@ -118,6 +119,34 @@ no_keys_passed t statement number trie = record {
   leads = λ d of. path_at-root t.trie;
   joined = λ d of c keys statements. refl;
 }
+
+-- ---- the last element
+
+-- the last child of a node
+module _ (t : TrieInfos) (trie : IsTrie t.trie) (child : ℕ) (within : child < length t.trie) (last : ℕ) (any : 0 < length (children_of t.trie child)) (is_last : last ≡ get_or (children_of t.trie child) (length (children_of t.trie child) - 1) 0) where
+  child_is : (last < length t.trie) × (child < last)
+  child_is =
+      let d : TrieNode = first t.trie trie in
+      let r = child_at t.trie trie child (length (children_of t.trie child) - 1) d within (omega arith) in
+      let low : last < length t.trie = omega (arith, r.nested, is_last) in
+      let below : path_at t.trie last ≡ path_at t.trie child ++ (link (get_or t.trie (get_or (children_of t.trie child) (length (children_of t.trie child) - 1) 0) d)).1 ∷ [] = ap (path_at t.trie) is_last ∙ r.path d in
+      (low, child_later t.trie trie child last _ within low below)
+
+  pub last_entered : (d : Document) → IsIndexOf d (node_infos t) → 0 < elements_of (path_at t.trie child) (tables_at_end d) → path_at t.trie last ≡ entered_path (tables_at_end d) (path_at t.trie child)
+  last_entered d of some =
+      let e : TrieNode = first t.trie trie in
+      let ids : List ℕ = children_of t.trie child in
+      let p : List Part = path_at t.trie child in
+      let paths : paths_of t.trie ≡ node_paths (mentions_in d) = ap (λ (x : NodeInfos). x.paths) of.facts ∙ paths-nodes_in d in
+      let found : option_and_then (node_number (paths_of t.trie)) (slice_get (children p (paths_of t.trie)) (length (children p (paths_of t.trie)) - 1)) ≡ Some last =
+      ap (λ (k : ℕ). option_and_then (node_number (paths_of t.trie)) (slice_get (children p (paths_of t.trie)) (k - 1))) (count_is t.trie trie child e within)
+      ∙ nth_is t.trie trie child (length ids - 1) e within ∙ slice_get-get_or ids (length ids - 1) 0 (omega arith) ∙ ap Some (sym is_last) in
+      let own : node_number (node_paths (mentions_in d)) p ≡ Some child = ap (λ (ps : List (List Part)). node_number ps p) (sym paths) ∙ number_some t.trie trie child within in
+      let enters = of.nested.entered p child own some in
+      let number_entered : node_number (paths_of t.trie) (entered_path (tables_at_end d) p) ≡ Some last =
+      ap (λ (ps : List (List Part)). node_number ps (entered_path (tables_at_end d) p)) paths ∙ sym enters
+      ∙ ap (λ (ps : List (List Part)). option_and_then (node_number ps) (slice_get (children p ps) (length (children p ps) - 1))) (sym paths) ∙ found in
+      (number_is (paths_of t.trie) (entered_path (tables_at_end d) p) last number_entered).1
 
 -- ---- one key more
 
@@ -196,44 +225,20 @@ module _ (t : TrieInfos) (trie : IsTrie t.trie) (joins : List Join) (statement n
 
   -- and from the last element of an array of tables
   module _ (last : ℕ) (any : 0 < length (children_of t.trie child)) (is_last : last ≡ get_or (children_of t.trie child) (length (children_of t.trie child) - 1) 0) where
-    child_is : (last < length t.trie) × (child < last)
-    child_is =
-        let d : TrieNode = first t.trie trie in
-        let r = child_at t.trie trie child (length (children_of t.trie child) - 1) d within (omega arith) in
-        let low : last < length t.trie = omega (arith, r.nested, is_last) in
-        let below : path_at t.trie last ≡ path_at t.trie child ++ (link (get_or t.trie (get_or (children_of t.trie child) (length (children_of t.trie child) - 1) 0) d)).1 ∷ [] = ap (path_at t.trie) is_last ∙ r.path d in
-        (low, child_later t.trie trie child last _ within low below)
-
-    last_entered : (d : Document) → IsIndexOf d (node_infos t) → 0 < elements_of (path_at t.trie child) (tables_at_end d) → path_at t.trie last ≡ entered_path (tables_at_end d) (path_at t.trie child)
-    last_entered d of some =
-        let e : TrieNode = first t.trie trie in
-        let ids : List ℕ = children_of t.trie child in
-        let p : List Part = path_at t.trie child in
-        let paths : paths_of t.trie ≡ node_paths (mentions_in d) = ap (λ (x : NodeInfos). x.paths) of.facts ∙ paths-nodes_in d in
-        let found : option_and_then (node_number (paths_of t.trie)) (slice_get (children p (paths_of t.trie)) (length (children p (paths_of t.trie)) - 1)) ≡ Some last =
-        ap (λ (k : ℕ). option_and_then (node_number (paths_of t.trie)) (slice_get (children p (paths_of t.trie)) (k - 1))) (count_is t.trie trie child e within)
-        ∙ nth_is t.trie trie child (length ids - 1) e within ∙ slice_get-get_or ids (length ids - 1) 0 (omega arith) ∙ ap Some (sym is_last) in
-        let own : node_number (node_paths (mentions_in d)) p ≡ Some child = ap (λ (ps : List (List Part)). node_number ps p) (sym paths) ∙ number_some t.trie trie child within in
-        let enters = of.nested.entered p child own some in
-        let number_entered : node_number (paths_of t.trie) (entered_path (tables_at_end d) p) ≡ Some last =
-        ap (λ (ps : List (List Part)). node_number ps (entered_path (tables_at_end d) p)) paths ∙ sym enters
-        ∙ ap (λ (ps : List (List Part)). option_and_then (node_number ps) (slice_get (children p ps) (length (children p ps) - 1))) (sym paths) ∙ found in
-        (number_is (paths_of t.trie) (entered_path (tables_at_end d) p) last number_entered).1
-
     pub past_key : (facts more : NodeFacts) → info_of facts ≡ named_info kind.Table part origin.Root → info_of more ≡ passed_info
         → ((d : Document) → IsIndexOf d (node_infos t) → 0 < elements_of (path_at t.trie child) (tables_at_end d))
         → PassesKeys t ((joins ++ record { id = child; facts = facts } ∷ []) ++ record { id = last; facts = more } ∷ []) statement number (keys ++ text ∷ []) last
     past_key facts more info info' some = record {
-      within = child_is.0;
-      ascending = up_to_more 0 child last (joins ++ record { id = child; facts = facts } ∷ []) more (up_to_more 0 at child joins facts before.ascending later) child_is.1;
+      within = (child_is t trie child within last any is_last).0;
+      ascending = up_to_more 0 child last (joins ++ record { id = child; facts = facts } ∷ []) more (up_to_more 0 at child joins facts before.ascending later) (child_is t trie child within last any is_last).1;
       leads = λ d of. there d of ∙ path_more d;
       joined = λ d of c k s.
           after_others d of c k s (with_joins t ((joins ++ record { id = child; facts = facts } ∷ []) ++ record { id = last; facts = more } ∷ []))
-          (past_said d of c k s last facts more child_is.0 (there d of) info info' (subst (λ (p : List Part). 0 < elements_of p (tables_at_end d)) (full d of) (some d of)));
+          (past_said d of c k s last facts more (child_is t trie child within last any is_last).0 (there d of) info info' (subst (λ (p : List Part). 0 < elements_of p (tables_at_end d)) (full d of) (some d of)));
     }
       where
         there : (d : Document) → (of : IsIndexOf d (node_infos t)) → path_at t.trie last ≡ entered_path (tables_at_end d) (descent_path (tables_at_end d) [] keys ++ key text ∷ [])
-        there d of = last_entered d of (some d of) ∙ ap (entered_path (tables_at_end d)) (full d of)
+        there d of = last_entered t trie child within last any is_last d of (some d of) ∙ ap (entered_path (tables_at_end d)) (full d of)
 
 -- ---- the keys of the code
 
@@ -261,7 +266,7 @@ on_err (Ok x) P e h = absurd cc
 on_err (Err x) P e h = h
 
 -- the new node is not there yet, and these facts are those of one more mention
-pub key_added : (old new : TrieInfos) (joins : List Join) (at : ℕ) (p : List Part) (state : Role) (holds : Holding) (facts : NodeFacts) → Grows old.trie new.trie at p (Some state) holds
+pub key_added : (old new : TrieInfos) (joins : List Join) (at : ℕ) (p : List Part) (state : Option Role) (holds : Holding) (facts : NodeFacts) → Grows old.trie new.trie at p state holds
     → new.infos ≡ joined_all old.infos joins ++ info_of facts ∷ [] → node_infos new ≡ with_info (with_joins old joins) p (info_of facts)
 key_added old new joins at p state holds facts g infos =
     ap (λ (ps : List (List Part)). let x : NodeInfos = record { paths = ps; infos = new.infos } in x) g.paths
@@ -290,3 +295,56 @@ module _ (t : TrieInfos) (joins : List Join) (statement number : ℕ) (keys : Li
       ∙ mentions_then (node_infos t) c ms (m ∷ [])
       ∙ ap (λ (w : List Mention). with_mentions (node_infos t) (numbered_mentions c (w ++ m ∷ []))) (sym (header_prefixes-split ts [] keys text))
       ∙ ap (λ (p : List Part). with_mentions (node_infos t) (numbered_mentions c (header_prefixes ts [] (keys ++ text ∷ []) ++ record { path = p; kind = define } ∷ []))) (sym (header_path-split ts [] keys text))
+
+  -- the whole header `[[..]]`, where its array of tables is there
+  pub element_told : IsTrie t.trie → (array : ℕ) → IsTablesOf t (path_at t.trie at ++ key text ∷ []) array → (facts : NodeFacts) → info_of facts ≡ named_info kind.Tables part origin.Tables → (new : NodeInfos)
+      → new ≡ with_info (with_joins t (joins ++ record { id = array; facts = facts } ∷ [])) (path_at t.trie array ++ index (length (children_of t.trie array)) ∷ []) (unnamed_info kind.Table (origin.Element statement))
+      → new ≡ with_mentions (node_infos t) (said_next d (element_header (keys ++ text ∷ [])))
+  element_told trie array tables facts info new added =
+      let ts : List (List Part) = tables_at_end d in
+      let c : Count = count_at_end d in
+      let ms : List Mention = descent_mentions ts [] keys in
+      let count : Count = count_after c ms in
+      let path : List Part = descent_path ts [] keys ++ key text ∷ [] in
+      let own : List Part = path ++ index (elements_of path ts) ∷ [] in
+      let begins : NodeInfo = unnamed_info kind.Table (origin.Element statement) in
+      let m : Mention = record { path = path; kind = element } in
+      let m' : Mention = record { path = own; kind = begun } in
+      let n : Numbered = record { mention = m; before = count } in
+      let n' : Numbered = record { mention = m'; before = count_with_mention count m } in
+      let key_counted : count.keys ≡ part = (header_counts ts [] keys c).keys ∙ ap (λ (k : ℕ). k + length keys) numbers.keys ∙ sym numbered in
+      let counted : count.statements ≡ statement = (header_counts ts [] keys c).statements ∙ numbers.statements in
+      let full : path_at t.trie array ≡ path = tables.here ∙ ap (λ (p : List Part). p ++ key text ∷ []) (passes.leads d of) in
+      added
+      ∙ ap (λ (k : ℕ). with_info (with_joins t (joins ++ record { id = array; facts = facts } ∷ [])) (path_at t.trie array ++ index k ∷ []) begins) (sym (tables.counted d of))
+      ∙ ap (λ (s : NodeInfos). with_info s (path_at t.trie array ++ index (elements_of (path_at t.trie array) ts) ∷ []) begins) (one_joined t trie joins array facts tables.within)
+      ∙ ap (λ (p : List Part). with_info (with_info (with_joins t joins) p (info_of facts)) (p ++ index (elements_of p ts) ∷ []) begins) full
+      ∙ ap (λ (i : NodeInfo). with_info (with_info (with_joins t joins) path i) own begins) (info ∙ sym (element_info n part refl key_counted))
+      ∙ ap (λ (s : ℕ). with_info (with_info (with_joins t joins) path (mention_info n)) own (unnamed_info kind.Table (origin.Element s))) (sym counted)
+      ∙ ap (λ (i : NodeInfo). with_info (with_info (with_joins t joins) path (mention_info n)) own i) (sym (begun_info n' refl))
+      ∙ ap (λ (s : NodeInfos). with_mentions s (numbered_mentions count (m ∷ m' ∷ []))) (passes.joined d of c numbers.keys numbers.statements)
+      ∙ mentions_then (node_infos t) c ms (m ∷ m' ∷ [])
+      ∙ ap (λ (w : List Mention). with_mentions (node_infos t) (numbered_mentions c (w ++ m ∷ m' ∷ []))) (sym (header_prefixes-split ts [] keys text))
+      ∙ ap (λ (p : List Part). with_mentions (node_infos t) (numbered_mentions c (header_prefixes ts [] (keys ++ text ∷ []) ++ record { path = p; kind = element } ∷ record { path = p ++ index (elements_of p ts) ∷ []; kind = begun } ∷ [])))
+      (sym (header_path-split ts [] keys text))
+
+-- ---- an array of tables
+
+-- its elements are as many as the `[[..]]` lines with its path, if its last child has the last number
+pub tables_are : (t : TrieInfos) → IsTrie t.trie → (array : ℕ) → array < length t.trie → (info : NodeInfo) → slice_get t.infos array ≡ Some info → info.kind ≡ kind.Tables
+    → (last : ℕ) → 0 < length (children_of t.trie array) → last ≡ get_or (children_of t.trie array) (length (children_of t.trie array) - 1) 0
+    → path_at t.trie last ≡ path_at t.trie array ++ index (length (children_of t.trie array) - 1) ∷ []
+    → (d : Document) → IsIndexOf d (node_infos t) → elements_of (path_at t.trie array) (tables_at_end d) ≡ length (children_of t.trie array)
+tables_are t trie array within info there is last any is_last here d of =
+    let p : List Part = path_at t.trie array in
+    let some : 0 < elements_of p (tables_at_end d) = tables_node t trie array within info there is d of in
+    let entered : path_at t.trie last ≡ p ++ index (elements_of p (tables_at_end d) - 1) ∷ [] = last_entered t trie array within last any is_last d of some ∙ entered-some (tables_at_end d) p some in
+    let same : index (elements_of p (tables_at_end d) - 1) ≡ index (length (children_of t.trie array) - 1) = (push_same p p (index (elements_of p (tables_at_end d) - 1)) (index (length (children_of t.trie array) - 1)) (sym entered ∙ here)).1 in
+    let numbers : elements_of p (tables_at_end d) - 1 ≡ length (children_of t.trie array) - 1 = cc in
+    omega (arith, some, any, numbers)
+
+-- it is a later node than those before it
+pub tables_ascend : (t : TrieInfos) → IsTrie t.trie → (joins : List Join) (statement number : ℕ) (keys : List (List ℕ)) (at : ℕ) → PassesKeys t joins statement number keys at
+    → (text : List ℕ) (array : ℕ) → IsTablesOf t (path_at t.trie at ++ key text ∷ []) array → (facts : NodeFacts) → AreUpTo 0 array (joins ++ record { id = array; facts = facts } ∷ [])
+tables_ascend t trie joins statement number keys at passes text array tables facts =
+    up_to_more 0 at array joins facts passes.ascending (child_later t.trie trie at array (key text) passes.within tables.within tables.here)

@@ -4,11 +4,12 @@ use Rattle.keep_syntax.specs.Tree.{Document}
 use Rattle.keep_path.specs.NodeInfos.{NodeInfos}
 use Rattle.keep_path.specs.Path.{Part}
 use Rattle.keep_meaning.specs.Counts.{Count, numbered_mentions}
+use Rattle.keep_meaning.specs.Marks.{elements_of}
 use Rattle.keep_meaning.specs.StatementsMore.{reading_at_end}
 use Rattle.keep_index_store.specs.declared.tree.joining.Join.{Join}
 use Rattle.keep_index_store.specs.Joined.{joined_all}
 use Rattle.keep_index_store.specs.Tree.{TrieInfos, node_infos}
-use Rattle.keep_index_store.specs.Trie.{paths_of, path_at}
+use Rattle.keep_index_store.specs.Trie.{by_index, children_of, holds_at, path_at, paths_of}
 use Rattle.keep_rules.specs.Descents.{descent_mentions, descent_path}
 use Rattle.keep_rules.specs.MentionInfos.{with_mentions}
 use Rattle.keep_rules.specs.ReadDocuments.{IsIndexOf}
@@ -38,3 +39,11 @@ pub record PassesKeys (t : TrieInfos) (joins : List Join) (statement first : ℕ
       → (c : Count) → c.keys ≡ first → c.statements ≡ statement
       → with_joins t joins
       ≡ with_mentions (node_infos t) (numbered_mentions c (descent_mentions (tables_at_end d) [] keys))
+
+-- the array of tables at a path: it has as many elements as the document has `[[..]]` lines with the path
+pub record IsTablesOf (t : TrieInfos) (path : List Part) (array : ℕ) : Type 0 where
+  pub within : array < length t.trie
+  pub here : path_at t.trie array ≡ path
+  pub listed : holds_at t.trie array ≡ by_index
+  pub counted : (d : Document) → IsIndexOf d (node_infos t)
+      → elements_of (path_at t.trie array) (tables_at_end d) ≡ length (children_of t.trie array)

@@ -17,3 +17,8 @@ pub returns-clause-none : goal.returns-clause-none
 returns-clause-none c =
     subst (λ (x : ChildList). IfNone c.last_item.result (holds_of x ≡ by_index → length (child_ids x) ≡ 0))
     (children_read _ _ _ c.self.view_is c.self.invariant c.args.id c.requires c.index.result.now c.index.ensures) c.last_item.ensures.none
+
+pub returns-clause-listed : goal.returns-clause-listed
+returns-clause-listed c =
+    subst (λ (x : ChildList). IfSome c.last_item.result (λ last. holds_of x ≡ by_index))
+    (children_read _ _ _ c.self.view_is c.self.invariant c.args.id c.requires c.index.result.now c.index.ensures) c.last_item.ensures.listed

@@ -1,8 +1,8 @@
-use Rattle.std.proofs.Common.{◌≡◌, ◌<◌, ◌-◌, slice_index_or, ◌∙◌, ap, length, sym, None, Some}
+use Rattle.std.proofs.Common.{◌≡◌, ◌<◌, ◌-◌, slice_index_or, ◌∙◌, ap, length, subst, sym, None, Some}
 use Rattle.std.specs.Prelude.{IfNone, IfSome}
 use Rattle.keep_index_store.specs.AllNodes.{node_at}
 use Rattle.keep_index_store.specs.Children.{holds_of, child_ids}
-use Rattle.keep_index_store.specs.Trie.{by_index, children_of, holds_at}
+use Rattle.keep_index_store.specs.Trie.{Holding, by_index, children_of, holds_at}
 use Rattle.keep_index_store.proofs.TreeLemmas.{holds_seen, kids_seen, last_low}
 use Rattle.keep_index_store.proofs.tree.Tree.last_item.Goals as goal
 
@@ -22,3 +22,8 @@ returns-clause-within c =
       | None ↦ λ none. tt
       | Some last ↦ λ was. last_low c.self.inside.nodes.items c.args.self.now c.self.view_is c.self.invariant c.args.id c.requires last was
     ]) c.last_item.ensures.some
+
+pub returns-clause-listed : goal.returns-clause-listed
+returns-clause-listed c =
+    subst (λ (h : Holding). IfSome c.last_item.result (λ last. h ≡ by_index))
+    (holds_seen c.self.inside.nodes.items c.args.self.now c.self.view_is c.self.invariant c.args.id c.requires) c.last_item.ensures.listed

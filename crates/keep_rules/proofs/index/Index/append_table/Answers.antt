@@ -1,4 +1,4 @@
--- What is joined on the way and at the end is what the header says.
+-- What is joined to the nodes that the header goes through, and what its new node has, is what the header says.
 use Rattle.std.proofs.Common.{◌≡◌, ◌+◌, ◌∷◌, ◌++◌, [], List, ℕ, length, map, ◌∙◌, ap, arith, subst, sym}
 use Rattle.std.proofs.lemmas.List.{length-map}
 use Rattle.std.proofs.lemmas.Result.{on_ok_weaker}

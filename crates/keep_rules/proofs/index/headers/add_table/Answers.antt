@@ -1,5 +1,5 @@
 -- The new node's facts are those of the last mention.
-use Rattle.std.proofs.Common.{◌∙◌, ◌∷◌, ◌++◌, [], ap, subst, sym}
+use Rattle.std.proofs.Common.{◌∙◌, Some, ap, subst, sym}
 use Rattle.keep_index_store.specs.Trie.{IsTrie, by_key, holds_at}
 use Rattle.keep_types.specs.declared.role.Role.TheVariants.{Define}
 use Rattle.keep_types.specs.declared.node.NodeInfo.{NodeInfo}
@@ -19,8 +19,7 @@ returns-then-is_err c =
     let same = on_err c.join_and_add_key.result _ (sym c.is_err.ensures.value ∙ c.if-is_err.true) c.join_and_add_key.ensures.refused in
     record {
       added = tt;
-      trie = subst (λ (t : TrieInfos). IsTrie t.trie) (sym same) c.requires.node.trie;
-      root = ap (λ (t : TrieInfos). holds_at t.trie 0) same;
+      tree = (subst (λ (t : TrieInfos). IsTrie t.trie) (sym same) c.requires.node.trie, ap (λ (t : TrieInfos). holds_at t.trie 0) same);
       refused = same;
     }
 
@@ -32,9 +31,8 @@ returns c =
     let grows = on_ok c.join_and_add_key.result _ (sym c.is_err.ensures.value ∙ c.if-is_err.false) c.join_and_add_key.ensures.grows in
     let infos = on_ok c.join_and_add_key.result _ (sym c.is_err.ensures.value ∙ c.if-is_err.false) c.join_and_add_key.ensures.infos in
     record {
-      added = key_added old new c.args.joins.now c.args.at path Define by_key c.named-table.result grows infos
+      added = key_added old new c.args.joins.now c.args.at path (Some Define) by_key c.named-table.result grows infos
           ∙ ap (λ (i : NodeInfo). with_info (with_joins old c.args.joins.now) path i) c.named-table.ensures.info;
-      trie = grows.trie';
-      root = holds_below grows 0 c.requires.node.trie.root;
+      tree = (grows.trie', holds_below grows 0 c.requires.node.trie.root);
       refused = tt;
     }

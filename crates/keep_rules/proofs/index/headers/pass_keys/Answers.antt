@@ -1,5 +1,5 @@
 -- One key after another.
-use Rattle.std.proofs.Common.{List, ℕ, [], map, take, length, ◌+◌, ◌∷◌, ◌++◌, ◌≡◌, ◌≤◌, ap, arith, subst, sym}
+use Rattle.std.proofs.Common.{List, ℕ, [], map, take, length, ◌≡◌, ap, arith, subst, sym}
 use Rattle.std.specs.Prelude.{string_bytes}
 use Rattle.std.proofs.lemmas.List.{take_all}
 use Rattle.keep_index_store.specs.declared.tree.joining.Join.{Join}
