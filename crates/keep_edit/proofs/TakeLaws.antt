@@ -23,7 +23,7 @@ use Rattle.keep_meaning.specs.Meaning.{mentions_in}
 use Rattle.keep_path.specs.NodeInfos.{NodeInfos}
 use Rattle.keep_edit_plan.specs.Answers.{IsMadeAt, text_after}
 use Rattle.keep_edit_plan.specs.declared.text_edit.TextEdit.{TextEdit}
-use Rattle.keep_edit_plan.specs.IndexChanges.{CanChange, changed_index}
+use Rattle.keep_edit_plan.specs.IndexChanges.{CanChange, IsChanged}
 use Rattle.keep_edit_plan.specs.declared.plan.IndexChange.{IndexChange}
 use Rattle.keep_edit_plan.proofs.Shared.{one_tree, stated_is, text_seen, profile_seen}
 use Rattle.keep_rules.specs.Nested.{AreNested}
@@ -153,16 +153,16 @@ module _ (old : ProfiledText) (made : TextEdit) (syntax : Syntax) (index : NodeI
   holds_after s fresh is told = record { tree = o.changed.to; read = o.new; is = (read_after s is).is; of_text = is.of_text; stated = told.facts; nested = told.nested }
 
   -- the index where it is all that changes in it
-  told_by : (k : IndexChange) → IsIndexChanged old made k → IsIndexOf o.changed.to (changed_index index k)
-  told_by k c =
+  told_by : (k : IndexChange) → IsIndexChanged old made k → (u : NodeInfos) → IsChanged index k u → IsIndexOf o.changed.to u
+  told_by k c u by =
       let same : c.to ≡ o.changed.to = one_tree (after old made) c.to o.changed.to c.new o.new in
       record {
         obeys = o.new.obeys;
         nested = subst (λ (d : Document). AreNested (mentions_in d) (reading_after start (statements_in d)).tables) same c.is.nested;
-        facts = ap (λ (t : NodeInfos). changed_index t k) (stated_is old syntax index c.from h c.read) ∙ sym c.is.told ∙ ap telling_in same;
+        facts = c.is.told u (subst (λ (t : NodeInfos). IsChanged t k u) (stated_is old syntax index c.from h c.read) by) ∙ ap telling_in same;
       }
 
-  pub change_told : (change : Option IndexChange) → IfSome change (IsIndexChanged old made) → IfSome change (λ k. IsIndexOf o.changed.to (changed_index index k))
+  pub change_told : (change : Option IndexChange) → IfSome change (IsIndexChanged old made) → IfSome change (λ k. (u : NodeInfos) → IsChanged index k u → IsIndexOf o.changed.to u)
   change_told None c = tt
   change_told (Some k) c = told_by k c
 

@@ -1,6 +1,6 @@
 //! What an edit changes of the index, where it need not be built anew.
 ghost use Rattle.std.specs.Prelude.{◌≡◌, false, true};
-ghost use Rattle.keep_edit_plan.specs.IndexChanges.{CanChange, changed_index};
+ghost use Rattle.keep_edit_plan.specs.IndexChanges.{CanChange, IsChanged};
 
 use keep_edit_plan::IndexChange;
 use keep_rules::Index;
@@ -9,7 +9,7 @@ use keep_rules::Index;
 /// of a line can't come between the others, or go from there.
 pub(crate) fn change_index(index: &mut Index, change: IndexChange<'_>) -> bool
     requires { CanChange index.old change }
-    ensures changed { result ≡ true → index.new ≡ changed_index index.old change.entry }
+    ensures changed { result ≡ true → IsChanged index.old change.entry index.new }
     ensures refused { result ≡ false → index.new ≡ index.old }
 {
     match change {

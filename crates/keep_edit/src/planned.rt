@@ -7,9 +7,10 @@ ghost use Rattle.keep_edit_spec.specs.declared.fault.EditFault.TheVariants as la
 ghost use Rattle.keep_meaning.specs.Marks.{marks};
 ghost use Rattle.keep_meaning.specs.Meaning.{mentions_in};
 ghost use Rattle.keep_meaning.specs.Rules.{ObeysRules};
+ghost use Rattle.keep_path.specs.NodeInfos.{NodeInfos};
 ghost use Rattle.keep_rules.specs.ReadDocuments.{IsIndexOf, WasRead};
 ghost use Rattle.keep_edit_plan.specs.Answers.{text_after};
-ghost use Rattle.keep_edit_plan.specs.IndexChanges.{CanChange, changed_index};
+ghost use Rattle.keep_edit_plan.specs.IndexChanges.{CanChange, IsChanged};
 ghost use Rattle.keep_edit_plan.specs.Plans.{EditPlanned, IsIndexChanged, IsPlanOf};
 ghost use Rattle.keep_edit.specs.Reading.{IsAccepted, IsTextOfTree, ProfiledText, text_in};
 ghost use Rattle.keep_edit.specs.Answers.{EditDone, EditReported};
@@ -183,7 +184,7 @@ fn renew(
     requires read { (d : tree.Document) × WasRead text.now syntax.now d × ObeysRules (marks (mentions_in d)) }
     requires can { IfSome change (CanChange index.old) }
     ensures new { (d : tree.Document) → WasRead text.now syntax.now d
-        → IfSome change.entry (λ c. IsIndexOf d (changed_index index.old c))
+        → IfSome change.entry (λ c. (u : NodeInfos) → IsChanged index.old c u → IsIndexOf d u)
         → OnOk result (IsIndexOf d index.new) }
     ensures old { OnErr result (index.new ≡ index.old) }
     ensures memory { IfErr result (λ f. f ≡ law.Memory) }

@@ -153,7 +153,7 @@ key_changed d syntax index path s holds read id its_number text utf8 allowed =
     let free : node_number (telling_in s).paths b ≡ None = ap (λ (ps : List (List Part)). node_number ps b) (paths-nodes_in s) ∙ no_number b (mentions_in s) h.fresh in
     record {
       can = (within, subst path_of.EndsInKey (sym at) (last_key path h.ends), ap (λ (p : List Part). node_number (telling_in s).paths (beside p text.now)) at ∙ free);
-      told = told_moved (IsClear b) f h.steps s new h.moved.numbered h.moved.mentioned h.clear ∙ ap (λ (p : List Part). with_path (telling_in s) p (beside p text.now)) (sym at);
+      told = λ u is. is ∙ sym (told_moved (IsClear b) f h.steps s new h.moved.numbered h.moved.mentioned h.clear ∙ ap (λ (p : List Part). with_path (telling_in s) p (beside p text.now)) (sym at));
       nested = subst (λ (ms : List Mention). AreNested ms (reading_after start (statements_in new)).tables) (sym h.moved.mentioned)
           (subst (λ (ts : List (List Part)). AreNested (map (moved f) (mentions_in s)) ts) (sym h.moved.tables)
           (nested_moved (IsClear b) f h.steps (mentions_in s) (reading_after start (statements_in s)).tables h.clear h.tables_clear nested));

@@ -154,6 +154,6 @@ module _ (d : ProfiledText) (syntax : Syntax) (index : NodeInfos) (path : List P
       subst (λ (u : Document). AreNested (mentions_in u) (reading_after start (statements_in u)).tables) (tree_is d syntax index s holds read) holds.nested in
       record {
         can = omega (arith, (number_is (node_paths (mentions_in s)) path id.0 its_number).0, ap length (paths-nodes_in s));
-        told = told_again path k s (edited_document s (set_edit path v)) h id.0 its_number;
+        told = λ u is. is ∙ sym (told_again path k s (edited_document s (set_edit path v)) h id.0 its_number);
         nested = nested_again (mentions_in s) (mentions_in (edited_document s (set_edit path v))) _ _ (same_paths path k s (edited_document s (set_edit path v)) h id.0 its_number) h.roles h.tables nested;
       }

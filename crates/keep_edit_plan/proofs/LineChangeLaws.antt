@@ -114,10 +114,10 @@ module _ (d : ProfiledText) (syntax : Syntax) (index : NodeInfos) (path : List P
             ap (node_number old_index.paths) path_is ∙ ap (λ (ps : List (List Part)). node_number ps path) (paths-nodes_in s) ∙ no_number path (mentions_in s) added.fresh,
             subst (IsPlaceOf (numbers_of numbers) (infos_in s)) at place,
           );
-          told = line_adds_node s new line fresh
+          told = λ u is. is ∙ sym (line_adds_node s new line fresh
               ∙ ap (λ (n : ℕ). with_node old_index n (numbers_after line.before) (path_after line.before line.text) (fact_kind line.fact)) at
               ∙ ap (λ (n : node_infos.LineNumbers). with_node old_index (met_before (numbers_of numbers) (infos_in s)) n (path_after line.before line.text) (fact_kind line.fact)) numbers_are
               ∙ ap (λ (p : List Part). with_node old_index (met_before (numbers_of numbers) (infos_in s)) (numbers_of numbers) p (fact_kind line.fact)) (added.place ∙ sym path_is)
-              ∙ ap (with_node old_index (met_before (numbers_of numbers) (infos_in s)) (numbers_of numbers) (path_numbered old_index parent.0 ++ key text.now ∷ [])) (ap fact_kind added.gives ∙ sym kind_is);
+              ∙ ap (with_node old_index (met_before (numbers_of numbers) (infos_in s)) (numbers_of numbers) (path_numbered old_index parent.0 ++ key text.now ∷ [])) (ap fact_kind added.gives ∙ sym kind_is));
           nested = line_is_nested s new line fresh read.obeys nested;
         }

@@ -98,9 +98,9 @@ module _ (d : ProfiledText) (syntax : Syntax) (index : NodeInfos) (path : List P
   pub line_removed : IsIndexChange s new (change.RemovedLine id numbers)
   line_removed = record {
     can = omega (arith, (number_is (node_paths (mentions_in s)) path id.0 its_number).0, ap length (paths-nodes_in s));
-    told = line_takes_node new s its_line fresh
+    told = λ u is. is ∙ sym (line_takes_node new s its_line fresh
         ∙ ap (λ (n : ℕ). without_node (telling_in s) n (numbers_after its_line.before)) at
-        ∙ ap (without_node (telling_in s) id.0) numbers_are;
+        ∙ ap (without_node (telling_in s) id.0) numbers_are);
     nested = line_leaves_nested new s its_line fresh (removal_law d path s read allowed).obeys
         (ap (λ (p : List Part). children p (node_paths (mentions_in s))) its_path ∙ alone)
         (subst (λ (u : Document). AreNested (mentions_in u) (reading_after start (statements_in u)).tables) (tree_is d syntax index s holds read) holds.nested);

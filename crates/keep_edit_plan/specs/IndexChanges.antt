@@ -27,17 +27,19 @@ CanChange t (AddedLine parent text line kind) =
     × IsPlaceOf (numbers_of line) t.infos (met_before (numbers_of line) t.infos)
 CanChange t (RemovedLine node line) = node.0 < length t.paths
 
-abbrev pub changed_index : NodeInfos → IndexChange → NodeInfos
-changed_index t (Kind node kind) = with_kind t node.0 kind
-changed_index t (Key node text) = with_path t (path_numbered t node.0) (beside (path_numbered t node.0) text.now)
-changed_index t (AddedLine parent text line kind) =
-    with_node t (met_before (numbers_of line) t.infos) (numbers_of line) (path_numbered t parent.0 ++ key text.now ∷ [])
-    kind
-changed_index t (RemovedLine node line) = without_node t node.0 (numbers_of line)
+-- the nodes of the second are those of the first, with this change
+abbrev pub IsChanged : NodeInfos → IndexChange → NodeInfos → Type 0
+IsChanged t (Kind node kind) u = u ≡ with_kind t node.0 kind
+IsChanged t (Key node text) u =
+    u ≡ with_path t (path_numbered t node.0) (beside (path_numbered t node.0) text.now)
+IsChanged t (AddedLine parent text line kind) u =
+    u ≡ with_node t (met_before (numbers_of line) t.infos) (numbers_of line)
+    (path_numbered t parent.0 ++ key text.now ∷ []) kind
+IsChanged t (RemovedLine node line) u = u ≡ without_node t node.0 (numbers_of line)
 
 -- What is known of the nodes of the new document is what is known of those of the old one, with this change. They are
 -- nested as its headers say.
 pub record IsIndexChange (old new : Document) (change : IndexChange) : Type 0 where
   pub can : CanChange (telling_in old) change
-  pub told : telling_in new ≡ changed_index (telling_in old) change
+  pub told : (u : NodeInfos) → IsChanged (telling_in old) change u → u ≡ telling_in new
   pub nested : AreNested (mentions_in new) (reading_after start (statements_in new)).tables
