@@ -27,7 +27,6 @@ use Rattle.keep_edit_plan.specs.declared.header.Header.{Header}
 use Rattle.keep_edit_plan.specs.declared.header.Header.TheVariants.{Table, Element}
 use Rattle.keep_edit_plan.specs.Answers.{IsMadeAt}
 use Rattle.keep_edit_plan.specs.Places.{place_at, IsDoneAt}
-use Rattle.keep_edit_plan.specs.Plans.{ChangesKindOrKey}
 use Rattle.keep_edit_plan.specs.Reading.{limit, ProfiledText, IsTextOfTree}
 use Rattle.keep_edit_plan.proofs.AppendLaws.{further_key}
 use Rattle.keep_edit_plan.proofs.EditedLaws.{editable}
@@ -98,7 +97,7 @@ done_there d s header (k ∷ ks) some read free = (
   record { ordered = omega arith; within = omega arith; starts = IsCharBoundary-end d.text; ends = IsCharBoundary-end d.text },
 )
 
-keys_utf8 : (keys : List (String Global)) → AllByRecursion IsUtf8 (key_texts keys)
+pub keys_utf8 : (keys : List (String Global)) → AllByRecursion IsUtf8 (key_texts keys)
 keys_utf8 [] = tt
 keys_utf8 (k ∷ ks) = (IsUtf8-string_bytes k, keys_utf8 ks)
 
@@ -124,8 +123,3 @@ pub given_as : (d : ProfiledText) (s : Document) (header : Header) (keys : List 
     → header_at_end t newline (header_text header (key_texts keys)) ≡ given_text d s header keys
 given_as d s header keys t newline e f =
     ap (λ (x : List ℕ). header_at_end x newline (header_text header (key_texts keys))) e ∙ ap (λ (x : List ℕ). header_at_end d.text x (header_text header (key_texts keys))) f
-
--- it changes more of the index than a kind or a key
-pub rebuilds : (s : Document) (header : Header) (keys : List (List ℕ)) → ChangesKindOrKey s (edit_of header keys) → ⊥
-rebuilds s Table keys one = one
-rebuilds s Element keys one = one

@@ -32,5 +32,6 @@ pub mod KeysLaws
 pub mod InsertedLaws
 pub mod LineChangeLaws
 pub mod LineRemovalLaws
+pub mod HeaderChangeLaws
 pub mod GivenLaws
 pub mod Shared

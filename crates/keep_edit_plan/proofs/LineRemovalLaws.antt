@@ -14,7 +14,7 @@ use Rattle.keep_types.specs.declared.syntax.Owner.TheVariants as owner
 use Rattle.keep_types.specs.declared.syntax.ValueInfo.{ValueInfo}
 use Rattle.keep_syntax.specs.declared.syntax.Syntax.{Syntax}
 use Rattle.keep_syntax.specs.Contract.{values_of}
-use Rattle.keep_syntax.specs.Tree.{Document, Line, Value}
+use Rattle.keep_syntax.specs.Tree.{Document, Value}
 use Rattle.keep_path.specs.NodeInfos.{NodeInfos, without_node}
 use Rattle.keep_path.specs.Path.{Part}
 use Rattle.keep_index_store.specs.declared.renumbering.LineNumbers.{LineNumbers}

@@ -10,7 +10,8 @@ use Rattle.keep_types.specs.declared.node.Origin.{Origin}
 use Rattle.keep_types.specs.declared.node.Origin.TheVariants as origin
 use Rattle.keep_types.specs.declared.role.Role.{Role}
 use Rattle.keep_types.specs.declared.role.Role.TheVariants as role
-use Rattle.keep_meaning.specs.Marks.{marks, elements_of, entered_path}
+use Rattle.keep_meaning.specs.Marks as statements
+use Rattle.keep_meaning.specs.Marks.{Statement, marks, elements_of, entered_path}
 use Rattle.keep_meaning.specs.Meaning.{mentions_in}
 use Rattle.keep_meaning.specs.Nodes.{node_number}
 use Rattle.keep_meaning.specs.Rules.{why_of}
@@ -40,6 +41,11 @@ may_follow _ _ = false
 abbrev pub edit_of : Header → List (List ℕ) → Edit
 edit_of Table keys = append_table keys
 edit_of Element keys = append_element keys
+
+-- what it is among the statements of the new document
+abbrev pub statement_of : Header → List (List ℕ) → Statement
+statement_of Table keys = statements.header keys
+statement_of Element keys = statements.element_header keys
 
 abbrev pub key_texts : List (String Global) → List (List ℕ)
 key_texts keys = map string_bytes keys

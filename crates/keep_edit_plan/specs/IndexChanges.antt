@@ -5,18 +5,24 @@ use Rattle.keep_meaning.specs.Counts.{statements_in}
 use Rattle.keep_meaning.specs.Marks.{start, reading_after}
 use Rattle.keep_meaning.specs.Meaning.{mentions_in}
 use Rattle.keep_meaning.specs.Nodes.{node_number}
+use Rattle.keep_meaning.specs.StatementsMore.{AreNumbersAtEnd, said_next}
 use Rattle.keep_path.specs.NodeInfos.{NodeInfos, with_kind, with_node, with_path, without_node}
 use Rattle.keep_path.specs.Path.{EndsInKey, beside, key}
 use Rattle.keep_index_store.specs.Renumbering.{numbers_of}
 use Rattle.keep_rules.specs.LinePlaces.{IsPlaceOf, met_before}
 use Rattle.keep_rules.specs.Lookup.{path_numbered}
+use Rattle.keep_rules.specs.MentionInfos.{with_mentions}
 use Rattle.keep_rules.specs.Nested.{AreNested}
+use Rattle.keep_rules.specs.ReadDocuments.{IsIndexOf}
+use Rattle.keep_edit_plan.specs.Headers.{key_texts, statement_of}
 use Rattle.keep_edit_plan.specs.Reading.{telling_in}
 use Rattle.keep_edit_plan.specs.declared.plan.IndexChange.{IndexChange}
 use Rattle.keep_edit_plan.specs.declared.plan.IndexChange.TheVariants.{Kind, Key, AddedLine, RemovedLine}
+use Rattle.keep_edit_plan.specs.declared.plan.IndexChange.TheVariants.{AppendedHeader}
 
 -- The node is there. Where another key is its path's last one, the path ends in a key, and no node is at the new one.
--- No node is at the path of a new line's key, and the nodes that are met before the line come first.
+-- No node is at the path of a new line's key, and the nodes that are met before the line come first. The numbers of a
+-- new header come after those of a document of which this is known.
 abbrev pub CanChange : NodeInfos → IndexChange → Type 0
 CanChange t (Kind node kind) = node.0 < length t.paths
 CanChange t (Key node text) =
@@ -26,6 +32,8 @@ CanChange t (AddedLine parent text line kind) =
     (parent.0 < length t.paths) × (node_number t.paths (path_numbered t parent.0 ++ key text.now ∷ []) ≡ None)
     × IsPlaceOf (numbers_of line) t.infos (met_before (numbers_of line) t.infos)
 CanChange t (RemovedLine node line) = node.0 < length t.paths
+CanChange t (AppendedHeader header keys statement first) =
+    (d : Document) × IsIndexOf d t × AreNumbersAtEnd d statement first
 
 -- the nodes of the second are those of the first, with this change
 abbrev pub IsChanged : NodeInfos → IndexChange → NodeInfos → Type 0
@@ -36,6 +44,9 @@ IsChanged t (AddedLine parent text line kind) u =
     u ≡ with_node t (met_before (numbers_of line) t.infos) (numbers_of line)
     (path_numbered t parent.0 ++ key text.now ∷ []) kind
 IsChanged t (RemovedLine node line) u = u ≡ without_node t node.0 (numbers_of line)
+IsChanged t (AppendedHeader header keys statement first) u =
+    (d : Document) → IsIndexOf d t → AreNumbersAtEnd d statement first
+    → u ≡ with_mentions t (said_next d (statement_of header (key_texts keys.now)))
 
 -- What is known of the nodes of the new document is what is known of those of the old one, with this change. They are
 -- nested as its headers say.

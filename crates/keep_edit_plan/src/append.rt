@@ -1,5 +1,5 @@
 //! Appending headers.
-ghost use Rattle.std.specs.Prelude.{◌≡◌, ◌++◌, [], IfOk, OnOk, string_bytes};
+ghost use Rattle.std.specs.Prelude.{◌≡◌, ◌+◌, ◌^◌, ◌<◌, ◌++◌, [], IfOk, OnOk, length, string_bytes};
 ghost use Rattle.keep_token.specs.Encoded.{encoded_key};
 ghost use Rattle.keep_syntax.specs.Tree as tree;
 ghost use Rattle.keep_edit_spec.specs.TextEnds as text_ends;
@@ -9,7 +9,7 @@ ghost use Rattle.keep_edit_plan.specs.Reading.{IsAccepted, IsTextOfTree};
 
 use crate::document::DocumentRef;
 use crate::header::{Header, check_header};
-use crate::plan::Plan;
+use crate::plan::{IndexChange, Plan};
 use crate::text_edit::TextEdit;
 use keep_edit_spec::EditFault;
 use keep_syntax::Span;
@@ -22,12 +22,12 @@ impl<'a> DocumentRef<'a> {
     /// # Errors
     ///
     /// The refusal of the edit, whatever memory there is; else `Memory` if memory was refused.
-    pub fn append_plan(
+    pub fn append_plan<'p>(
         &self,
         alloc: Global,
-        keys: &[String],
+        keys: &'p [String],
         header: Header,
-    ) -> Result<Plan<'static>, EditFault>
+    ) -> Result<Plan<'p>, EditFault>
         ensures planned { (s : tree.Document) → IsTextOfTree self.now s
             → EditPlanned s (edit_of header (key_texts keys.now)) self.now result }
         ensures of_edit { IfOk result (IsPlanOf self.now) }
@@ -47,13 +47,18 @@ impl<'a> DocumentRef<'a> {
         let place = Span { start: end, end };
         Ok(Plan {
             text_edit: TextEdit { place, new },
-            index_change: None,
+            index_change: Some(IndexChange::AppendedHeader {
+                header,
+                keys,
+                statement: self.syntax.statement_count(),
+                key: self.syntax.key_count(),
+            }),
         })
     }
 }
 
 /// What is written for a header at the end of a text: a blank line, unless it is the first line, and the header's own
-/// line.
+/// line. A machine word counts the bytes of both texts.
 fn header_at_end(
     alloc: Global,
     text: &str,
@@ -61,8 +66,9 @@ fn header_at_end(
     keys: &[String],
     header: Header,
 ) -> Result<String, AllocError>
-    ensures { IfOk result (λ out. string_bytes out
+    ensures written { IfOk result (λ out. string_bytes out
         ≡ text_ends.header_at_end text.now newline.now (header_text header (key_texts keys.now))) }
+    ensures counted { IfOk result (λ out. length text.now + length (string_bytes out) < 2 ^ 64) }
 {
     let mut out = String::new(alloc);
     push_blank_line(&mut out, text, newline)?;

@@ -1,6 +1,7 @@
 //! What is decided of an edit: what it writes, and what it changes of the index.
 ghost use Rattle.keep_edit_plan.specs.Plans.{IsPlanAt};
 
+use crate::header::Header;
 use crate::text_edit::TextEdit;
 use keep_edit_spec::EditFault;
 use keep_rules::{Kind, LineNumbers, NodeId};
@@ -31,6 +32,13 @@ pub enum IndexChange<'a> {
     RemovedLine {
         node: NodeId,
         line: LineNumbers,
+    },
+    /// A header comes as the last statement, with this number, and its first key part with that one.
+    AppendedHeader {
+        header: Header,
+        keys: &'a [String],
+        statement: usize,
+        key: usize,
     },
 }
 

@@ -36,6 +36,7 @@ pub use Rattle.keep_edit_spec.proofs.Common.Marks.{rules_of_document}
 pub use Rattle.keep_edit_spec.proofs.Remove.KeyvalMentions.{mentioned_below, mentions_keyval}
 pub use Rattle.keep_edit_spec.proofs.Remove.RemoveWhole.{shared_define}
 pub use Rattle.keep_edit_spec.proofs.Values.ValueDepths.{too_deep_at}
+pub use Rattle.keep_edit_spec.proofs.Append.AppendAddsStatement.{append_element_adds_statement, append_table_adds_statement}
 pub use Rattle.keep_edit_spec.proofs.Append.AppendPlace.{append_place, text_is}
 pub use Rattle.keep_edit_spec.proofs.Append.AppendTable.{tables_stated}
 pub use Rattle.keep_edit_spec.proofs.Append.HeaderConflict.{LetsPass, element_met, table_met}

@@ -8,7 +8,7 @@ pub use Rattle.keep_meaning.proofs.FactLemmas.{first_number-more, last_number-mo
 pub use Rattle.keep_meaning.proofs.PlaceLemmas.{length-entries_parts, length-named, marked, marked-append, marked-below, marked-content, marked-entries, marked-keyed, marked-parts, marked-parts_in, marked-prefixes}
 pub use Rattle.keep_meaning.proofs.CountLemmas.{lines_mentions-statements, mentions-numbered_from, mentions-numbered_in, mentions-numbered_mentions, node_at-elsewhere, numbered_mentions-append, paths-nodes_in, mentions_in-statements}
 pub use Rattle.keep_meaning.proofs.DecodeLaws.{means_value}
-pub use Rattle.keep_meaning.proofs.BoundLaws.{nodes_few}
+pub use Rattle.keep_meaning.proofs.BoundLaws.{mentions_few, nodes_few}
 pub use Rattle.keep_meaning.proofs.BodyLaws.{body_has_no_element, body_is_node, tables_are_nodes}
 pub use Rattle.keep_meaning.proofs.LineLaws.{few_before, line_adds_node, line_takes_node}
 pub use Rattle.keep_meaning.proofs.LineFoundLaws.{line_is_found}

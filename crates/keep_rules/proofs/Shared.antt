@@ -5,4 +5,6 @@ pub use Rattle.keep_rules.proofs.LineNestedLaws.{line_is_nested, line_leaves_nes
 pub use Rattle.keep_rules.proofs.LinePlaceLemmas.{place_is}
 pub use Rattle.keep_rules.proofs.LookupLemmas.{child_push, no_child_root, number_is}
 pub use Rattle.keep_rules.proofs.RoleStateLemmas.{one_place}
+pub use Rattle.keep_rules.proofs.StatementNestedLaws.{statement_is_nested}
+pub use Rattle.keep_rules.proofs.StatementToldLaws.{statement_is_told}
 pub use Rattle.keep_rules.proofs.ValueLaws.{strict_value}
