@@ -8,8 +8,8 @@ with ample memory, where it has to get the wanted answer, and its growths are co
 first growth refused, with the second, and so on up to the last.
 
 The program (subcommands.tsv): each of these runs ends with status 4, one line on standard error and nothing on
-standard output, also where the answer with ample memory is a refusal. Where the index is refused the memory of a key or of a line's
-node, it is built anew: so a few runs for each edit of a script (CHANGES) may have the wanted answer instead.
+standard output, also where the answer with ample memory is a refusal. Where the index is refused the memory of a key, of a line's
+node or of a header's, it is built anew: so a few runs for each edit of a script (CHANGES) may have the wanted answer instead.
 
 The libraries (calls.tsv, asked of keep_test_rows): each of these runs ends out of memory, or answers that the call
 was out of memory. keep_test_rows makes an edit twice, first for the text alone and then in the document, and prints a doubt
@@ -23,6 +23,9 @@ may have the wanted answer. Of a push to a path, of a list, and of lines that ar
 make what was refused once more.
 
 Some calls take no memory: the rows of keep_test_rows in the group `quiet` mark the growths of one call each, and have none.
+
+Some edits change the index where it is (IN_PLACE): one more of them takes about as few growths in a document of 2,000 tables as in
+one of 200, where an index that is built anew takes some for each table.
 """
 import os
 import re
@@ -40,14 +43,28 @@ OUT_OF_MEMORY = b"out of memory"
 # What keep_test_rows answers where a path or an edit of a row could not be read: the only reason is memory.
 UNREAD = (OUT_OF_MEMORY, b"no path", b"no such edit")
 AGAIN = b"refused and made again: "
-# How many growths the change of an index takes at most: those of a key, of its node, of its parent link, and of a map, which has five.
-CHANGES = 8
+# How many growths the change of an index takes at most: those of a key, of its node, of its parent link, and of a map, which has five;
+# and of the two lists of what a header joins.
+CHANGES = 12
 DONE = re.compile(rb"\d+ \d+ \d+$|done$")
 # How keep_test_rows prints that an edit does not agree with the text alone, and a list of edits with the edits one by one;
 # and that the document is not what is read afresh from its text, for which memory may be missing too.
 TEXT_DOUBT = b", but the text alone is told otherwise"
 LIST_DOUBT = b", but one by one the edits answer otherwise"
 DOCUMENT_DOUBT = b", but the document tells otherwise"
+
+
+# Edits of the middle table of so many, each by its number, that change the index where it is.
+IN_PLACE = {
+    "set": "path = 't{middle}.a'\nvalue = '{number}'\n",
+    "rename": "path = 't{middle}.{last}'\nkey = 'n{number}'\n",
+    "insert": "path = 't{middle}.n{number}'\nvalue = '1'\n",
+    "remove": "path = 't{middle}.k{number}'\n",
+    "table": "path = 't{middle}.s{number}'\n",
+    "element": "path = 'e'\n",
+}
+KEYS = 24
+FEW = 40
 
 
 class Asked:
@@ -236,8 +253,27 @@ def run_growths(count, program, refuse):
         count.add(f"growths between marks: {name}", None if is_well else f"{growths} growths")
 
 
+def growths_of_edits(program, refuse, op, edits, tables):
+    """The growths of a run that makes so many edits of this kind in a document of so many tables."""
+    last = lambda number: f"n{number - 1}" if number else "a"
+    filled = (IN_PLACE[op].format(middle=tables // 2, number=number, last=last(number)) for number in range(edits))
+    script = "".join(f"[[edit]]\nop = '{op}'\n{it}" for it in filled)
+    keys = "".join(f"k{number} = {number}\n" for number in range(KEYS))
+    text = "".join(f"[t{number}]\na = 1\n{keys if number == tables // 2 else ''}b = [1, 2]\n" for number in range(tables))
+    ran, growths = Asked(program, refuse, [b"apply", script.encode()], f"{text}[[e]]\n".encode()).ample()
+    return growths if ran.returncode == 0 else sys.maxsize
+
+
+def in_place_failure(program, refuse, op):
+    """Of one more edit of this kind: it takes no growth for each table that there is."""
+    few, many = (growths_of_edits(program, refuse, op, 20, it) - growths_of_edits(program, refuse, op, 10, it) for it in (200, 2_000))
+    return None if 0 < many < few + 10 * FEW else f"ten edits more take {few} growths beside 200 tables, {many} beside 2,000"
+
+
 def main(keep_toml, keep_test_rows, refuse):
     count = Count()
+    for op in IN_PLACE:
+        count.add(f"few growths in place: {op}", in_place_failure(keep_toml, refuse, op))
     for row in rows_of(HERE / "subcommands.tsv"):
         count.add(f"each growth refused: {row.name}", program_failure(keep_toml, refuse, row))
     if keep_test_rows != "-":
