@@ -103,20 +103,6 @@ fn sum_of(steps: &[u8]) -> u16
     distance
 }
 
-// the step from a place to a place; None exactly where that is before it
-fn step_to(from: usize, to: usize) -> Option<u8>
-    ensures step { IfSome result (λ step. step ≢ FAR → from + step ≡ to) }
-    ensures order { IfSome result (λ _. from ≤ to) }
-    ensures none { IsNone result → to < from }
-{
-    let distance = to.checked_sub(from)?;
-    Some(if distance < FAR as usize {
-        distance as u8
-    } else {
-        FAR
-    })
-}
-
 // places, moved from after `old` to after `new`; a place before `old` is refused
 fn moved_places(
     alloc: Global,
@@ -171,22 +157,36 @@ impl Starts {
 
     /// Stores one more place. After a refusal those before are stored. A place before the last one is refused: a text
     /// that is read from its start on has none.
+    #[inline(always)]
     pub fn push(&mut self, at: usize) -> Result<(), AllocError>
         ensures ok { OnOk result (self.new ≡ self.old ++ at ∷ []) }
         ensures err { OnErr result (self.new ≡ self.old) }
     {
-        let Some(step) = step_to(self.last, at) else {
-            return Err(AllocError);
-        };
-        self.steps.push(step)?;
-        if step == FAR {
-            if let Err(refused) = self.far.push(at) {
-                // no far step without its place
-                self.steps.pop();
-                return Err(refused.into());
-            }
+        let last = self.last;
+        if at < last || at - last >= FAR as usize {
+            return self.push_far(at);
         }
+        self.steps.push((at - last) as u8)?;
         self.last = at;
+        Ok(())
+    }
+
+    /// Stores one more place, as `push` does, that the last one need not be near.
+    #[inline(never)]
+    fn push_far(&mut self, place: usize) -> Result<(), AllocError>
+        ensures ok { OnOk result (self.new ≡ self.old ++ place ∷ []) }
+        ensures err { OnErr result (self.new ≡ self.old) }
+    {
+        if place < self.last {
+            return Err(AllocError);
+        }
+        self.steps.push(FAR)?;
+        if let Err(refused) = self.far.push(place) {
+            // no far step without its place
+            self.steps.pop();
+            return Err(refused.into());
+        }
+        self.last = place;
         Ok(())
     }
 
