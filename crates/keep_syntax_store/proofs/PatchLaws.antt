@@ -106,13 +106,13 @@ patch_undone p q c d fits h = record {
 pub record BlockEnd (b len end : ℕ) : Type 0 where
   pub after : b ≤ end
   pub within : end ≤ len
-  pub inside : end ≤ (b / 64 + 1) * 64
-  pub last : end < len → end ≡ (b / 64 + 1) * 64
+  pub inside : end ≤ (b / 16 + 1) * 16
+  pub last : end < len → end ≡ (b / 16 + 1) * 16
 
-pub block_end : (b len more : ℕ) → b ≤ len → more ≡ min (len - b) (64 - b % 64) → BlockEnd b len (b + more)
+pub block_end : (b len more : ℕ) → b ≤ len → more ≡ min (len - b) (16 - b % 16) → BlockEnd b len (b + more)
 block_end b len more h e =
-    let d = mod-add-div' b 64 in
-    let m : b % 64 < 64 = mod-lt b (omega arith) in
+    let d = mod-add-div' b 16 in
+    let m : b % 16 < 16 = mod-lt b (omega arith) in
     record {
       after = omega arith;
       within = omega (arith, e, h);
@@ -122,10 +122,10 @@ block_end b len more h e =
 
 module _ {E P : Type 0} (unpack : P → E) (raise : ℕ → E → E) (After : Counts → ℕ → E → Type 0) (moved : Counts → Counts → E → E) (right : MovesRight After moved raise) where
   pub patch_made : (v : PackedVec E P) (fresh : List E) (len : ℕ) (from to until : Counts) (a b end : ℕ) (c : Patch P)
-      → c.from ≡ a / 64 * 64 → IsRunOfPacked a b (length fresh) v → OnlyPlacesMove len to until → AllByRecursion (After to len) (drop b (entries unpack raise v))
+      → c.from ≡ a / 16 * 16 → IsRunOfPacked a b (length fresh) v → OnlyPlacesMove len to until → AllByRecursion (After to len) (drop b (entries unpack raise v))
       → BlockEnd b (length v.packed.items) end
-      → map unpack c.run.items ≡ (map (moved nothing nothing) (slice_range (entries unpack raise v) (a / 64 * 64) a) ++ map (moved nothing from) fresh) ++ map (moved to until) (slice_range (entries unpack raise v) b end)
-      → ((block : ℕ) → block < length v.packed.items / 64 + 1 → get_or c.moves.items block None ≡ move_after (a / 64) (b / 64 + 1) (step to.at until.at) v.moves.items block)
+      → map unpack c.run.items ≡ (map (moved nothing nothing) (slice_range (entries unpack raise v) (a / 16 * 16) a) ++ map (moved nothing from) fresh) ++ map (moved to until) (slice_range (entries unpack raise v) b end)
+      → ((block : ℕ) → block < length v.packed.items / 16 + 1 → get_or c.moves.items block None ≡ move_after (a / 16) (b / 16 + 1) (step to.at until.at) v.moves.items block)
       → Gives unpack raise v c (take a (entries unpack raise v) ++ (map (moved nothing from) fresh ++ map (moved to until) (drop b (entries unpack raise v))))
   patch_made v fresh len from to until a b end c at is places after ends run_is blocks = record {
     fits = record { within = omega (arith, at, run_len, start, is.size, ends.after, ends.within) };
@@ -133,9 +133,9 @@ module _ {E P : Type 0} (unpack : P → E) (raise : ℕ → E → E) (After : Co
         ap (λ k. in_blocks raise c.moves.items 0 (map unpack (with_run v.packed.items k c.run.items))) at
         ∙ patch_gives unpack raise (moved nothing nothing) (moved nothing from) (moved to until) (After to len) (step to.at until.at)
         right.stays (λ e h. right.once len to until e places h) (λ more e h. right.again more len to until e places h)
-        v.packed.items c.run.items v.moves.items c.moves.items fresh a b (a / 64 * 64) end
+        v.packed.items c.run.items v.moves.items c.moves.items fresh a b (a / 16 * 16) end
         start (omega (arith, is.size)) ends.after ends.within is.size
-        (subst (λ xs. map unpack c.run.items ≡ (map (moved nothing nothing) (slice_range xs (a / 64 * 64) a) ++ map (moved nothing from) fresh) ++ map (moved to until) (slice_range xs b end)) whole run_is)
+        (subst (λ xs. map unpack c.run.items ≡ (map (moved nothing nothing) (slice_range xs (a / 16 * 16) a) ++ map (moved nothing from) fresh) ++ map (moved to until) (slice_range xs b end)) whole run_is)
         before inside later (subst (λ xs. AllByRecursion (After to len) (drop b xs)) whole after)
         ∙ ap (λ xs. take a xs ++ (map (moved nothing from) fresh ++ map (moved to until) (drop b xs))) (sym whole);
   }
@@ -143,16 +143,16 @@ module _ {E P : Type 0} (unpack : P → E) (raise : ℕ → E → E) (After : Co
       whole : entries unpack raise v ≡ in_blocks raise v.moves.items 0 (map unpack v.packed.items)
       whole = ap (λ xs. in_blocks raise v.moves.items 0 (map unpack v.packed.items) ++ xs) is.packed ∙ append-nil (in_blocks raise v.moves.items 0 (map unpack v.packed.items))
 
-      start : a / 64 * 64 ≤ a
-      start = div-mul-le_self a 64
+      start : a / 16 * 16 ≤ a
+      start = div-mul-le_self a 16
 
       count : length (entries unpack raise v) ≡ length v.packed.items
       count = omega (arith, entries_length unpack raise v, ap length is.packed)
 
-      run_len : length c.run.items ≡ end - a / 64 * 64
+      run_len : length c.run.items ≡ end - a / 16 * 16
       run_len =
           let es = entries unpack raise v in
-          let s = a / 64 * 64 in
+          let s = a / 16 * 16 in
           omega (
             arith,
             length-map c.run.items unpack,
@@ -169,32 +169,32 @@ module _ {E P : Type 0} (unpack : P → E) (raise : ℕ → E → E) (After : Co
             ends.after,
           )
 
-      low : (i : ℕ) → i / 64 * 64 ≤ i
-      low i = div-mul-le_self i 64
+      low : (i : ℕ) → i / 16 * 16 ≤ i
+      low i = div-mul-le_self i 16
 
-      high : (i : ℕ) → i < i / 64 * 64 + 64
+      high : (i : ℕ) → i < i / 16 * 16 + 16
       high i = lt-div-mul-add (omega arith)
 
-      in_list : (i : ℕ) → i < length v.packed.items → i / 64 < length v.packed.items / 64 + 1
+      in_list : (i : ℕ) → i < length v.packed.items → i / 16 < length v.packed.items / 16 + 1
       in_list i h = omega (arith, h, low i, high (length v.packed.items))
 
-      before : From (λ i. move_of c.moves.items i ≡ move_of v.moves.items i) 0 (a / 64 * 64)
+      before : From (λ i. move_of c.moves.items i ≡ move_of v.moves.items i) 0 (a / 16 * 16)
       before i _ h =
-          blocks (i / 64) (in_list i (omega (arith, h, start, is.size, is.within)))
-          ∙ if_true (ltb (i / 64) (a / 64)) _ _ (lt-ltb (i / 64) (a / 64) (omega (arith, h, low i)))
+          blocks (i / 16) (in_list i (omega (arith, h, start, is.size, is.within)))
+          ∙ if_true (ltb (i / 16) (a / 16)) _ _ (lt-ltb (i / 16) (a / 16) (omega (arith, h, low i)))
 
-      inside : From (λ i. move_of c.moves.items i ≡ None) (a / 64 * 64) end
+      inside : From (λ i. move_of c.moves.items i ≡ None) (a / 16 * 16) end
       inside i h k =
-          blocks (i / 64) (in_list i (omega (arith, k, ends.within)))
-          ∙ if_false (ltb (i / 64) (a / 64)) _ _ (le-ltb (i / 64) (a / 64) (omega (arith, h, high i)))
-          ∙ if_true (ltb (i / 64) (b / 64 + 1)) _ _ (lt-ltb (i / 64) (b / 64 + 1) (omega (arith, k, low i, ends.inside)))
+          blocks (i / 16) (in_list i (omega (arith, k, ends.within)))
+          ∙ if_false (ltb (i / 16) (a / 16)) _ _ (le-ltb (i / 16) (a / 16) (omega (arith, h, high i)))
+          ∙ if_true (ltb (i / 16) (b / 16 + 1)) _ _ (lt-ltb (i / 16) (b / 16 + 1) (omega (arith, k, low i, ends.inside)))
 
       later : From (λ i. move_of c.moves.items i ≡ moved_on (step to.at until.at) (move_of v.moves.items i)) end (length v.packed.items)
       later i h k =
-          let e : end ≡ (b / 64 + 1) * 64 = ends.last (omega (arith, h, k)) in
-          blocks (i / 64) (in_list i k)
-          ∙ if_false (ltb (i / 64) (a / 64)) _ _ (le-ltb (i / 64) (a / 64) (omega (arith, h, e, high i, low a, high b, is.size)))
-          ∙ if_false (ltb (i / 64) (b / 64 + 1)) _ _ (le-ltb (i / 64) (b / 64 + 1) (omega (arith, h, e, high i)))
+          let e : end ≡ (b / 16 + 1) * 16 = ends.last (omega (arith, h, k)) in
+          blocks (i / 16) (in_list i k)
+          ∙ if_false (ltb (i / 16) (a / 16)) _ _ (le-ltb (i / 16) (a / 16) (omega (arith, h, e, high i, low a, high b, is.size)))
+          ∙ if_false (ltb (i / 16) (b / 16 + 1)) _ _ (le-ltb (i / 16) (b / 16 + 1) (omega (arith, h, e, high i)))
 
 -- ---- what is put back, of parts that store the same
 

@@ -11,7 +11,7 @@ use crate::shift::Shift;
 use std::alloc::{AllocError, Global};
 
 /// How many packed entries are in a block.
-pub const BLOCK: usize = 64;
+pub const BLOCK: usize = 16;
 
 /// An entry of such a list: how it is packed into few bytes, and how it is moved.
 pub trait Entry: Copy {

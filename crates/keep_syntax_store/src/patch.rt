@@ -31,7 +31,28 @@ fn moved_on(by: usize, block: Option<usize>) -> Option<usize>
     })
 }
 
-/// What blocks are moved by after an edit that rewrites the entries of those from `first` up to `after`.
+/// What a block is moved by after an edit that rewrites the entries of those from `first` up to `after`.
+#[inline(always)]
+fn next_move(
+    moves: &Vec<Option<usize>>,
+    first: usize,
+    after: usize,
+    by: usize,
+    block: usize,
+) -> Option<usize>
+    ensures { result ≡ blocks.move_after first after by moves.now.items block }
+{
+    let now = block_move(moves, block);
+    if block < first {
+        now
+    } else if block < after {
+        None
+    } else {
+        moved_on(by, now)
+    }
+}
+
+/// What all blocks are moved by then, of which there are so many.
 fn next_moves(
     alloc: Global,
     moves: &Vec<Option<usize>>,
@@ -43,16 +64,9 @@ fn next_moves(
     ensures { IfOk result (λ next. (block : ℕ) → block < count
         → get_or next.items block None ≡ blocks.move_after first after by moves.now.items block) }
 {
-    let mut next = Vec::new(alloc);
+    let mut next = Vec::with_capacity(alloc, count)?;
     'blocks: for block in 0..count {
-        let now = block_move(moves, block);
-        next.push(if block < first {
-            now
-        } else if block < after {
-            None
-        } else {
-            moved_on(by, now)
-        })?;
+        next.push_reserved(next_move(moves, first, after, by, block));
     }
     Ok(next)
 }

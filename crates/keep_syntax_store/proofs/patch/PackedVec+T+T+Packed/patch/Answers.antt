@@ -33,10 +33,10 @@ returns g c = λ right.
     ∙ c.in_ok-append_moved-3.ensures
     ∙ ap (λ xs. xs ++ map (moved k.to k.until) (slice_range es b end)) (c.in_ok-append_moved-2.ensures
     ∙ ap (λ xs. xs ++ map (moved c.nothing-zero.result k.from) (slice_range fresh 0 c.len.result)) (c.in_ok-append_moved.ensures
-    ∙ ap (λ xs. xs ++ map (moved c.nothing-zero.result c.nothing-zero.result) (slice_range es (a / 64 * 64) a)) c.new-all.ensures
-    ∙ ap (λ (z : Counts). map (moved z z) (slice_range es (a / 64 * 64) a)) c.nothing-zero.ensures)
-    ∙ ap (λ (z : Counts). map (moved nothing nothing) (slice_range es (a / 64 * 64) a) ++ map (moved z k.from) (slice_range fresh 0 c.len.result)) c.nothing-zero.ensures
-    ∙ ap (λ xs. map (moved nothing nothing) (slice_range es (a / 64 * 64) a) ++ map (moved nothing k.from) xs) (ap (λ n. slice_range fresh 0 n) c.len.ensures ∙ range_whole fresh)) in
-    patch_made un raise g.T.Entry.IsAfter moved right v fresh k.len k.from k.to k.until a b end (record { from = a / 64 * 64; run = c.append_moved-3.new.self.packed; moves = c.in_ok-moves.moves }) refl
-    c.requires.run c.requires.places c.requires.after (block_end b (length v.packed.items) c.min.result c.requires.run.within (c.min.ensures ∙ ap (λ n. min (n - b) (64 - b % 64)) count)) run_is
-    (λ block h. c.in_ok-moves.ensures block (omega (arith, h, ap (λ n. n / 64) count)))
+    ∙ ap (λ xs. xs ++ map (moved c.nothing-zero.result c.nothing-zero.result) (slice_range es (a / 16 * 16) a)) c.new-all.ensures
+    ∙ ap (λ (z : Counts). map (moved z z) (slice_range es (a / 16 * 16) a)) c.nothing-zero.ensures)
+    ∙ ap (λ (z : Counts). map (moved nothing nothing) (slice_range es (a / 16 * 16) a) ++ map (moved z k.from) (slice_range fresh 0 c.len.result)) c.nothing-zero.ensures
+    ∙ ap (λ xs. map (moved nothing nothing) (slice_range es (a / 16 * 16) a) ++ map (moved nothing k.from) xs) (ap (λ n. slice_range fresh 0 n) c.len.ensures ∙ range_whole fresh)) in
+    patch_made un raise g.T.Entry.IsAfter moved right v fresh k.len k.from k.to k.until a b end (record { from = a / 16 * 16; run = c.append_moved-3.new.self.packed; moves = c.in_ok-moves.moves }) refl
+    c.requires.run c.requires.places c.requires.after (block_end b (length v.packed.items) c.min.result c.requires.run.within (c.min.ensures ∙ ap (λ n. min (n - b) (16 - b % 16)) count)) run_is
+    (λ block h. c.in_ok-moves.ensures block (omega (arith, h, ap (λ n. n / 16) count)))
