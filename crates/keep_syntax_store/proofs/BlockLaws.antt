@@ -17,7 +17,6 @@ use Rattle.keep_syntax_store.specs.declared.packed_vec.TheConstants.{BLOCK}
 use Rattle.keep_syntax_store.specs.Blocks.{raise_by, in_blocks, moved_on}
 use Rattle.keep_syntax_store.specs.PackedVec.{with_run}
 use Rattle.keep_syntax_store.proofs.ExchangeLaws.{take_length, range_length}
-use Rattle.keep_syntax_store.proofs.ExchangedLaws.{map_take, map_drop}
 
 -- what each number from n on, up to m, has
 abbrev pub From : (ℕ → Type 0) → ℕ → ℕ → Type 0
@@ -118,54 +117,48 @@ take_split (x ∷ xs) (suc n) (suc m) h =
     ap (λ k. x ∷ (take n xs ++ take k (drop n xs))) (let e : suc m - suc n ≡ m - n = omega arith in e)
     ∙ ap (λ ys. x ∷ ys) (take_split xs n m (omega (arith, h)))
 
-module _ {E P : Type 0} (unpack : P → E) (raise : ℕ → E → E) (still fresh_move move : E → E) (Held : E → Type 0) (by : ℕ)
+module _ {E : Type 0} (raise : ℕ → E → E) (still fresh_move move : E → E) (Held : E → Type 0) (by : ℕ)
     (stays : (e : E) → still e ≡ e) (once : (e : E) → Held e → raise by e ≡ move e)
     (again : (more : ℕ) (e : E) → Held (raise more e) → raise_by raise (moved_on by (Some more)) e ≡ move (raise more e))
-    (packed run : List P) (ms ms2 : List (Option ℕ)) (fresh : List E) (from to start end : ℕ) where
+    (xs run : List E) (ms ms2 : List (Option ℕ)) (fresh : List E) (from to start end : ℕ) where
   abbrev es : List E
-  es = in_blocks raise ms 0 (map unpack packed)
+  es = in_blocks raise ms 0 xs
 
-  pub patch_gives : start ≤ from → from ≤ to → to ≤ end → end ≤ length packed → length fresh + from ≡ to
-      → map unpack run ≡ (map still (slice_range es start from) ++ map fresh_move fresh) ++ map move (slice_range es to end)
+  pub patch_gives : start ≤ from → from ≤ to → to ≤ end → end ≤ length xs → length fresh + from ≡ to
+      → run ≡ (map still (slice_range es start from) ++ map fresh_move fresh) ++ map move (slice_range es to end)
       → From (λ i. move_of ms2 i ≡ move_of ms i) 0 start → From (λ i. move_of ms2 i ≡ None) start end
-      → From (λ i. move_of ms2 i ≡ moved_on by (move_of ms i)) end (length packed)
+      → From (λ i. move_of ms2 i ≡ moved_on by (move_of ms i)) end (length xs)
       → AllByRecursion Held (drop to es)
-      → in_blocks raise ms2 0 (map unpack (with_run packed start run)) ≡ take from es ++ (map fresh_move fresh ++ map move (drop to es))
+      → in_blocks raise ms2 0 (with_run xs start run) ≡ take from es ++ (map fresh_move fresh ++ map move (drop to es))
   patch_gives a b c d size is before inside later held =
-      ap (λ xs. in_blocks raise ms2 0 xs) mapped
-      ∙ blocks_append raise ms2 0 (take start xs) (map unpack run ++ drop end xs)
-      ∙ ap (λ ys. ys ++ in_blocks raise ms2 (0 + length (take start xs)) (map unpack run ++ drop end xs)) (blocks_alike raise ms ms2 0 (take start xs) (λ i low high. before i low (omega (arith, high, first))) ∙ sym (blocks_take raise ms 0 start xs))
-      ∙ ap (λ k. take start es ++ in_blocks raise ms2 k (map unpack run ++ drop end xs)) (let z : 0 + length (take start xs) ≡ start = omega (arith, first) in z)
-      ∙ ap (λ ys. take start es ++ ys) (blocks_append raise ms2 start (map unpack run) (drop end xs))
-      ∙ ap (λ ys. take start es ++ (ys ++ in_blocks raise ms2 (start + length (map unpack run)) (drop end xs))) (blocks_still raise ms2 start (map unpack run) (λ i low high. inside i low (omega (arith, high, middle))))
-      ∙ ap (λ k. take start es ++ (map unpack run ++ in_blocks raise ms2 k (drop end xs))) middle
-      ∙ ap (λ ys. take start es ++ (map unpack run ++ ys))
-      (blocks_moved raise by move Held once again ms ms2 end (drop end xs) (λ i low high. later i low (omega (arith, high, length-drop end xs, all, d))) (subst (AllByRecursion Held) dropped (all_drop Held es to end c held))
+      ap (λ k. in_blocks raise ms2 0 (take start xs ++ (run ++ drop k xs))) (let e : start + length run ≡ end = omega (arith, parts_len, a, b, c) in e)
+      ∙ blocks_append raise ms2 0 (take start xs) (run ++ drop end xs)
+      ∙ ap (λ ys. ys ++ in_blocks raise ms2 (0 + length (take start xs)) (run ++ drop end xs)) (blocks_alike raise ms ms2 0 (take start xs) (λ i low high. before i low (omega (arith, high, first))) ∙ sym (blocks_take raise ms 0 start xs))
+      ∙ ap (λ k. take start es ++ in_blocks raise ms2 k (run ++ drop end xs)) (let z : 0 + length (take start xs) ≡ start = omega (arith, first) in z)
+      ∙ ap (λ ys. take start es ++ ys) (blocks_append raise ms2 start run (drop end xs))
+      ∙ ap (λ ys. take start es ++ (ys ++ in_blocks raise ms2 (start + length run) (drop end xs))) (blocks_still raise ms2 start run (λ i low high. inside i low (omega (arith, high, middle))))
+      ∙ ap (λ k. take start es ++ (run ++ in_blocks raise ms2 k (drop end xs))) middle
+      ∙ ap (λ ys. take start es ++ (run ++ ys))
+      (blocks_moved raise by move Held once again ms ms2 end (drop end xs) (λ i low high. later i low (omega (arith, high, length-drop end xs, d))) (subst (AllByRecursion Held) dropped (all_drop Held es to end c held))
       ∙ ap (map move) (sym dropped))
       ∙ ap (λ ys. take start es ++ (ys ++ map move (drop end es))) is
       ∙ ap (λ ys. take start es ++ (((ys ++ map fresh_move fresh) ++ map move (slice_range es to end)) ++ map move (drop end es))) (same (slice_range es start from))
       ∙ joined
     where
-      xs : List E
-      xs = map unpack packed
-
-      all : length xs ≡ length packed
-      all = length-map packed unpack
-
       first : length (take start xs) ≡ start
-      first = take_length xs start (omega (arith, all, a, b, c, d))
+      first = take_length xs start (omega (arith, a, b, c, d))
 
       dropped : drop end es ≡ in_blocks raise ms end (drop end xs)
       dropped = blocks_drop raise ms 0 end xs ∙ ap (λ k. in_blocks raise ms k (drop end xs)) (let z : 0 + end ≡ end = omega arith in z)
 
-      count : length es ≡ length packed
-      count = blocks_length raise ms 0 xs ∙ all
+      count : length es ≡ length xs
+      count = blocks_length raise ms 0 xs
 
       same : (ys : List E) → map still ys ≡ ys
       same [] = refl
       same (y ∷ ys) = ap (λ z. z ∷ map still ys) (stays y) ∙ ap (λ zs. y ∷ zs) (same ys)
 
-      parts_len : length (map unpack run) ≡ end - start
+      parts_len : length run ≡ end - start
       parts_len = omega (
         arith,
         ap length is,
@@ -182,19 +175,8 @@ module _ {E P : Type 0} (unpack : P → E) (raise : ℕ → E → E) (still fres
         c,
       )
 
-      run_len : length run ≡ end - start
-      run_len = sym (length-map run unpack) ∙ parts_len
-
-      middle : start + length (map unpack run) ≡ end
+      middle : start + length run ≡ end
       middle = omega (arith, parts_len, a, b, c)
-
-      mapped : map unpack (with_run packed start run) ≡ take start xs ++ (map unpack run ++ drop end xs)
-      mapped =
-          map-append unpack (take start packed) (run ++ drop (start + length run) packed)
-          ∙ ap (λ ys. map unpack (take start packed) ++ ys) (map-append unpack run (drop (start + length run) packed))
-          ∙ ap (λ ys. ys ++ (map unpack run ++ map unpack (drop (start + length run) packed))) (map_take unpack start packed)
-          ∙ ap (λ ys. take start xs ++ (map unpack run ++ ys)) (map_drop unpack (start + length run) packed)
-          ∙ ap (λ k. take start xs ++ (map unpack run ++ drop k xs)) (let e : start + length run ≡ end = omega (arith, run_len, a, b, c) in e)
 
       joined : take start es ++ (((slice_range es start from ++ map fresh_move fresh) ++ map move (slice_range es to end)) ++ map move (drop end es))
           ≡ take from es ++ (map fresh_move fresh ++ map move (drop to es))

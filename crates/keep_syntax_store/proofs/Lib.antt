@@ -17,6 +17,7 @@ pub mod BeforeLaws
 pub mod ReplacingLaws
 pub mod RestLaws
 pub mod Shared
+pub mod UnfitLaws
 pub mod BlockLaws
 pub mod RaiseLaws
 pub mod EntryLaws

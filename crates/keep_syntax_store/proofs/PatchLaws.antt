@@ -7,11 +7,11 @@
 --
 -- Theorems: `patch_made`: the patch that is made gives the entries before, the new ones, and those after, moved;
 -- `patch_undone`: once they change places again, what was stored before is stored.
-use Rattle.std.proofs.Common.{◌≡◌, ℕ, ◌+◌, ◌-◌, ◌*◌, ◌/◌, ◌%◌, ◌<◌, ◌≤◌, min, List, ◌++◌, length, map, take, drop, get_or, refl, sym, ap, subst, ◌∙◌, arith, append_assoc, None, lt-ltb, le-ltb}
+use Rattle.std.proofs.Common.{◌≡◌, ℕ, ◌+◌, ◌-◌, ◌*◌, ◌/◌, ◌%◌, ◌<◌, ◌≤◌, min, List, ◌++◌, length, map, take, drop, get_or, refl, sym, ap, ◌∙◌, arith, append_assoc, None, lt-ltb, le-ltb}
 use Rattle.std.specs.Prelude.{ltb, slice_range}
 use Rattle.std.specs.List.{AllByRecursion}
 use Rattle.std.proofs.Math.Nat.{div-mul-le_self, lt-div-mul-add, mod-add-div', mod-lt}
-use Rattle.std.proofs.lemmas.List.{append-nil, length-append, length-drop, length-map}
+use Rattle.std.proofs.lemmas.List.{length-append, length-drop, length-map, map-append}
 use Rattle.keep_syntax_store.specs.declared.moves.Counts.{Counts}
 use Rattle.keep_syntax_store.specs.declared.packed_vec.PackedVec.{PackedVec}
 use Rattle.keep_syntax_store.specs.declared.patch.Patch.{Patch}
@@ -22,12 +22,15 @@ use Rattle.keep_syntax_store.specs.declared.replacing.Gone.TheVariants as gone
 use Rattle.keep_syntax_store.specs.Blocks.{in_blocks, move_after, moved_on, step, raise_key, raise_statement, raise_value}
 use Rattle.keep_syntax_store.specs.Flat.{Flat, flat, unpacked_statement, unpacked_key_part, unpacked_value}
 use Rattle.keep_syntax_store.specs.Moving.{MovesRight, OnlyPlacesMove}
-use Rattle.keep_syntax_store.specs.PackedVec.{entries, IsWithin, IsRunOfPacked, with_run, IsPatched, Gives}
+use Rattle.keep_syntax_store.specs.PackedVec.{entries, IsWithin, IsRunOf, with_run, IsPatched, Gives}
 use Rattle.keep_syntax_store.specs.Rereading.{nothing}
 use Rattle.keep_syntax_store.specs.InPlace.{GivesParts, FitsParts, ArePatched, UndoesPatch, UndoesParts}
+use Rattle.keep_syntax_store.specs.Unfit.{IsFree, with_unfit}
+use Rattle.keep_syntax_store.proofs.UnfitLaws.{unfit_length, unfit_run}
 use Rattle.keep_syntax_store.proofs.BlockLaws.{From, move_of, patch_gives}
 use Rattle.keep_syntax_store.proofs.EntryLaws.{entries_length, same_entries}
 use Rattle.keep_syntax_store.proofs.ExchangeLaws.{three, take_prefix, drop_prefix, take_length, range_length}
+use Rattle.keep_syntax_store.proofs.ExchangedLaws.{map_take, map_drop}
 use Rattle.keep_syntax_store.proofs.FlatLaws.{same_flat}
 use Rattle.keep_syntax_store.proofs.TestLaws.{if_true, if_false}
 
@@ -49,7 +52,23 @@ with_run_back xs run from to e h =
     ∙ ap (λ k. a ++ (b ++ drop k xs)) (sym e)
     ∙ sym (three xs from to (omega (arith, e)))
 
+map_run : {A B : Type 0} (f : A → B) (xs : List A) (from : ℕ) (run : List A) → map f (with_run xs from run) ≡ with_run (map f xs) from (map f run)
+map_run f xs from run =
+    map-append f (take from xs) (run ++ drop (from + length run) xs)
+    ∙ ap (λ ys. map f (take from xs) ++ ys) (map-append f run (drop (from + length run) xs))
+    ∙ ap (λ ys. ys ++ (map f run ++ map f (drop (from + length run) xs))) (map_take f from xs)
+    ∙ ap (λ ys. take from (map f xs) ++ (map f run ++ ys)) (map_drop f (from + length run) xs)
+    ∙ ap (λ k. take from (map f xs) ++ (map f run ++ drop (from + k) (map f xs))) (sym (length-map run f))
+
 module _ {E P : Type 0} (unpack : P → E) (raise : ℕ → E → E) where
+  -- what the list stores then
+  pub given_entries : (v w : PackedVec E P) (c d : Patch P) (es : List E) → Gives unpack raise v c es → IsPatched v c w d → entries unpack raise w ≡ es
+  given_entries v w c d es given h =
+      ap (λ ms. in_blocks raise ms 0 (with_unfit w.unfit 0 (map unpack w.packed.items))) h.moves
+      ∙ ap (λ us. in_blocks raise c.moves.items 0 (with_unfit us 0 (map unpack w.packed.items))) h.unfit
+      ∙ ap (λ ps. in_blocks raise c.moves.items 0 (with_unfit v.unfit 0 (map unpack ps))) h.packed
+      ∙ given.gives
+
   pub back_entries : (v w x : PackedVec E P) (c d e : Patch P) → IsWithin v c → IsPatched v c w d → IsPatched w d x e → entries unpack raise x ≡ entries unpack raise v
   back_entries v w x c d e fits h k =
       let to = c.from + length c.run.items in
@@ -59,7 +78,7 @@ module _ {E P : Type 0} (unpack : P → E) (raise : ℕ → E → E) where
       ∙ ap (λ n. with_run (with_run v.packed.items c.from c.run.items) n d.run.items) h.from
       ∙ ap (λ run. with_run (with_run v.packed.items c.from c.run.items) c.from run) h.run
       ∙ with_run_back v.packed.items c.run.items c.from to refl fits.within)
-      (record { unpacked = k.unpacked ∙ h.unpacked; moves = k.moves ∙ h.back })
+      (record { unfit = k.unfit ∙ h.unfit; moves = k.moves ∙ h.back })
 
 pub back_fits : {E P : Type 0} (v w : PackedVec E P) (c d : Patch P) → IsWithin v c → IsPatched v c w d → IsWithin w d
 back_fits v w c d fits h =
@@ -85,6 +104,14 @@ back_fits v w c d fits h =
 
 pub given_fits : (p : Parts) (c : PartsPatch) (f : Flat) → GivesParts p c f → FitsParts p c
 given_fits p c f given = record { statements = given.statements.fits; keys = given.keys.fits; values = given.values.fits }
+
+pub given_flat : (p q : Parts) (c d : PartsPatch) (f : Flat) → GivesParts p c f → ArePatched p c q d → flat q ≡ f
+given_flat p q c d f given h =
+    same_flat (flat q) f
+    (h.kinds ∙ given.kinds) (h.starts ∙ given.starts)
+    (given_entries unpacked_statement raise_statement p.statements q.statements c.statements d.statements f.statements given.statements h.statements)
+    (given_entries unpacked_key_part raise_key p.keys q.keys c.keys d.keys f.keys given.keys h.keys)
+    (given_entries unpacked_value raise_value p.values q.values c.values d.values f.values given.values h.values)
 
 pub patch_undone : (p q : Parts) (c d : PartsPatch) → FitsParts p c → ArePatched p c q d → UndoesPatch d p q
 patch_undone p q c d fits h = record {
@@ -122,32 +149,34 @@ block_end b len more h e =
 
 module _ {E P : Type 0} (unpack : P → E) (raise : ℕ → E → E) (After : Counts → ℕ → E → Type 0) (moved : Counts → Counts → E → E) (right : MovesRight After moved raise) where
   pub patch_made : (v : PackedVec E P) (fresh : List E) (len : ℕ) (from to until : Counts) (a b end : ℕ) (c : Patch P)
-      → c.from ≡ a / 16 * 16 → IsRunOfPacked a b (length fresh) v → OnlyPlacesMove len to until → AllByRecursion (After to len) (drop b (entries unpack raise v))
+      → c.from ≡ a / 16 * 16 → IsFree (a / 16 * 16) end v.unfit → IsRunOf a b (length fresh) v → OnlyPlacesMove len to until → AllByRecursion (After to len) (drop b (entries unpack raise v))
       → BlockEnd b (length v.packed.items) end
       → map unpack c.run.items ≡ (map (moved nothing nothing) (slice_range (entries unpack raise v) (a / 16 * 16) a) ++ map (moved nothing from) fresh) ++ map (moved to until) (slice_range (entries unpack raise v) b end)
       → ((block : ℕ) → block < length v.packed.items / 16 + 1 → get_or c.moves.items block None ≡ move_after (a / 16) (b / 16 + 1) (step to.at until.at) v.moves.items block)
       → Gives unpack raise v c (take a (entries unpack raise v) ++ (map (moved nothing from) fresh ++ map (moved to until) (drop b (entries unpack raise v))))
-  patch_made v fresh len from to until a b end c at is places after ends run_is blocks = record {
+  patch_made v fresh len from to until a b end c at free is places after ends run_is blocks = record {
     fits = record { within = omega (arith, at, run_len, start, is.size, ends.after, ends.within) };
     gives =
-        ap (λ k. in_blocks raise c.moves.items 0 (map unpack (with_run v.packed.items k c.run.items))) at
-        ∙ patch_gives unpack raise (moved nothing nothing) (moved nothing from) (moved to until) (After to len) (step to.at until.at)
+        ap (λ k. in_blocks raise c.moves.items 0 (with_unfit v.unfit 0 (map unpack (with_run v.packed.items k c.run.items)))) at
+        ∙ ap (λ ys. in_blocks raise c.moves.items 0 ys) run_in
+        ∙ patch_gives raise (moved nothing nothing) (moved nothing from) (moved to until) (After to len) (step to.at until.at)
         right.stays (λ e h. right.once len to until e places h) (λ more e h. right.again more len to until e places h)
-        v.packed.items c.run.items v.moves.items c.moves.items fresh a b (a / 16 * 16) end
-        start (omega (arith, is.size)) ends.after ends.within is.size
-        (subst (λ xs. map unpack c.run.items ≡ (map (moved nothing nothing) (slice_range xs (a / 16 * 16) a) ++ map (moved nothing from) fresh) ++ map (moved to until) (slice_range xs b end)) whole run_is)
-        before inside later (subst (λ xs. AllByRecursion (After to len) (drop b xs)) whole after)
-        ∙ ap (λ xs. take a xs ++ (map (moved nothing from) fresh ++ map (moved to until) (drop b xs))) (sym whole);
+        xs (map unpack c.run.items) v.moves.items c.moves.items fresh a b (a / 16 * 16) end
+        start (omega (arith, is.size)) ends.after (omega (arith, ends.within, xs_len)) is.size run_is
+        before inside (λ i low high. later i low (omega (arith, high, xs_len))) after;
   }
     where
-      whole : entries unpack raise v ≡ in_blocks raise v.moves.items 0 (map unpack v.packed.items)
-      whole = ap (λ xs. in_blocks raise v.moves.items 0 (map unpack v.packed.items) ++ xs) is.packed ∙ append-nil (in_blocks raise v.moves.items 0 (map unpack v.packed.items))
+      xs : List E
+      xs = with_unfit v.unfit 0 (map unpack v.packed.items)
+
+      xs_len : length xs ≡ length v.packed.items
+      xs_len = unfit_length v.unfit 0 (map unpack v.packed.items) ∙ length-map v.packed.items unpack
 
       start : a / 16 * 16 ≤ a
       start = div-mul-le_self a 16
 
       count : length (entries unpack raise v) ≡ length v.packed.items
-      count = omega (arith, entries_length unpack raise v, ap length is.packed)
+      count = entries_length unpack raise v
 
       run_len : length c.run.items ≡ end - a / 16 * 16
       run_len =
@@ -168,6 +197,13 @@ module _ {E P : Type 0} (unpack : P → E) (raise : ℕ → E → E) (After : Co
             is.size,
             ends.after,
           )
+
+      run_in : with_unfit v.unfit 0 (map unpack (with_run v.packed.items (a / 16 * 16) c.run.items)) ≡ with_run xs (a / 16 * 16) (map unpack c.run.items)
+      run_in =
+          let s = a / 16 * 16 in
+          ap (λ ys. with_unfit v.unfit 0 ys) (map_run unpack v.packed.items s c.run.items)
+          ∙ unfit_run v.unfit s (map unpack v.packed.items) (map unpack c.run.items) (omega (arith, length-map v.packed.items unpack, start, is.size, is.within))
+          (λ i below above. free i below (omega (arith, above, length-map c.run.items unpack, run_len, start, is.size, ends.after)))
 
       low : (i : ℕ) → i / 16 * 16 ≤ i
       low i = div-mul-le_self i 16

@@ -135,3 +135,12 @@ pub end_written : (m : Option ℕ) (s : PackedValue) (after at : ℕ) → raise_
     → raise_by raise_value m (unpacked_value (record s { end = after })) ≡ with_end at (raise_by raise_value m (unpacked_value s))
 end_written None s after at e = ap (λ (n : ℕ). with_end n (unpacked_value s)) e
 end_written (Some by) s after at e = ap (λ (n : ℕ). with_end n (raise_value by (unpacked_value s))) e
+
+-- a value that is not packed, changed before its block moves it
+pub comma_raised : (m : Option ℕ) (v : ValueInfo) (after at : ℕ) → raise_by raise_place m after ≡ at → raise_by raise_value m (with_comma after v) ≡ with_comma at (raise_by raise_value m v)
+comma_raised None v after at e = ap (λ (n : ℕ). with_comma n v) e
+comma_raised (Some by) v after at e = ap (λ (n : ℕ). with_comma n (raise_value by v)) e
+
+pub end_raised : (m : Option ℕ) (v : ValueInfo) (after at : ℕ) → raise_by raise_place m after ≡ at → raise_by raise_value m (with_end after v) ≡ with_end at (raise_by raise_value m v)
+end_raised None v after at e = ap (λ (n : ℕ). with_end n v) e
+end_raised (Some by) v after at e = ap (λ (n : ℕ). with_end n (raise_value by v)) e

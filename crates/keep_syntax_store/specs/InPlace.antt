@@ -19,7 +19,7 @@ use Rattle.keep_syntax_store.specs.Shifting.{shifted_statement, shifted_key, shi
 use Rattle.keep_syntax_store.specs.Shifting.{CanShiftKey, CanShiftValue, IsShort, GrowLittle, IsSmallStatement}
 use Rattle.keep_syntax_store.specs.Shifting.{IsSmallValue}
 use Rattle.keep_syntax_store.specs.Exchanging.{HasRoom, Exchanged}
-use Rattle.keep_syntax_store.specs.PackedVec.{IsAllPacked, HasSameRest, IsRunOfPacked, Gives, IsWithin, IsPatched}
+use Rattle.keep_syntax_store.specs.PackedVec.{IsAllPacked, HasSameRest, IsRunOf, Gives, IsWithin, IsPatched}
 
 -- all is packed
 pub record IsPacked (p : Parts) : Type 0 where
@@ -163,13 +163,13 @@ pub record CanReplace (c : RunCounts) (p fresh : Parts) : Type 0 where
 
 -- ---- as many entries as there were
 
--- as many entries take the place of the run, so what comes after it moves by its places alone; all is packed
+-- as many entries take the place of the run, so what comes after it moves by its places alone
 pub record KeepsCounts (c : RunCounts) (p fresh : Parts) : Type 0 where
   pub places : OnlyPlacesMove c.len c.to c.until
-  pub statements : IsRunOfPacked
+  pub statements : IsRunOf
       c.from.statements c.to.statements (length (statements_in fresh.statements)) p.statements
-  pub keys : IsRunOfPacked c.from.keys c.to.keys (length (key_parts_in fresh.keys)) p.keys
-  pub values : IsRunOfPacked c.from.values c.to.values (length (values_in fresh.values)) p.values
+  pub keys : IsRunOf c.from.keys c.to.keys (length (key_parts_in fresh.keys)) p.keys
+  pub values : IsRunOf c.from.values c.to.values (length (values_in fresh.values)) p.values
 
 -- what is stored is f once it changed places with the patch
 pub record GivesParts (p : Parts) (c : PartsPatch) (f : Flat) : Type 0 where

@@ -9,6 +9,7 @@ pub mod Rereading
 pub mod Exchanging
 pub mod Shifting
 pub mod InPlace
+pub mod Unfit
 pub mod PackedVec
 pub mod Blocks
 pub mod Moving

@@ -1,21 +1,22 @@
--- What a list of entries stores: those in few bytes, each moved with its block, then the others.
+-- What a list of entries stores: those in few bytes and, by their numbers, the others, each moved with its block.
 use Rattle.std.specs.Prelude.{◌≡◌, ℕ, ◌+◌, ◌≤◌, List, [], ◌++◌, length, map, take, drop, slice_range}
 use Rattle.keep_syntax_store.specs.declared.packed_vec.PackedVec.{PackedVec}
 use Rattle.keep_syntax_store.specs.declared.patch.Patch.{Patch}
 use Rattle.keep_syntax_store.specs.Blocks.{in_blocks}
+use Rattle.keep_syntax_store.specs.Unfit.{with_unfit}
 
 -- its entries, where `unpack` gives the entry that was packed, and `raise` moves the places of one
 abbrev pub entries : {E P : Type 0} → (P → E) → (ℕ → E → E) → PackedVec E P → List E
-entries unpack raise v = in_blocks raise v.moves.items 0 (map unpack v.packed.items) ++ v.unpacked.items
+entries unpack raise v = in_blocks raise v.moves.items 0 (with_unfit v.unfit 0 (map unpack v.packed.items))
 
 -- all are packed, and no block is moved
 pub record IsAllPacked {E P : Type 0} (v : PackedVec E P) : Type 0 where
-  pub packed : v.unpacked.items ≡ []
+  pub packed : v.unfit ≡ []
   pub still : v.moves.items ≡ []
 
 -- what is not in few bytes, and how blocks are moved, is the same
 pub record HasSameRest {E P : Type 0} (v w : PackedVec E P) : Type 0 where
-  pub unpacked : w.unpacked.items ≡ v.unpacked.items
+  pub unfit : w.unfit ≡ v.unfit
   pub moves : w.moves.items ≡ v.moves.items
 
 -- ---- entries that change places with others
@@ -35,16 +36,17 @@ pub record IsPatched {E P : Type 0} (v : PackedVec E P) (c : Patch P) (w : Packe
   pub from : d.from ≡ c.from
   pub moves : w.moves.items ≡ c.moves.items
   pub back : d.moves.items ≡ v.moves.items
-  pub unpacked : w.unpacked.items ≡ v.unpacked.items
+  pub unfit : w.unfit ≡ v.unfit
 
--- a run of packed entries, as many as are to be in its place
-pub record IsRunOfPacked {E P : Type 0} (from to count : ℕ) (v : PackedVec E P) : Type 0 where
+-- a run of entries, as many as are to be in its place
+pub record IsRunOf {E P : Type 0} (from to count : ℕ) (v : PackedVec E P) : Type 0 where
   pub size : count + from ≡ to
   pub within : to ≤ length v.packed.items
-  pub packed : v.unpacked.items ≡ []
 
 -- the list has these entries once it changed places with the patch
 pub record Gives {E P : Type 0} (unpack : P → E) (raise : ℕ → E → E) (v : PackedVec E P) (c : Patch P) (es : List E)
     : Type 0 where
   pub fits : IsWithin v c
-  pub gives : in_blocks raise c.moves.items 0 (map unpack (with_run v.packed.items c.from c.run.items)) ≡ es
+  pub gives
+      : in_blocks raise c.moves.items 0 (with_unfit v.unfit 0 (map unpack (with_run v.packed.items c.from c.run.items)))
+      ≡ es

@@ -52,6 +52,14 @@ impl Entry for KeyPart {
         })
     }
 
+    fn stand_in() -> PackedKeyPart {
+        PackedKeyPart {
+            start: 0,
+            len: 0,
+            leaf: Leaf::Ws,
+        }
+    }
+
     fn unpacked(stored: &PackedKeyPart) -> KeyPart {
         let start = stored.start as usize;
         KeyPart {

@@ -13,6 +13,7 @@ mod rereading;
 mod shift;
 mod starts;
 mod statements;
+mod unfit;
 mod values;
 mod widths;
 

@@ -1,13 +1,14 @@
-//! Lists of a text's entries, stored in few bytes as far as they fit.
+//! Lists of a text's entries, each stored in few bytes where it fits.
 ghost use Rattle.std.specs.Prelude.{◌≡◌, ◌<◌, ◌≤◌, ◌++◌, ◌∷◌, [], None, Some, length, map, get_or, slice_get};
 ghost use Rattle.std.specs.Prelude.{slice_range, IfSome, OnOk, SomeIff};
 ghost use Rattle.std.specs.Bool.{Decides};
 ghost use Rattle.keep_syntax_store.specs.Moving.{MovesRight};
-ghost use Rattle.keep_syntax_store.specs.PackedVec.{IsAllPacked, IsRunOfPacked, entries};
+ghost use Rattle.keep_syntax_store.specs.PackedVec.{IsAllPacked, IsRunOf, entries};
 
 use crate::moves::Counts;
 use crate::rereading::nothing;
 use crate::shift::Shift;
+use crate::unfit::Unfit;
 use std::alloc::{AllocError, Global};
 
 /// How many packed entries are in a block.
@@ -38,6 +39,9 @@ pub trait Entry: Copy {
         ensures stored { IfSome result (λ stored. unpacked stored ≡ self.now) }
         ensures unpacked { result ≡ None → Fits self.now → ⊥ };
 
+    /// What stands among the packed entries for one that doesn't fit.
+    fn stand_in() -> Self::Packed;
+
     /// The entry that was packed.
     fn unpacked(stored: &Self::Packed) -> Self
         ensures { result ≡ unpacked stored.now };
@@ -51,13 +55,13 @@ pub trait Entry: Copy {
         ensures { result ≡ raise by self };
 }
 
-/// Entries in text order: those before the first that doesn't fit into few bytes, then the others. No number is too
-/// large to be stored. The places of packed entries are moved a block at a time: `moves` has a number for each block
-/// that is moved, and is empty while nothing was replaced.
+/// Entries in text order. One that doesn't fit into few bytes is in `unfit` by its number, with a stand-in at its place
+/// in `packed`, so no number is too large to be stored. The places of entries are moved a block at a time: `moves` has
+/// a number for each block that is moved, and is empty while nothing was replaced.
 #[derive(Drop)]
 pub struct PackedVec<T, P> {
     pub(crate) packed: Vec<P>,
-    pub(crate) unpacked: Vec<T>,
+    pub(crate) unfit: Unfit<T>,
     pub(crate) moves: Vec<Option<usize>>,
 }
 
@@ -68,7 +72,7 @@ impl<T: Entry> PackedVec<T, T::Packed> {
     {
         PackedVec {
             packed: Vec::new(alloc),
-            unpacked: Vec::new(alloc),
+            unfit: Unfit::new(alloc),
             moves: Vec::new(alloc),
         }
     }
@@ -77,7 +81,7 @@ impl<T: Entry> PackedVec<T, T::Packed> {
     pub fn len(&self) -> usize
         ensures { result ≡ length (entries T.unpacked T.raise self.now) }
     {
-        self.packed.len() + self.unpacked.len()
+        self.packed.len()
     }
 
     /// The entry with this number.
@@ -86,15 +90,29 @@ impl<T: Entry> PackedVec<T, T::Packed> {
         requires { number < length (entries T.unpacked T.raise self.now) }
         ensures { slice_get (entries T.unpacked T.raise self.now) number ≡ Some result }
     {
-        let packed = self.packed.len();
-        if number < packed {
-            let entry = T::unpacked(&self.packed[number]);
-            match block_move(&self.moves, number / BLOCK) {
-                Some(by) => entry.raised(by),
-                None => entry,
-            }
-        } else {
-            self.unpacked[number - packed]
+        if !self.unfit.ends_by(number) {
+            return self.get_among_unfit(number);
+        }
+        let entry = T::unpacked(&self.packed[number]);
+        match block_move(&self.moves, number / BLOCK) {
+            Some(by) => entry.raised(by),
+            None => entry,
+        }
+    }
+
+    /// The entry with this number, in whichever form it is stored.
+    #[inline(never)]
+    fn get_among_unfit(&self, number: usize) -> T
+        requires { number < length (entries T.unpacked T.raise self.now) }
+        ensures { slice_get (entries T.unpacked T.raise self.now) number ≡ Some result }
+    {
+        let entry = match self.unfit.find(number) {
+            Some(entry) => entry,
+            None => T::unpacked(&self.packed[number]),
+        };
+        match block_move(&self.moves, number / BLOCK) {
+            Some(by) => entry.raised(by),
+            None => entry,
         }
     }
 
@@ -104,13 +122,31 @@ impl<T: Entry> PackedVec<T, T::Packed> {
         ensures { OnOk result (entries T.unpacked T.raise self.new
             ≡ entries T.unpacked T.raise self.old ++ entry ∷ []) }
     {
-        if self.is_packed() {
+        if self.moves.is_empty() && self.unfit.ends_by(self.packed.len()) {
             if let Some(stored) = entry.packed() {
                 self.packed.push(stored)?;
                 return Ok(());
             }
         }
-        self.unpacked.push(entry)?;
+        self.push_unfit(entry)
+    }
+
+    /// Adds one more that isn't packed. A block that was moved takes none.
+    #[inline(never)]
+    fn push_unfit(&mut self, entry: T) -> Result<(), AllocError>
+        ensures { OnOk result (entries T.unpacked T.raise self.new
+            ≡ entries T.unpacked T.raise self.old ++ entry ∷ []) }
+    {
+        let number = self.packed.len();
+        if block_move(&self.moves, number / BLOCK).is_some() {
+            return Err(AllocError);
+        }
+        self.packed.push(T::stand_in())?;
+        if let Err(refused) = self.unfit.push(number, entry) {
+            // no stand-in without its entry
+            self.packed.pop();
+            return Err(refused);
+        }
         Ok(())
     }
 
@@ -137,11 +173,11 @@ impl<T: Entry> PackedVec<T, T::Packed> {
         Ok(())
     }
 
-    /// Whether all are packed, and the entries from a number up to another are so many.
+    /// Whether the entries from a number up to another are so many.
     pub fn is_run(&self, from: usize, to: usize, count: usize) -> bool
-        ensures { Decides result (IsRunOfPacked from to count self.now) }
+        ensures { Decides result (IsRunOf from to count self.now) }
     {
-        from <= to && to - from == count && to <= self.packed.len() && self.unpacked.is_empty()
+        from <= to && to - from == count && to <= self.packed.len()
     }
 
     /// Whether all are packed, and no block is moved.
@@ -149,7 +185,7 @@ impl<T: Entry> PackedVec<T, T::Packed> {
     pub fn is_packed(&self) -> bool
         ensures { Decides result (IsAllPacked self.now) }
     {
-        self.unpacked.is_empty() && self.moves.is_empty()
+        self.unfit.is_empty() && self.moves.is_empty()
     }
 
     /// Brings the moves of blocks into the entries. After a refusal the same is stored.

@@ -84,7 +84,7 @@ fn swap_range<T>(items: &mut [T], from: usize, run: &mut [T])
 
 impl<T: Entry> PackedVec<T, T::Packed> {
     /// The entries of the blocks that a run is in, with other entries in the place of the run, and all blocks after
-    /// them moved. None if they aren't all packed.
+    /// them moved. None if one of the entries in these blocks isn't packed.
     pub fn patch(
         &self,
         alloc: Global,
@@ -92,7 +92,7 @@ impl<T: Entry> PackedVec<T, T::Packed> {
         run: (usize, usize),
         counts: &RunCounts,
     ) -> Result<Option<Patch<T::Packed>>, AllocError>
-        requires run { spec.IsRunOfPacked run.0 run.1 (length (spec.entries T.unpacked T.raise fresh.now)) self.now }
+        requires run { spec.IsRunOf run.0 run.1 (length (spec.entries T.unpacked T.raise fresh.now)) self.now }
         requires places { OnlyPlacesMove counts.now.len counts.now.to counts.now.until }
         requires after { AllByRecursion (T.IsAfter counts.now.to counts.now.len)
             (drop run.1 (spec.entries T.unpacked T.raise self.now)) }
@@ -107,6 +107,9 @@ impl<T: Entry> PackedVec<T, T::Packed> {
         let after = to / BLOCK + 1;
         let count = self.packed.len();
         let end = to + (count - to).min(BLOCK - to % BLOCK);
+        if !self.unfit.is_free(first * BLOCK, end) {
+            return Ok(None);
+        }
         let zero = nothing();
         let mut all = PackedVec::new(alloc);
         all.append_moved(self, first * BLOCK, from, &zero, &zero)?;

@@ -73,6 +73,20 @@ impl Entry for Statement {
         })
     }
 
+    fn stand_in() -> PackedStatement {
+        PackedStatement {
+            kind: StatementKind::KeyVal,
+            has_value: false,
+            keys: 0,
+            before: 0,
+            after: 0,
+            line_start: 0,
+            end: 0,
+            first_key: 0,
+            value: 0,
+        }
+    }
+
     fn unpacked(stored: &PackedStatement) -> Statement {
         let line_start = stored.line_start as usize;
         let end = stored.end as usize;

@@ -121,6 +121,24 @@ impl Entry for ValueInfo {
         })
     }
 
+    fn stand_in() -> PackedValue {
+        PackedValue {
+            leaf: Leaf::Ws,
+            within: Within::Line,
+            depth: 0,
+            has_before: false,
+            has_after: false,
+            keys: 0,
+            anchor: 0,
+            owner: 0,
+            first_key: 0,
+            gap: 0,
+            lead: 0,
+            end: 0,
+            after: 0,
+        }
+    }
+
     fn unpacked(stored: &PackedValue) -> ValueInfo {
         let anchor = stored.anchor as usize;
         let start = anchor + stored.gap as usize;
@@ -170,14 +188,14 @@ impl PackedVec<ValueInfo, PackedValue> {
         ensures change { spec.Changes (spec.with_comma at) number (entries spec.unpacked_value raise_value self.old)
             (entries spec.unpacked_value raise_value self.new) }
     {
-        let packed = self.packed.len();
-        if number < packed {
-            let after = lowered(at, block_move(&self.moves, number / BLOCK));
+        let after = lowered(at, block_move(&self.moves, number / BLOCK));
+        if let Some(mut value) = self.unfit.find(number) {
+            value.comma_after = Some(after);
+            self.unfit.set(number, value);
+        } else {
             let value = &mut self.packed[number];
             value.has_after = true;
             value.after = after;
-        } else {
-            self.unpacked[number - packed].comma_after = Some(at);
         }
     }
 
@@ -187,13 +205,13 @@ impl PackedVec<ValueInfo, PackedValue> {
         ensures change { spec.Changes (spec.with_end end) number (entries spec.unpacked_value raise_value self.old)
             (entries spec.unpacked_value raise_value self.new) }
     {
-        let packed = self.packed.len();
-        if number < packed {
-            self.packed[number].end = lowered(end, block_move(&self.moves, number / BLOCK));
-        } else {
-            let value = &mut self.unpacked[number - packed];
+        let end = lowered(end, block_move(&self.moves, number / BLOCK));
+        if let Some(mut value) = self.unfit.find(number) {
             value.span.end = end;
             value.whole.end = end;
+            self.unfit.set(number, value);
+        } else {
+            self.packed[number].end = end;
         }
     }
 }

@@ -75,8 +75,8 @@ impl Parts {
         Ok(kinds)
     }
 
-    /// What puts other parts in the place of a run, after which the text goes on at `counts.until`. None if they aren't
-    /// all packed.
+    /// What puts other parts in the place of a run, after which the text goes on at `counts.until`. None if an entry
+    /// of the blocks that are rewritten isn't packed.
     pub(crate) fn patch(
         &self,
         alloc: Global,

@@ -29,4 +29,4 @@ returns c = sym (c.loop-number.invariant ∙ keyval_end (values_of c.args.syntax
 pub overflow_step-number : goal.overflow_step-number
 overflow_step-number c =
     let vs = c.args.syntax.now.parts.values in
-    omega (arith, c.requires, entries_length unpacked_value raise_value vs, vs.packed.ok.0, vs.packed.ok.1, vs.packed.small, vs.unpacked.ok.0, vs.unpacked.ok.1, vs.unpacked.small)
+    omega (arith, c.requires, entries_length unpacked_value raise_value vs, vs.packed.ok.0, vs.packed.ok.1, vs.packed.small)

@@ -11,4 +11,4 @@ returns c = c.body_end.ensures ∙ sym (section_ends c.args.number _ c.statement
 pub overflow_add-number : goal.overflow_add-number
 overflow_add-number c =
     let ss = c.args.syntax.now.parts.statements in
-    omega (arith, c.requires, entries_length unpacked_statement raise_statement ss, ss.packed.ok.0, ss.packed.ok.1, ss.packed.small, ss.unpacked.ok.0, ss.unpacked.ok.1, ss.unpacked.small)
+    omega (arith, c.requires, entries_length unpacked_statement raise_statement ss, ss.packed.ok.0, ss.packed.ok.1, ss.packed.small)

@@ -96,4 +96,4 @@ returns-in_err-read_nested c =
 pub overflow_add-number : goal.overflow_add-number
 overflow_add-number c =
     let vs = c.args.parts.now.values in
-    omega (arith, slice_get_within (flat c.args.parts.now).values c.args.number c.value-value.result c.value-value.ensures, entries_length unpacked_value raise_value vs, vs.packed.ok.0, vs.packed.ok.1, vs.packed.small, vs.unpacked.ok.0, vs.unpacked.ok.1, vs.unpacked.small)
+    omega (arith, slice_get_within (flat c.args.parts.now).values c.args.number c.value-value.result c.value-value.ensures, entries_length unpacked_value raise_value vs, vs.packed.ok.0, vs.packed.ok.1, vs.packed.small)

@@ -37,6 +37,6 @@ returns g c = λ right.
     ∙ ap (λ (z : Counts). map (moved z z) (slice_range es (a / 16 * 16) a)) c.nothing-zero.ensures)
     ∙ ap (λ (z : Counts). map (moved nothing nothing) (slice_range es (a / 16 * 16) a) ++ map (moved z k.from) (slice_range fresh 0 c.len.result)) c.nothing-zero.ensures
     ∙ ap (λ xs. map (moved nothing nothing) (slice_range es (a / 16 * 16) a) ++ map (moved nothing k.from) xs) (ap (λ n. slice_range fresh 0 n) c.len.ensures ∙ range_whole fresh)) in
-    patch_made un raise g.T.Entry.IsAfter moved right v fresh k.len k.from k.to k.until a b end (record { from = a / 16 * 16; run = c.append_moved-3.new.self.packed; moves = c.in_ok-moves.moves }) refl
+    patch_made un raise g.T.Entry.IsAfter moved right v fresh k.len k.from k.to k.until a b end (record { from = a / 16 * 16; run = c.append_moved-3.new.self.packed; moves = c.in_ok-moves.moves }) refl (c.if-not-is_free.ensures refl)
     c.requires.run c.requires.places c.requires.after (block_end b (length v.packed.items) c.min.result c.requires.run.within (c.min.ensures ∙ ap (λ n. min (n - b) (16 - b % 16)) count)) run_is
     (λ block h. c.in_ok-moves.ensures block (omega (arith, h, ap (λ n. n / 16) count)))

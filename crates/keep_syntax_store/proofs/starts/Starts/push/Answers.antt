@@ -1,4 +1,4 @@
-use Rattle.std.proofs.Common.{◌≡◌, ℕ, ◌-◌, ◌<◌, ◌≤◌, refl, sym, ap, ◌∙◌, ◌∷◌, ◌++◌, [], arith}
+use Rattle.std.proofs.Common.{◌-◌, ◌<◌, refl, sym, ap, ◌∙◌, ◌∷◌, ◌++◌, [], arith}
 use Rattle.std.proofs.lemmas.List.{append-nil}
 use Rattle.keep_syntax_store.specs.declared.starts.TheConstants.{FAR}
 use Rattle.keep_syntax_store.proofs.StartLaws.{IsMore, near_more, stored_more}

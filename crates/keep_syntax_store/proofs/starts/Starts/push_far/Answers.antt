@@ -1,4 +1,4 @@
-use Rattle.std.proofs.Common.{refl, sym, ap, ◌∙◌, ◌∷◌, ◌++◌, [], arith}
+use Rattle.std.proofs.Common.{refl, ap, ◌∙◌, ◌∷◌, ◌++◌, [], arith}
 use Rattle.keep_syntax_store.specs.declared.starts.TheConstants.{FAR}
 use Rattle.keep_syntax_store.proofs.StartLaws.{IsMore, far_more, stored_more}
 use Rattle.keep_syntax_store.proofs.MilestoneLaws.{milestones_stay}
