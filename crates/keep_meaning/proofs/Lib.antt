@@ -20,6 +20,8 @@ pub mod FoundLemmas
 pub mod MetLineLemmas
 pub mod LineLaws
 pub mod LineFoundLaws
+pub mod OtherValueLemmas
+pub mod OtherValueLaws
 pub mod BodyLaws
 pub mod HeaderLaws
 pub mod Shared

@@ -113,7 +113,7 @@ abbrev pub fitting : Option ℕ → Option ℕ → Option ℕ → Option ℕ →
 fitting v t e h d s =
     first_that_fits (option_map origin.Value v ∷ option_map (λ i. origin.Tables) t ∷ option_map origin.Element e ∷ option_map origin.Header h ∷ option_map origin.Dotted d ∷ option_map origin.Through s ∷ [])
 
-fitting_later : (f g : ℕ → ℕ) (v t e h d s : Option ℕ) → fitting (option_map g v) (option_map f t) (option_map f e) (option_map f h) (option_map g d) (option_map f s) ≡ renumbered_origin f g (fitting v t e h d s)
+pub fitting_later : (f g : ℕ → ℕ) (v t e h d s : Option ℕ) → fitting (option_map g v) (option_map f t) (option_map f e) (option_map f h) (option_map g d) (option_map f s) ≡ renumbered_origin f g (fitting v t e h d s)
 fitting_later f g (Some v) t e h d s = refl
 fitting_later f g None (Some t) e h d s = refl
 fitting_later f g None None (Some e) h d s = refl
@@ -232,7 +232,7 @@ all_filter P test (x ∷ xs) h = by (test x) (all_filter P test xs h.1)
     by true more = (h.0, more)
     by false more = more
 
-map_same : {A B : Type 0} (g h : A → B) (xs : List A) → AllOf (λ (y : A). g y ≡ h y) xs → map g xs ≡ map h xs
+pub map_same : {A B : Type 0} (g h : A → B) (xs : List A) → AllOf (λ (y : A). g y ≡ h y) xs → map g xs ≡ map h xs
 map_same g h [] e = refl
 map_same g h (x ∷ xs) e = ap₂ (λ z l. z ∷ l) e.0 (map_same g h xs e.1)
 

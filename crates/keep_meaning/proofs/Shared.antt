@@ -6,11 +6,12 @@ pub use Rattle.keep_meaning.proofs.FaultLemmas.{StatesEdits, first_fault_after-s
 pub use Rattle.keep_meaning.proofs.NumberLemmas.{count_after-keys, count_after-values, count_from-keys, count_from-statements, length-entries_values, numbered_from-append, one_mark, statements-count, valued, valued-append, valued-below, valued-content, valued-entries, valued-keyed}
 pub use Rattle.keep_meaning.proofs.FactLemmas.{first_number-more, last_number-more, marks-more, or_number, passed-more}
 pub use Rattle.keep_meaning.proofs.PlaceLemmas.{length-entries_parts, length-named, marked, marked-append, marked-below, marked-content, marked-entries, marked-keyed, marked-parts, marked-parts_in, marked-prefixes}
-pub use Rattle.keep_meaning.proofs.CountLemmas.{lines_mentions-statements, mentions-numbered_from, mentions-numbered_in, mentions-numbered_mentions, node_at-elsewhere, numbered_mentions-append, paths-nodes_in, mentions_in-statements}
+pub use Rattle.keep_meaning.proofs.CountLemmas.{lines_mentions-statements, mentions-numbered_from, mentions-numbered_in, mentions-numbered_mentions, node_at-elsewhere, numbered_mentions-append, paths-nodes, paths-nodes_in, mentions_in-statements}
 pub use Rattle.keep_meaning.proofs.DecodeLaws.{means_value}
 pub use Rattle.keep_meaning.proofs.BoundLaws.{mentions_few, nodes_few}
 pub use Rattle.keep_meaning.proofs.BodyLaws.{body_has_no_element, body_is_node, tables_are_nodes}
 pub use Rattle.keep_meaning.proofs.LineLaws.{few_before, line_adds_node, line_takes_node}
 pub use Rattle.keep_meaning.proofs.LineFoundLaws.{line_is_found}
+pub use Rattle.keep_meaning.proofs.OtherValueLaws.{value_gives_nodes}
 pub use Rattle.keep_meaning.proofs.MetLemmas.{node_met}
 pub use Rattle.keep_meaning.proofs.HeaderLaws.{element_has_key, element_has_no_element, element_is_new, element_is_node, header_has_key, root_has_no_element, table_is_node}

@@ -6,6 +6,7 @@ pub mod Counts
 pub mod Nodes
 pub mod LinesMore
 pub mod StatementsMore
+pub mod OtherValues
 pub mod Faults
 pub mod ReadText
 pub mod Laws

@@ -1,5 +1,6 @@
 //! Laws of what strings mean and of which nodes there are, each the contract of a function that does nothing.
 ghost use Rattle.keep_meaning.specs.Laws as spec;
+ghost use Rattle.keep_meaning.specs.OtherValues.{ValueGivesNodes};
 
 /// A string or a key part means, by the pieces that it is made of, what is computed from its text byte by byte.
 pub fn string_value_is_meaning()
@@ -23,4 +24,12 @@ pub fn line_more()
 /// rules, those from its place on, and no others, are first met after the line.
 pub fn line_found()
     ensures { spec.LineIsFound }
+{}
+
+/// Of a document that has another value with a key at a path, and says all else as the old one, the facts about all
+/// nodes are those of the old one, with the nodes in the new value in the place of those in the old value, which are
+/// right after the node of the path: the numbers of values and of key parts after the value change, and so does that
+/// node's kind.
+pub fn other_value_nodes()
+    ensures { ValueGivesNodes }
 {}

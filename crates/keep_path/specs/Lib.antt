@@ -4,3 +4,4 @@ pub mod PathText
 pub mod Step
 pub mod PathReading
 pub mod NodeInfos
+pub mod NodesBelow
