@@ -13,6 +13,7 @@ pub mod TreeLemmas
 pub mod PackedLemmas
 pub mod RenumberingLemmas
 pub mod RenumberedBackLemmas
+pub mod BelowFactsLemmas
 pub mod RunLemmas
 pub mod MovedListLemmas
 pub mod MovedTrieLemmas
@@ -29,6 +30,11 @@ pub mod RemovedRunLemmas
 pub mod RemovedKeyLemmas
 pub mod RemovedLinkLemmas
 pub mod RemovedRowLemmas
+pub mod SplicedLemmas
+pub mod ShiftedLemmas
+pub mod ShiftedLinkLemmas
+pub mod ReplacedNodeLemmas
+pub mod ReplacedStoredLemmas
 pub mod KeyBelowLemmas
 pub mod InsertedLemmas
 pub mod RemovedPathLemmas
@@ -36,4 +42,12 @@ pub mod RemovedTrieLemmas
 pub mod RemovedReadLemmas
 pub mod RemovedNodeLemmas
 pub mod RemovedTreeLemmas
+pub mod AscendingLemmas
+pub mod BelowRowLemmas
+pub mod BelowStoredLemmas
+pub mod BelowReadyLemmas
+pub mod ReplacedRowLemmas
+pub mod BelowPathLemmas
+pub mod BelowTrieLemmas
+pub mod BelowTreeLemmas
 pub mod Shared

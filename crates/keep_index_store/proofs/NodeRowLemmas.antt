@@ -37,7 +37,7 @@ rows_set (m ∷ nodes) [] i n e paired = absurd (omega (arith, paired))
 rows_set (m ∷ nodes) (h ∷ links) zero n e paired = refl
 rows_set (m ∷ nodes) (h ∷ links) (suc i) n e paired = ap (λ (xs : List Node). node_row m h ∷ xs) (rows_set nodes links i n e (omega (arith, paired)))
 
-rows_take : (nodes : List StoredNode) (links : List ParentLink) (n : ℕ) → node_rows (take n nodes) (take n links) ≡ take n (node_rows nodes links)
+pub rows_take : (nodes : List StoredNode) (links : List ParentLink) (n : ℕ) → node_rows (take n nodes) (take n links) ≡ take n (node_rows nodes links)
 rows_take nodes links zero = refl
 rows_take [] links (suc n) = refl
 rows_take (m ∷ nodes) [] (suc n) = refl

@@ -49,7 +49,7 @@ module _ (packed : List PackedLink) (unpacked all : List ParentLink) (view : lin
   none_unpacked =
       all_packed packed unpacked large (subst (λ (hs : List ParentLink). All FitsIn32Bits hs) (sym view) small)
 
-  packed_seen : map link_of packed ≡ all
+  pub packed_seen : map link_of packed ≡ all
   packed_seen = sym (append-nil (map link_of packed)) ∙ ap (links_in packed) (sym none_unpacked) ∙ view
 
   pub packed_count : length packed ≡ length all

@@ -16,6 +16,10 @@ pub mod Stored
 pub mod Tree
 pub mod Moved
 pub mod Removed
+pub mod Below
+pub mod ValueShifts
+pub mod Shifting
+pub mod Replacing
 pub mod Joined
 pub mod Inserted
 pub use Rattle.keep_path.specs.Path

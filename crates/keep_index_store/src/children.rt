@@ -4,19 +4,23 @@ ghost use Rattle.std.specs.Prelude.{length, option_copied, option_map, slice_get
 ghost use Rattle.std.specs.Bool.{Decides};
 ghost use Rattle.std.specs.List.{remove};
 ghost use Rattle.keep_index_store.specs.AllNodes.{and_key, and_item, with_key};
+ghost use Rattle.keep_index_store.specs.Below.{shifted_children};
 ghost use Rattle.keep_index_store.specs.ChildForms.{children_in};
 ghost use Rattle.keep_index_store.specs.Children.{Keyed, holding, no_children, holds_of, named, child_ids, child_named};
 ghost use Rattle.keep_index_store.specs.Children.{child_numbered};
 ghost use Rattle.keep_index_store.specs.Moved.{CanMove, moved_children, with_last_at};
 ghost use Rattle.keep_index_store.specs.Removed.{HasNoItem, earlier_children};
+ghost use Rattle.keep_index_store.specs.Replacing.{CanShiftChildren};
 ghost use Rattle.keep_index_store.specs.Trie.{by_key, by_index};
 
 use crate::key_map::KeyMap;
 use crate::moved::{number_then, renumber_all};
 use crate::removed::renumber_earlier;
 use crate::renumbering::earlier_number;
+use crate::replaced::{shift_ids, shifted};
 use crate::run;
 use crate::seed::Seed;
+use crate::shift::Shift;
 use crate::stored_key::StoredKey;
 use std::alloc::{AllocError, Global};
 use std::marker::Model;
@@ -293,6 +297,20 @@ impl Children {
             Form::Keys(keys) => keys.renumber_earlier(at),
             Form::Run { len, first } => *first = run::first_earlier(*len, *first, at),
             Form::Items(items) => renumber_earlier(items.as_mut_slice(), at),
+        }
+    }
+
+    /// Moves the number of each child. It takes no memory.
+    pub fn shift(&mut self, by: Shift)
+        requires { CanShiftChildren by self.old }
+        ensures { self.new ≡ shifted_children by self.old }
+    {
+        match &mut self.form {
+            Form::Nothing | Form::NoKeys => {}
+            Form::OneKey(only) => only.child = shifted(only.child, by),
+            Form::Keys(keys) => keys.shift(by),
+            Form::Run { len, first } => *first = run::first_shifted(*len, *first, by),
+            Form::Items(items) => shift_ids(items.as_mut_slice(), by),
         }
     }
 }

@@ -4,13 +4,17 @@ ghost use Rattle.std.specs.Prelude.{All, length, map, option_copied, option_map,
 ghost use Rattle.std.specs.List.{remove};
 ghost use Rattle.std.specs.Map.{lookup};
 ghost use Rattle.indexmap.specs.IndexMap.{spare};
+ghost use Rattle.keep_index_store.specs.Below.{shifted_by};
 ghost use Rattle.keep_index_store.specs.KeyMaps.{with_key_at};
 ghost use Rattle.keep_index_store.specs.Moved.{moved_number, with_last_at};
+ghost use Rattle.keep_index_store.specs.Replacing.{CanShift};
 ghost use Rattle.keep_path.specs.NodeInfos as spec;
 
 use crate::moved::number_then;
 use crate::renumbering::earlier_number;
+use crate::replaced::shifted;
 use crate::seed::Seed;
+use crate::shift::Shift;
 use crate::stored_key::StoredKey;
 use indexmap::IndexMap;
 use std::alloc::{AllocError, Global};
@@ -152,6 +156,17 @@ impl KeyMap {
         for number in 0..self.table.len() {
             let child = &mut self.table[number];
             *child = earlier_number(at, *child);
+        }
+    }
+
+    /// Moves the number of each child.
+    pub fn shift(&mut self, by: Shift)
+        requires { All (λ e. CanShift by e.1) self.old }
+        ensures { self.new ≡ map (λ e. (e.0, shifted_by by e.1)) self.old }
+    {
+        for number in 0..self.table.len() {
+            let child = &mut self.table[number];
+            *child = shifted(*child, by);
         }
     }
 }

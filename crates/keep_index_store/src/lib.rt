@@ -10,12 +10,16 @@ mod nodes;
 mod packed;
 mod removed;
 mod renumbering;
+mod replaced;
 mod run;
 mod seed;
+mod shift;
+mod splicing;
 mod stored_key;
 mod tree;
 
 pub use children::Holds;
 pub use facts::{NodeFacts, OriginKind};
 pub use renumbering::LineNumbers;
+pub use shift::Totals;
 pub use tree::{Join, NotInPlace, Tree};

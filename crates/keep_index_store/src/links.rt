@@ -7,7 +7,10 @@ ghost use Rattle.keep_index_store.specs.Moved.{moved_link, moved_number, with_la
 ghost use Rattle.keep_index_store.specs.Removed.{earlier_link};
 ghost use Rattle.keep_path.specs.NodeInfos.{earlier_number, later_number};
 
+mod replacing;
+
 use crate::moved::move_last_to;
+pub use replacing::replace_links;
 use std::alloc::{AllocError, Global};
 use std::marker::Model;
 
@@ -31,7 +34,7 @@ pub struct NewPlace {
 
 /// A parent link in 8 bytes.
 #[derive(Clone, Copy)]
-struct PackedLink {
+pub struct PackedLink {
     parent: u32,
     number: u32,
 }

@@ -14,9 +14,13 @@ ghost use Rattle.keep_index_store.specs.declared.nodes.Node.{Node as StoredNode}
 ghost use Rattle.keep_index_store.specs.Stored.{IsStored};
 ghost use Rattle.keep_index_store.specs.Trie.{by_key, by_index};
 
+mod below;
 mod joining;
 mod removing;
 mod renumbering;
+mod replacing;
+mod shifting;
+mod taking_in;
 
 use crate::children::{Children, Holds};
 use crate::facts::NodeFacts;

@@ -1,11 +1,15 @@
 //! Runs: children whose numbers are consecutive, stored as how many they are and the first of them.
 ghost use Rattle.std.specs.Prelude.{◌≡◌, ◌≤◌, ◌<◌, ◌+◌, ◌-◌, ◌^◌, ◌++◌, ◌∷◌, [], IfNone, IfOk, IfSome, IsSome};
-ghost use Rattle.std.specs.Prelude.{◌≢◌, All, map, slice_get, slice_index_or};
+ghost use Rattle.std.specs.Prelude.{◌≢◌, ◌⊎◌, All, map, slice_get, slice_index_or};
 ghost use Rattle.keep_path.specs.NodeInfos as spec;
+ghost use Rattle.keep_index_store.specs.Below.{shifted_by};
 ghost use Rattle.keep_index_store.specs.Moved.{IsApart, moved_number};
+ghost use Rattle.keep_index_store.specs.Replacing.{CanShift};
 ghost use Rattle.keep_index_store.specs.Runs.{consecutive};
 
 use crate::renumbering::earlier_number;
+use crate::replaced::shifted;
+use crate::shift::Shift;
 use std::alloc::{AllocError, Global};
 
 /// The run with one child more, if that is still a run: if the child is the next node, or the first child.
@@ -93,4 +97,20 @@ pub fn first_earlier(len: u32, first: usize, at: usize) -> usize
     ensures fits { result + len ≤ 2 ^ 64 }
 {
     earlier_number(at, first)
+}
+
+/// The first child of a run where the numbers of nodes are moved. All children come before the first number that is
+/// moved, or none does, so the run stays a run.
+pub fn first_shifted(len: u32, first: usize, by: Shift) -> usize
+    requires fits { first + len ≤ 2 ^ 64 }
+    requires can { All (CanShift by) (consecutive first len) }
+    requires sides { All (λ id. id < by.from) (consecutive first len)
+        ⊎ All (λ id. by.from ≤ id) (consecutive first len) }
+    ensures run { consecutive result len ≡ map (shifted_by by) (consecutive first len) }
+    ensures fits { result + len ≤ 2 ^ 64 }
+{
+    if len == 0 {
+        return first;
+    }
+    shifted(first, by)
 }

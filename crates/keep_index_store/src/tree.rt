@@ -15,6 +15,7 @@ mod inserting;
 mod joining;
 mod removing;
 mod renumbering;
+mod replacing;
 
 use crate::children::Holds;
 use crate::facts::NodeFacts;

@@ -1,0 +1,33 @@
+use Rattle.std.proofs.Common.{◌<◌, length, get_or, refl, arith}
+use Rattle.keep_index_store.specs.declared.links.PackedLink.{PackedLink}
+use Rattle.keep_index_store.specs.Replacing.{shifted_link}
+use Rattle.keep_index_store.proofs.MovedLinkLemmas.{links_more, rest_more}
+use Rattle.keep_index_store.proofs.ShiftedLinkLemmas.{can_here, link_next}
+use Rattle.keep_index_store.proofs.links.replacing.shift_links.Goals as goal
+
+pub shifted-requires : goal.shifted-requires
+shifted-requires c =
+    let none : PackedLink = record { parent = 0; number = 0 } in
+    let low : c.loop-link.link-index < length c.args.links.now = omega (arith, c.loop-link-test.true) in
+    (can_here c.args.by c.args.links.now _ c.loop-link.link-index none c.requires c.loop-link.invariant.1 low).0
+
+pub overflow_cast-link-in-loop-link : goal.overflow_cast-link-in-loop-link
+overflow_cast-link-in-loop-link c =
+    let none : PackedLink = record { parent = 0; number = 0 } in
+    let low : c.loop-link.link-index < length c.args.links.now = omega (arith, c.loop-link-test.true) in
+    let can = can_here c.args.by c.args.links.now _ c.loop-link.link-index none c.requires c.loop-link.invariant.1 low in
+    omega (arith, can.1.0, c.shifted.ensures)
+
+pub loop-link-preserved : goal.loop-link-preserved
+loop-link-preserved c =
+    let none : PackedLink = record { parent = 0; number = 0 } in
+    let old = c.args.links.now in
+    let links = c.loop-link.links in
+    let i = c.loop-link.link-index in
+    let low : i < length old = omega (arith, c.loop-link-test.true) in
+    let h : PackedLink = get_or links i none in
+    let next : PackedLink = record { parent = c.shifted.result; number = h.number } in (
+      links_more (shifted_link c.args.by) old links i next none low c.loop-link.invariant.0
+          (link_next c.args.by h next c.shifted.ensures refl),
+      rest_more old links i next c.loop-link.invariant.1,
+    )
