@@ -7,7 +7,8 @@
 -- count of marks in a machine word does not overflow, as fewer than 2^64 marks are assumed, and a value's path has no
 -- node yet (`ValuesAreNew`).
 --
--- Theorems: `all_infos`: the facts of all nodes; `values_new_in`: those of a document.
+-- Theorems: `all_infos`: the facts of all nodes; `values_new_in`: those of a document; `values_new_of`: all nodes, of any
+-- mentions.
 use Rattle.std.proofs.Common.{◌≡◌, ◌≢◌, ℕ, ◌<◌, ◌≤◌, Bool, true, false, cond, ◌||◌, ◌⊎◌, List, [], ◌∷◌, ◌++◌, length, get_or, set, map, refl, sym, ap, subst, ◌∙◌, arith, inl, inr, Some, None}
 use Rattle.std.specs.Prelude.{◌^◌, Contains, AllPairs}
 use Rattle.std.specs.List.{list_any, count_by, position_or_len}
@@ -23,12 +24,12 @@ use Rattle.keep_path.specs.Path.{Part, same_path}
 use Rattle.keep_meaning.specs.Marks.{marks}
 use Rattle.keep_meaning.specs.Meaning.{mentions_in}
 use Rattle.keep_meaning.specs.Counts.{Numbered, is_value, is_mark, one_if, numbered_in}
-use Rattle.keep_meaning.specs.Nodes.{paths_with, node_paths, node_number, numbered_at, is_numbered_at, mention_of, mentioned_node, Node, node_at, nodes_of, node_info, infos_in}
+use Rattle.keep_meaning.specs.Nodes.{paths_with, node_paths, node_number, numbered_at, is_numbered_at, mention_of, mentioned_node, Node, node_at, nodes_of, node_info, node_path, infos_in}
 use Rattle.keep_path.specs.NodeInfos.{NodeInfos, no_info, root_infos}
 use Rattle.keep_index_store.specs.Facts.{joined_info}
 use Rattle.keep_rules.specs.MentionInfos.{with_info, with_info_at, with_mentions, mention_info, paths_after, ValuesAreNew}
 use Rattle.keep_path.proofs.Shared.{path_decides}
-use Rattle.keep_meaning.proofs.Shared.{mentions-numbered_in, node_at-elsewhere, one_mark}
+use Rattle.keep_meaning.proofs.Shared.{mentions-numbered_in, node_at-elsewhere, one_mark, paths-nodes}
 use Rattle.keep_rules.proofs.RoleStateLemmas.{one_place}
 use Rattle.keep_rules.proofs.MentionInfoLemmas.{paths_after-append}
 use Rattle.keep_rules.proofs.NodeInfoLemmas.{node_joined}
@@ -283,3 +284,11 @@ values_new_in s few new =
     let mentioned : map mention_of (numbered_in s) ≡ mentions_in s = mentions-numbered_in s in
     all_infos (numbered_in s) (omega (arith, count-marks (numbered_in s), ap (λ ms. length (marks ms)) mentioned)) new
     ∙ ap (λ ms. record { paths = node_paths ms; infos = infos_in s }) mentioned
+
+-- ---- of any mentions
+
+pub values_new_of : (ns : List Numbered) → length (marks (map mention_of ns)) < 2 ^ 64 → ValuesAreNew ([] ∷ []) ns
+    → with_mentions root_infos ns ≡ record { paths = map node_path (nodes_of ns); infos = map node_info (nodes_of ns) }
+values_new_of ns few new =
+    all_infos ns (omega (arith, count-marks ns)) new
+    ∙ ap (λ ps. let t : NodeInfos = record { paths = ps; infos = map node_info (nodes_of ns) } in t) (sym (paths-nodes ns (node_paths (map mention_of ns))))

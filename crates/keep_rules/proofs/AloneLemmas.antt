@@ -1,5 +1,5 @@
 -- A value alone.
-use Rattle.std.proofs.Common.{◌≡◌, ℕ, zero, suc, ◌+◌, ◌<◌, List, [], ◌∷◌, ◌++◌, length, get_or, slice_get, refl, sym, ◌∙◌, ap, subst, arith, Some, None}
+use Rattle.std.proofs.Common.{◌≡◌, ℕ, zero, suc, ◌+◌, ◌<◌, ◌^◌, List, [], ◌∷◌, ◌++◌, length, map, get_or, slice_get, refl, sym, ◌∙◌, ap, subst, arith, Some, None}
 use Rattle.std.specs.List.{AllZip}
 use Rattle.std.proofs.lemmas.List.{append-nil}
 use Rattle.keep_types.specs.declared.leaf.Profile.{Profile}
@@ -18,11 +18,16 @@ use Rattle.keep_meaning.specs.Rules.{ObeysRules, IsFirstFaulty}
 use Rattle.keep_meaning.specs.Marks as marks
 use Rattle.keep_meaning.specs.Marks.{Mention}
 use Rattle.keep_meaning.specs.Meaning.{body_fact, entries_mentions, mentions_of_value}
+use Rattle.keep_meaning.specs.Counts.{Count, Numbered, numbered_mentions}
+use Rattle.keep_meaning.specs.Nodes.{mention_of}
+use Rattle.keep_meaning.specs.OtherValues.{nodes_in_value}
 use Rattle.keep_meaning.specs.Faults.{parts_in}
 use Rattle.keep_rules.specs.NestedValues.{NestedValue, nested_values, holding_of, all_nested_mentions, value_nesting}
 use Rattle.keep_index_store.specs.Trie.{TrieNode, Holding}
 use Rattle.keep_rules.specs.Tables.{is_tables}
-use Rattle.keep_index_store.specs.Tree.{TrieInfos, IsRoot}
+use Rattle.keep_index_store.specs.Tree.{TrieInfos, IsRoot, node_infos}
+use Rattle.keep_path.specs.NodeInfos.{NodeInfos, root_infos}
+use Rattle.keep_rules.specs.MentionInfos.{with_mentions, ValuesAreNew}
 use Rattle.keep_rules.specs.Reads.{IsValueNode, AreValueNodes}
 use Rattle.keep_rules.specs.DefineFaults.{FaultMeets}
 use Rattle.keep_rules.specs.FlatValues.{leaf_holding, MatchesNested, MatchAlone}
@@ -31,7 +36,8 @@ use Rattle.keep_rules.specs.ReadDocuments.{ValueObeys, IsValueRefusal, IsFaultAt
 use Rattle.keep_rules.proofs.FirstKeyLemmas.{nested_count, first_keys, AreFrom, match_nested}
 use Rattle.keep_rules.proofs.FlatValueLemmas.{alone_matches}
 use Rattle.keep_rules.proofs.NestedValueLemmas.{value_nested-mentions}
-use Rattle.keep_meaning.proofs.Shared.{length-entries_values, marked-parts_in}
+use Rattle.keep_meaning.proofs.Shared.{length-entries_values, marked-parts_in, mentions-numbered_mentions}
+use Rattle.keep_rules.proofs.AllInfoLemmas.{values_new_of}
 use Rattle.keep_rules.proofs.BuildLemmas.{meets_weaker}
 use Rattle.keep_rules.proofs.RootLemmas.{rooted_represents, first_low, fault_placed}
 use Rattle.keep_rules.proofs.StopLemmas.{fault_is_first}
@@ -97,3 +103,20 @@ module _ (bytes : List ℕ) (profile : Profile) (v : Value) (is : IsValue profil
   alone_refused g r at meets =
       fault_placed (parts_in v) (marks.marks (mentions_of_value v)) (IsValueRefusal v) g r (subst (λ (ks : List KeyPart). IsFaultAt ks g r) keys at)
       (meets_weaker g (NestedValuesFault bytes f 1 1 nodes (0 ∷ [])) (λ n w. IsFirstFaulty (marks.marks (mentions_of_value v)) n w) alone_breaks meets) (λ place why fault. fault) tt
+
+  -- the nodes are those in the value
+  pub alone_nodes : length f.keys < 2 ^ 64 → (new : TrieInfos) (ids : List ℕ) → NestedValuesRead bytes f 1 1 nodes (0 ∷ []) new ids → node_infos new ≡ nodes_in_value v
+  alone_nodes few new ids was_read =
+      let c : Count = record { statements = 0; values = 1; keys = 0 } in
+      let said : List Mention = all_nested_mentions (value_nesting (body_fact v.body)) (nested_values 0 1 v.nested) in
+      let inside : List Numbered = numbered_mentions c (entries_mentions 0 v.nested) in
+      let all = was_read (value_nesting (body_fact v.body)) (nested_values 0 1 v.nested) 0 alone_next in
+      let few_marks : length (marks.marks (map mention_of inside)) < 2 ^ 64 =
+      omega (arith, few, ap length keys, marked-parts_in v, ap (λ ms. length (marks.marks ms)) (mentions-numbered_mentions c (entries_mentions 0 v.nested))) in
+      let fresh : ValuesAreNew ([] ∷ []) inside =
+      subst (λ (ms : List Mention). ValuesAreNew ([] ∷ []) (numbered_mentions c ms)) mentions_nested
+      (subst (λ (t : NodeInfos). ValuesAreNew t.paths (numbered_mentions c said)) root.facts (all.fresh c refl refl)) in
+      all.facts c refl refl
+      ∙ ap (λ (t : NodeInfos). with_mentions t (numbered_mentions c said)) root.facts
+      ∙ ap (λ (ms : List Mention). with_mentions root_infos (numbered_mentions c ms)) mentions_nested
+      ∙ values_new_of inside few_marks fresh

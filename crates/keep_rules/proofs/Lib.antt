@@ -41,6 +41,8 @@ mod LineNestedLaws
 mod StatementToldLaws
 mod NestedGrowthLemmas
 mod StatementNestedLaws
+mod InsideValueLemmas
+mod ValueNestedLaws
 pub mod LinePlaceLemmas
 mod DocumentLemmas
 mod ElementLemmas

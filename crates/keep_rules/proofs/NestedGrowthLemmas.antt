@@ -70,19 +70,19 @@ there_before ps x q other = by (list_any (same_path x) ps)
 
 -- ---- their numbers
 
-number_there : (ps : List (List Part)) (q : List Part) → IsThere ps q → (j : ℕ) × (node_number ps q ≡ Some j)
+pub number_there : (ps : List (List Part)) (q : List Part) → IsThere ps q → (j : ℕ) × (node_number ps q ≡ Some j)
 number_there ps q h = by (met_or_unmet ps q)
   where
     by : IsMet ps q ⊎ IsUnmet ps q → (j : ℕ) × (node_number ps q ≡ Some j)
     by (inl m) = (m.number, m.is)
     by (inr u) = absurd (differ (list_any (same_path q) ps) h u.unmet)
 
-there_number : (ps : List (List Part)) (q : List Part) (i : ℕ) → node_number ps q ≡ Some i → IsThere ps q
+pub there_number : (ps : List (List Part)) (q : List Part) (i : ℕ) → node_number ps q ≡ Some i → IsThere ps q
 there_number ps q i is =
     let r = number_is ps q i is in
     list_any_at (same_path q) ps i [] r.0 ((path_decides q (get_or ps i [])).1 (sym r.1))
 
-not_none : (ps : List (List Part)) (q : List Part) → node_number ps q ≡ None → IsThere ps q → ⊥
+pub not_none : (ps : List (List Part)) (q : List Part) → node_number ps q ≡ None → IsThere ps q → ⊥
 not_none ps q none h = none_there ps q none (Contains-from_any (λ x y e. (path_decides x y).0 e) q ps h)
 
 number_other : (ps : List (List Part)) (x q : List Part) → same_path q x ≡ false

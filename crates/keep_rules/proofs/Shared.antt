@@ -7,4 +7,5 @@ pub use Rattle.keep_rules.proofs.LookupLemmas.{child_push, no_child_root, number
 pub use Rattle.keep_rules.proofs.RoleStateLemmas.{one_place}
 pub use Rattle.keep_rules.proofs.StatementNestedLaws.{statement_is_nested}
 pub use Rattle.keep_rules.proofs.StatementToldLaws.{statement_is_told}
-pub use Rattle.keep_rules.proofs.ValueLaws.{strict_value}
+pub use Rattle.keep_rules.proofs.ValueLaws.{in_wide, strict_value}
+pub use Rattle.keep_rules.proofs.ValueNestedLaws.{value_is_nested}

@@ -3,8 +3,9 @@
 -- A text has one value, whatever profile it is read in (`one_tree`, `in_wide`). So what is stored of the value that was
 -- read, its kind, depth and profile, is that of each value that the text may be said to have (`kind_is`, `depth_is`,
 -- `in_strict`, `strict_of`). The profile is Strict exactly if Strict's grammar has the value, since a text is read in
--- Wide only where Strict refuses it (`strict_is`). A text of a single leaf is a value of this leaf, and what the leaf
--- means is what the value means (`scalar_read`, `scalar_means`).
+-- Wide only where Strict refuses it (`strict_is`). Read once more, the text gives the same value (`read_again`). A text
+-- of a single leaf is a value of this leaf, and what the leaf means is what the value means (`scalar_read`,
+-- `scalar_means`).
 --
 -- Theorems: `holds`: what is known of a value that was read; `no_value`: why there is none; `strict_value`.
 use Rattle.std.proofs.Common.{◌≡◌, ℕ, ℤ, Bool, true, false, List, refl, sym, subst, ◌∙◌, ap, inl, inr, arith, slice_get, Some, None}
@@ -44,9 +45,12 @@ pub one_tree : (profile : Profile) (bytes : List ℕ) (v w : Value) → IsValueT
 one_tree profile bytes v w h k = one_value profile v w h.reads.valid k.reads.valid (sym h.reads.spelled ∙ k.reads.spelled)
 
 -- what is read in either profile is read in Wide
+reads_in_wide : (profile : Profile) (bytes : List ℕ) (v : Value) → ReadsValue profile limit bytes v → ReadsValue Wide limit bytes v
+reads_in_wide Strict bytes v h = reads_value_wider limit bytes v h
+reads_in_wide Wide bytes v h = h
+
 pub in_wide : (profile : Profile) (bytes : List ℕ) (v : Value) → IsValueText profile limit bytes v → IsTextOfValue bytes v
-in_wide Strict bytes v h = record { reads = reads_value_wider limit bytes v h.reads; obeys = h.obeys }
-in_wide Wide bytes v h = h
+in_wide profile bytes v h = record { reads = reads_in_wide profile bytes v h.reads; obeys = h.obeys }
 
 -- the value that the syntax was read of
 abbrev pub ReadOf : Profile → List ℕ → ValueSyntax → Type 0
@@ -54,6 +58,12 @@ ReadOf profile bytes syntax = (v : Value) × ReadsValue profile limit bytes v ×
 
 pub was_read : {profile : Profile} {bytes : List ℕ} {syntax : ValueSyntax} {v : Value} → ReadsValue profile limit bytes v → IsValueSyntaxOf syntax v → WasReadAlone bytes syntax v
 was_read {profile} reads is = record { profile = profile; limit = limit; reads = reads; is = is }
+
+-- a text that is read once more, in either profile, is read as the same value
+pub read_again : (profile : Profile) (bytes : List ℕ) (syntax : ValueSyntax) → ReadOf profile bytes syntax → (v : Value) → IsTextOfValue bytes v → WasReadAlone bytes syntax v
+read_again profile bytes syntax (w, reads, is) v text =
+    let wide : ReadsValue Wide limit bytes w = reads_in_wide profile bytes w reads in
+    subst (WasReadAlone bytes syntax) (one_value Wide w v wide.valid text.reads.valid (sym wide.spelled ∙ text.reads.spelled)) (was_read reads is)
 
 -- ---- what is read
 

@@ -21,6 +21,7 @@ pub mod ReadStatements
 pub mod Outcomes
 pub mod Nested
 pub mod LinesNested
+pub mod ValuesNested
 pub mod StatementsTold
 pub mod StatementsNested
 pub mod LinePlaces

@@ -72,7 +72,7 @@ pub record IsReadDocument (bytes : List ℕ) (s : Syntax) (r : Result TrieInfos 
   pub faults : IfErr r (λ fault. (d : Document) → WasRead bytes s d → IsRefusal d fault)
 
 -- Whether a value alone obeys the rules: Ok exactly if it does, unless memory runs out, and else its first fault.
-pub record IsChecked (bytes : List ℕ) (s : ValueSyntax) (r : Result Unit ReadFault) : Type 0 where
+pub record IsChecked {A : Type 0} (bytes : List ℕ) (s : ValueSyntax) (r : Result A ReadFault) : Type 0 where
   pub ok : (v : Value) → WasReadAlone bytes s v → OnOk r (ValueObeys v)
   pub read : (v : Value) → WasReadAlone bytes s v → ValueObeys v → IsOkUnless r faults.Memory
   pub faults : (v : Value) → WasReadAlone bytes s v → IfErr r (IsValueRefusal v)

@@ -20,6 +20,7 @@ ghost use Rattle.keep_rules.specs.ReadDocuments.{IsBuilt, IsChecked, IsIndexOf, 
 
 mod headers;
 mod lines;
+mod values;
 
 use crate::path_text::{PathRoom, push_path};
 use crate::queries::{child_by, path_to};

@@ -1,7 +1,9 @@
-//! Laws of the nodes where a line or a header is more, each the contract of a function that does nothing.
+//! Laws of the nodes where a line or a header is more, or another value is in the place of one, each the contract of a
+//! function that does nothing.
 ghost use Rattle.keep_rules.specs.LinesNested as spec;
 ghost use Rattle.keep_rules.specs.StatementsNested as headers;
 ghost use Rattle.keep_rules.specs.StatementsTold as told;
+ghost use Rattle.keep_rules.specs.ValuesNested as values;
 
 /// With one line more, a keyval of one key part with a new path and with nothing in its value, the nodes of a document
 /// that obeys the definition rules are nested as its headers say, if those of the document without it are; and back, if
@@ -21,4 +23,10 @@ pub fn statement_told()
 /// its headers say, if those of the document without it are.
 pub fn statement_nested()
     ensures { headers.StatementIsNested }
+{}
+
+/// With another value in the place of one that has a key, the nodes of a document that obeys the definition rules are
+/// nested as its headers say, if those of the document with the old value are and that obeys the rules too.
+pub fn value_nested()
+    ensures { values.ValueIsNested }
 {}

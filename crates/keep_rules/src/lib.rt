@@ -15,7 +15,7 @@ mod spans;
 mod value;
 
 pub use index::{Index, NodeId};
-pub use keep_index_store::{LineNumbers, NotInPlace};
+pub use keep_index_store::{LineNumbers, NotInPlace, Totals};
 pub use keep_path::{Path, PathFault, Step};
 pub use keep_syntax::Why;
 pub use keep_types::{Kind, NodeInfo, Origin, Role, kind_of};

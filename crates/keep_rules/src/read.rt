@@ -1,8 +1,9 @@
 //! Reading all that a document, or a value alone, defines: its statements one after another, and of each its values.
-ghost use Rattle.std.specs.Prelude.{◌≡◌, ◌<◌, ◌∷◌, ◌++◌, ℕ, [], List, Some, None, length, OnOk};
+ghost use Rattle.std.specs.Prelude.{◌≡◌, ◌<◌, ◌∷◌, ◌++◌, ℕ, [], List, Some, None, length, IfOk, OnOk};
 ghost use Rattle.keep_index_store.specs.Children.{holding};
-ghost use Rattle.keep_index_store.specs.Tree.{IsRoot};
+ghost use Rattle.keep_index_store.specs.Tree.{IsRoot, node_infos};
 ghost use Rattle.keep_index_store.specs.Trie.{by_key};
+ghost use Rattle.keep_meaning.specs.OtherValues.{nodes_in_value};
 ghost use Rattle.keep_rules.specs.DefineFaults.{FaultMeets};
 ghost use Rattle.keep_rules.specs.FlatValues.{leaf_holding};
 ghost use Rattle.keep_rules.specs.Outcomes.{ReadsStatementOrRefuses, ReadsValueOrRefuses, ReadsValuesOrRefuses};
@@ -43,19 +44,30 @@ pub fn read_document(root: Tree, text: &str, syntax: &Syntax) -> Result<Tree, Re
     Ok(definitions.tree)
 }
 
-/// Reads the values in a value alone, whose node is the root.
-pub fn read_value_alone(alloc: Global, text: &str, syntax: &ValueSyntax) -> Result<(), ReadFault>
+/// Reads the values in a value alone, and gives the nodes that they define, below the value's own node, the root.
+pub fn value_tree(alloc: Global, text: &str, syntax: &ValueSyntax) -> Result<Tree, ReadFault>
     requires { (v : Value) × WasReadAlone text.now syntax.now v }
-    ensures { IsChecked text.now syntax.now result }
+    ensures checked { IsChecked text.now syntax.now result }
+    ensures nodes { IfOk result (λ tree. (v : Value) → WasReadAlone text.now syntax.now v
+        → node_infos tree ≡ nodes_in_value v) }
 {
     let parts = syntax.parts();
     let holds = holds_of_leaf(syntax.value(0).leaf);
     let root = Tree::new(alloc, text, holds)?;
     let mut definitions = Definitions { tree: root };
     match definitions.read_inside(text, parts) {
-        Ok(()) => Ok(()),
+        Ok(()) => Ok(definitions.tree),
         Err(fault) => Err(read_fault(parts, fault)),
     }
+}
+
+/// Reads the values in a value alone, and keeps none of their nodes.
+pub fn read_value_alone(alloc: Global, text: &str, syntax: &ValueSyntax) -> Result<(), ReadFault>
+    requires { (v : Value) × WasReadAlone text.now syntax.now v }
+    ensures { IsChecked text.now syntax.now result }
+{
+    value_tree(alloc, text, syntax)?;
+    Ok(())
 }
 
 /// The fault, with the place of its key part in the text.

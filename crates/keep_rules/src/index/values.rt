@@ -1,0 +1,54 @@
+//! The index where a value gives place to another: it changes in place.
+ghost use Rattle.std.specs.Prelude.{◌≡◌, ℕ, ◌<◌, OnErr, OnOk, length};
+ghost use Rattle.keep_index_store.specs.Below.{totals_in};
+ghost use Rattle.keep_meaning.specs.Meaning.{body_fact};
+ghost use Rattle.keep_meaning.specs.Nodes.{fact_kind};
+ghost use Rattle.keep_meaning.specs.OtherValues.{nodes_in_value};
+ghost use Rattle.keep_path.specs.NodesBelow.{AreBelow, with_value};
+ghost use Rattle.keep_rules.specs.ValueTexts.{IsTextOfValue};
+ghost use Rattle.keep_syntax.specs.Tree.{Value};
+
+use super::{Index, NodeId};
+use crate::read::value_tree;
+use crate::value::ValueText;
+use keep_index_store::{NotInPlace, Totals};
+use keep_syntax::{Limits, STANDARD_DEPTH, ValueSyntax};
+
+impl Index {
+    /// Another value comes in the place of that of a node, which has a key: the nodes in the old one go, and those in
+    /// the new one come. The document had `old` values and key parts in all, and now has `new`. It takes the memory of
+    /// the new value's nodes, and reads the value's text once more.
+    ///
+    /// # Errors
+    ///
+    /// `NotInPlace` where the node is an item or an element, or has no value, where a number would not fit where it is
+    /// stored, and where memory was refused; then nothing has changed, and the index has to be built anew.
+    pub fn set_value(
+        &mut self,
+        node: NodeId,
+        value: &ValueText,
+        old: Totals,
+        new: Totals,
+    ) -> Result<(), NotInPlace>
+        requires { node.0 < length self.old.paths }
+        ensures set { OnOk result ((v : Value) → IsTextOfValue value.now v → (gone : ℕ)
+            → AreBelow self.old.paths node.0 gone → self.new ≡ with_value self.old node.0 gone (totals_in old)
+            (totals_in new) (nodes_in_value v) (fact_kind (body_fact v.body))) }
+        ensures refused { OnErr result (self.new ≡ self.old) }
+    {
+        let limits = Limits {
+            depth: STANDARD_DEPTH,
+            profile: value.profile(),
+        };
+        let alloc = self.nodes.allocator();
+        let text = value.as_str();
+        let Ok(syntax) = ValueSyntax::read(alloc, text, limits) else {
+            return Err(NotInPlace);
+        };
+        let Ok(inside) = value_tree(alloc, text, &syntax) else {
+            return Err(NotInPlace);
+        };
+        let kind = value.kind();
+        self.nodes.replace_below(node.0, inside, kind, old, new)
+    }
+}
