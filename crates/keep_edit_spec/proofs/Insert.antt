@@ -53,3 +53,4 @@ pub mod KeyvalPlaces
 pub mod DottedPlace
 pub mod InsertDottedPlace
 pub mod InsertAddsLine
+pub mod InsertNested

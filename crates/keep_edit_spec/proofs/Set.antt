@@ -4,3 +4,4 @@ pub mod SameCuts
 pub mod Childless
 pub mod SetNumbers
 pub mod SetNodes
+pub mod SetValue

@@ -22,7 +22,11 @@ pub use Rattle.keep_edit_spec.proofs.Common.TableThere.{defined_ends}
 pub use Rattle.keep_edit_spec.proofs.Common.ValueNumber.{false_unless}
 pub use Rattle.keep_edit_spec.proofs.Set.SetIsLawful.{get_is_right}
 pub use Rattle.keep_edit_spec.proofs.Set.SetNodes.{IsKindSet, kind_set}
+pub use Rattle.keep_edit_spec.proofs.Set.SetValue.{value_set}
+pub use Rattle.keep_edit_spec.proofs.Values.LineValue.{IsLineValueChanged, line_value_number, nested_value, new_line_value_number}
 pub use Rattle.keep_edit_spec.proofs.Values.ValueFacts.{integer_at_leaf, leaf_of_integer, no_string, string_at_leaf, string_of_leaf}
+pub use Rattle.keep_edit_spec.proofs.Values.LineKeys.{first_is_line_value}
+pub use Rattle.keep_edit_spec.proofs.Values.LineValueText.{IsLineValueText, line_value_text}
 pub use Rattle.keep_edit_spec.proofs.Remove.RemoveRefusal.{lines_begun, never_begun, no_both}
 pub use Rattle.keep_edit_spec.proofs.Common.EntryDepths.{alone_of_bracket}
 pub use Rattle.keep_edit_spec.proofs.Insert.ItemThere.{IsItemPath, item_at, never_whole}
@@ -49,6 +53,7 @@ pub use Rattle.keep_edit_spec.proofs.Insert.BracePlaces.{IsPutAfter}
 pub use Rattle.keep_edit_spec.proofs.Insert.KeyvalPlaces.{IsInlineLaw, dots_placed, inline_placed}
 pub use Rattle.keep_edit_spec.proofs.Insert.BodyStatements.{count_few}
 pub use Rattle.keep_edit_spec.proofs.Insert.InsertPlaces.{EndsBefore, IsThroughHeader, element_placed, header_ends, header_placed, headed_within, holder_prefix, plain_rest, root_ends, root_placed, through_header, through_placed}
+pub use Rattle.keep_edit_spec.proofs.Insert.InsertNested.{braced_nested, item_nested}
 pub use Rattle.keep_edit_spec.proofs.Insert.InsertAddsLine.{insert_adds_line}
 pub use Rattle.keep_edit_spec.proofs.Remove.RemoveTakesLine.{remove_takes_line}
 pub use Rattle.keep_edit_spec.proofs.Insert.InsertDottedPlace.{IsBaseAt, IsDottedPlaced, dotted_placed}

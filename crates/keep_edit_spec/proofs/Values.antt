@@ -2,3 +2,6 @@
 pub mod ValuePlace
 pub mod ValueFacts
 pub mod ValueDepths
+pub mod LineValueText
+pub mod LineValue
+pub mod LineKeys

@@ -4,7 +4,7 @@ use Rattle.std.specs.List.{AllByRecursion, filter_map}
 use Rattle.keep_types.specs.declared.leaf.Profile.{Profile}
 use Rattle.keep_syntax.specs.Tree.{Name, Value, Line, Document, keyval, none}
 use Rattle.keep_path.specs.Path.{Part, key}
-use Rattle.keep_meaning.specs.Counts.{line_statement}
+use Rattle.keep_meaning.specs.Counts.{count_from, line_statement, no_count}
 use Rattle.keep_meaning.specs.Fact.{Fact}
 use Rattle.keep_meaning.specs.LinesMore.{HasLineMore, path_after}
 use Rattle.keep_meaning.specs.Marks.{marks, start}
@@ -33,6 +33,16 @@ pub record IsLineOf (s : Document) (path : List Part) (before : List Line) (valu
   pub place : (reading_after_lines start before).body ++ step 0 (Some name) ≡ path
   pub one : name.key.more ≡ []
   pub empty : value.nested ≡ none
+
+-- It is the value of a line's keyval, before which there are so many values.
+pub record IsLineValue (d : Document) (number : ℕ) (value : Value) : Type 0 where
+  pub before : List Line
+  pub line : Line
+  pub after : List Line
+  pub name : Name
+  pub here : lines d ≡ before ++ line ∷ after
+  pub content : line.content ≡ keyval name value
+  pub counted : (count_from no_count start (filter_map line_statement before)).values ≡ number
 
 -- An insert of one key into the root, a table or an element that is defined adds a line at its end.
 abbrev pub InsertAddsLine : Type 0

@@ -379,7 +379,7 @@ held_further n path first rest (by_key j js tail e alone) = by_key j js tail e (
 held_further n path first rest (by_index k tail h e) = by_index k tail (omega arith) e
 
 -- the value itself
-set_here : (name : Option Name) (f : Fact) (entries : Entries) (new : Value)
+pub set_here : (name : Option Name) (f : Fact) (entries : Entries) (new : Value)
     → IsSet [] new (valued_mentions (tag_of name f) (entries_mentions 0 entries)) (valued_mentions (tag_of name (body_fact new.body)) (entries_mentions 0 new.nested))
 set_here name f entries new = record {
   name = name;

@@ -26,8 +26,10 @@ use Rattle.keep_edit_spec.proofs.Remove.RemoveLinePlace.{head_line, IsCleared, c
 use Rattle.keep_edit_spec.proofs.Remove.RemoveSectionPlace.{IsSectionPlaced, section_placed}
 use Rattle.keep_edit_spec.proofs.Insert.PutIn.{within_none}
 
+-- what is cut in brackets is taken out inside the value of a line
 abbrev pub IsPlaced : List Part → Document → Changed Document → Type 0
-IsPlaced path s c = IsLinePlaced path s c ⊎ (IsEntryPlaced path s c ⊎ IsSectionPlaced path s c)
+IsPlaced path s c =
+    IsLinePlaced path s c ⊎ ((IsEntryPlaced path s c × (nested removal path s ≡ Some c)) ⊎ IsSectionPlaced path s c)
 
 -- ---- where no line is cleared, the line that is dropped has no comment
 
@@ -77,7 +79,7 @@ module _ (profile : Profile) (path : List Part) (s : Document) (valid : IsDocume
   by_value e =
       let h : IsFoundIn removal (Valid_document s) 0 path (mentions_in s) (syntax.values s) c =
       subst (λ (o : Option (Changed Document)). EachOf (IsFoundIn removal (Valid_document s) 0 path (mentions_in s) (syntax.values s)) o) e (found_nested removal path s) in
-      inr (inl (entry_placed profile path s valid rules c cut h))
+      inr (inl (entry_placed profile path s valid rules c cut h, e))
 
   by_section : (o : Option ℕ) → last_line (begins path) start (lines s) ≡ o
       → or_else (elim o [ None ↦ None | Some i ↦ without_lines s i (suc (body_length (drop (suc i) (lines s)))) ]) (nested removal path s) ≡ Some c → IsPlaced path s c

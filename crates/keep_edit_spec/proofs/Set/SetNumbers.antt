@@ -78,7 +78,7 @@ pub record IsFactSet (path : List Part) (g : Fact) (s s' : Document) : Type 0 wh
   pub reading : reading_after start (statements_in s') ≡ reading_after start (statements_in s)
 
 -- lines with another line in the place of one, that reads on alike
-reading_past : (r : Reading) (pre post : List Line) (l l' : Line) → ((q : Reading) → after_line q l ≡ after_line q l')
+pub reading_past : (r : Reading) (pre post : List Line) (l l' : Line) → ((q : Reading) → after_line q l ≡ after_line q l')
     → reading_after_lines r (pre ++ l ∷ post) ≡ reading_after_lines r (pre ++ l' ∷ post)
 reading_past r [] post l l' same = ap (λ (q : Reading). reading_after_lines q post) (same r)
 reading_past r (x ∷ pre) post l l' same = reading_past (after_line r x) pre post l l' same
@@ -161,7 +161,7 @@ lines_fact_set s s' path new rules h plain childless_here =
           ∙ sym (ap (reading_after_lines start) h.was) ∙ sym (reading_lines start (lines s));
     }
 
-the_to : {A : Type 0} (P : A → Type 0) (o : Option (Changed A)) (c : Changed A) → o ≡ Some c → EachTo P o → P c.to
+pub the_to : {A : Type 0} (P : A → Type 0) (o : Option (Changed A)) (c : Changed A) → o ≡ Some c → EachTo P o → P c.to
 the_to P o c e h = subst (λ o. EachTo P o) e h
 
 -- `set` changes the fact of the one mention at its path, where neither value has entries.
