@@ -44,8 +44,8 @@ OUT_OF_MEMORY = b"out of memory"
 UNREAD = (OUT_OF_MEMORY, b"no path", b"no such edit")
 AGAIN = b"refused and made again: "
 # How many growths the change of an index takes at most: those of a key, of its node, of its parent link, and of a map, which has five;
-# and of the two lists of what a header joins.
-CHANGES = 12
+# of the two lists of what a header joins; and those of a value that is read twice, with its nodes.
+CHANGES = 40
 DONE = re.compile(rb"\d+ \d+ \d+$|done$")
 # How keep_test_rows prints that an edit does not agree with the text alone, and a list of edits with the edits one by one;
 # and that the document is not what is read afresh from its text, for which memory may be missing too.
@@ -54,14 +54,18 @@ LIST_DOUBT = b", but one by one the edits answer otherwise"
 DOCUMENT_DOUBT = b", but the document tells otherwise"
 
 
-# Edits of the middle table of so many, each by its number, that change the index where it is.
+# Edits of the middle table of so many, each by its number, that change the index where it is; and the operation of each.
 IN_PLACE = {
-    "set": "path = 't{middle}.a'\nvalue = '{number}'\n",
-    "rename": "path = 't{middle}.{last}'\nkey = 'n{number}'\n",
-    "insert": "path = 't{middle}.n{number}'\nvalue = '1'\n",
-    "remove": "path = 't{middle}.k{number}'\n",
-    "table": "path = 't{middle}.s{number}'\n",
-    "element": "path = 'e'\n",
+    "set": ("set", "path = 't{middle}.a'\nvalue = '{number}'\n"),
+    "set of a list": ("set", "path = 't{middle}.a'\nvalue = '[{number}, [1], {{ x = 2 }}]'\n"),
+    "set of an item": ("set", "path = 't{middle}.b[0]'\nvalue = '[{number}]'\n"),
+    "rename": ("rename", "path = 't{middle}.{last}'\nkey = 'n{number}'\n"),
+    "insert": ("insert", "path = 't{middle}.n{number}'\nvalue = '1'\n"),
+    "insert of an item": ("insert", "path = 't{middle}.b[0]'\nvalue = '{number}'\n"),
+    "remove": ("remove", "path = 't{middle}.k{number}'\n"),
+    "remove of an item": ("remove", "path = 't{middle}.c[0]'\n"),
+    "table": ("table", "path = 't{middle}.s{number}'\n"),
+    "element": ("element", "path = 'e'\n"),
 }
 KEYS = 24
 FEW = 40
@@ -253,27 +257,29 @@ def run_growths(count, program, refuse):
         count.add(f"growths between marks: {name}", None if is_well else f"{growths} growths")
 
 
-def growths_of_edits(program, refuse, op, edits, tables):
+def growths_of_edits(program, refuse, kind, edits, tables):
     """The growths of a run that makes so many edits of this kind in a document of so many tables."""
+    op, words = IN_PLACE[kind]
     last = lambda number: f"n{number - 1}" if number else "a"
-    filled = (IN_PLACE[op].format(middle=tables // 2, number=number, last=last(number)) for number in range(edits))
+    filled = (words.format(middle=tables // 2, number=number, last=last(number)) for number in range(edits))
     script = "".join(f"[[edit]]\nop = '{op}'\n{it}" for it in filled)
     keys = "".join(f"k{number} = {number}\n" for number in range(KEYS))
+    keys += f"c = [{', '.join(str(number) for number in range(KEYS))}]\n"
     text = "".join(f"[t{number}]\na = 1\n{keys if number == tables // 2 else ''}b = [1, 2]\n" for number in range(tables))
     ran, growths = Asked(program, refuse, [b"apply", script.encode()], f"{text}[[e]]\n".encode()).ample()
     return growths if ran.returncode == 0 else sys.maxsize
 
 
-def in_place_failure(program, refuse, op):
+def in_place_failure(program, refuse, kind):
     """Of one more edit of this kind: it takes no growth for each table that there is."""
-    few, many = (growths_of_edits(program, refuse, op, 20, it) - growths_of_edits(program, refuse, op, 10, it) for it in (200, 2_000))
+    few, many = (growths_of_edits(program, refuse, kind, 20, it) - growths_of_edits(program, refuse, kind, 10, it) for it in (200, 2_000))
     return None if 0 < many < few + 10 * FEW else f"ten edits more take {few} growths beside 200 tables, {many} beside 2,000"
 
 
 def main(keep_toml, keep_test_rows, refuse):
     count = Count()
-    for op in IN_PLACE:
-        count.add(f"few growths in place: {op}", in_place_failure(keep_toml, refuse, op))
+    for kind in IN_PLACE:
+        count.add(f"few growths in place: {kind}", in_place_failure(keep_toml, refuse, kind))
     for row in rows_of(HERE / "subcommands.tsv"):
         count.add(f"each growth refused: {row.name}", program_failure(keep_toml, refuse, row))
     if keep_test_rows != "-":

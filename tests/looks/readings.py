@@ -4,8 +4,9 @@ The rule: **after an edit nothing of the text is scanned but the lines that the 
 is renewed by `put_lines`, which is handed the new lines and no other text, and its `requires` says that these are the lines that
 replace those which the edit touches. But no clause says what a body does not do: one that reads the whole text besides, and
 throws away what it read, meets every contract. So this is looked at: each name by which a text is read stands in the code of
-these crates where READ_BY says, once in each of these functions, and nowhere else. No edit is among them, and `copied` reads the
-document's text for a list of edits, once.
+these crates where READ_BY says, once in each of these functions, and nowhere else. No edit is among them; `copied` reads the
+document's text for a list of edits, once; and where a value changes the index, its own text is read once more: that of a given
+value by `set_value`, that of a touched line's value by `line_value`.
 
 Comments, contracts and proofs are not looked at. The functions are found by the layout of `rt fmt` (bodies.py).
 """
@@ -26,7 +27,7 @@ INDEX = "keep_rules index::Index::"
 OF_VALUES = "keep_rules", "src/value.rt"
 READ_BY = {
     # what reads a text, in these crates and below them (`Index::read` goes along a syntax)
-    "read": [DOCUMENT + "of_text", INDEX + "build", INDEX + "rebuilt"],
+    "read": [DOCUMENT + "of_text", INDEX + "build", INDEX + "rebuilt", INDEX + "set_value"],
     "replace": ["keep_edit lines::put_lines"],
     "build": [DOCUMENT + "of_syntax"],
     "text_of": [DOCUMENT + "read_in", DOCUMENT + "read_owned_in"],
@@ -38,7 +39,7 @@ READ_BY = {
     # what reads a document
     "of_syntax": [DOCUMENT + "of_text"],
     "of_text": [DOCUMENT + "read_in", DOCUMENT + "read_owned_in", DOCUMENT + "copied"],
-    "read_in": [DOCUMENT + "read"],
+    "read_in": [DOCUMENT + "read", "keep_edit index_change::line_value"],
     "read_owned_in": [DOCUMENT + "read_owned"],
     "read_owned": [],
     # what reads it again, for a list of edits

@@ -30,7 +30,7 @@ use Rattle.keep_rules.specs.Nested.{AreNested}
 use Rattle.keep_rules.specs.ReadDocuments.{WasRead, IsIndexOf}
 use Rattle.keep_edit_plan.specs.Plans.{IsIndexChanged}
 use Rattle.keep_edit.specs.Places.{after, end_by, IsOfEdit, IsPatched, IsScanned}
-use Rattle.keep_edit.specs.Reading.{limit, ProfiledText, Holds, IsSyntaxIn, IsTextOfTree, telling_in, text_in}
+use Rattle.keep_edit.specs.Reading.{limit, ProfiledText, Holds, IsReadAs, IsSyntaxIn, IsTextOfTree, telling_in, text_in}
 use Rattle.keep_edit.proofs.ReadLaws.{read_once}
 
 module _ (old : ProfiledText) (made : TextEdit) (syntax : Syntax) (index : NodeInfos) (h : Holds old syntax index) (o : IsOfEdit old made) where
@@ -148,21 +148,25 @@ module _ (old : ProfiledText) (made : TextEdit) (syntax : Syntax) (index : NodeI
   pub read_after : (s : Syntax) → IsSyntaxIn (after old made) s → WasRead (text_after old.text made) s o.changed.to
   read_after s is = read_once is o.new
 
+  -- as which the new text was read
+  pub read_as : (s : Syntax) → IsSyntaxIn (after old made) s → IsReadAs old.profile (text_after old.text made) s o.changed.to
+  read_as s is = record { read = o.new; is = (read_after s is).is }
+
   -- with the index of the new document
   pub holds_after : (s : Syntax) (fresh : NodeInfos) → IsSyntaxIn (after old made) s → IsIndexOf o.changed.to fresh → Holds (after old made) s fresh
   holds_after s fresh is told = record { tree = o.changed.to; read = o.new; is = (read_after s is).is; of_text = is.of_text; stated = told.facts; nested = told.nested }
 
   -- the index where it is all that changes in it
-  told_by : (k : IndexChange) → IsIndexChanged old made k → (u : NodeInfos) → IsChanged index k u → IsIndexOf o.changed.to u
+  told_by : (k : IndexChange) → IsIndexChanged old made k → (u : NodeInfos) → IsChanged index o.changed.to k u → IsIndexOf o.changed.to u
   told_by k c u by =
       let same : c.to ≡ o.changed.to = one_tree (after old made) c.to o.changed.to c.new o.new in
       record {
         obeys = o.new.obeys;
         nested = subst (λ (d : Document). AreNested (mentions_in d) (reading_after start (statements_in d)).tables) same c.is.nested;
-        facts = c.is.told u (subst (λ (t : NodeInfos). IsChanged t k u) (stated_is old syntax index c.from h c.read) by) ∙ ap telling_in same;
+        facts = c.is.told u (subst (λ (d : Document). IsChanged (telling_in c.from) d k u) (sym same) (subst (λ (t : NodeInfos). IsChanged t o.changed.to k u) (stated_is old syntax index c.from h c.read) by)) ∙ ap telling_in same;
       }
 
-  pub change_told : (change : Option IndexChange) → IfSome change (IsIndexChanged old made) → IfSome change (λ k. (u : NodeInfos) → IsChanged index k u → IsIndexOf o.changed.to u)
+  pub change_told : (change : Option IndexChange) → IfSome change (IsIndexChanged old made) → IfSome change (λ k. (u : NodeInfos) → IsChanged index o.changed.to k u → IsIndexOf o.changed.to u)
   change_told None c = tt
   change_told (Some k) c = told_by k c
 

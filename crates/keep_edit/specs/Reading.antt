@@ -2,6 +2,7 @@
 -- keep_rules.
 use Rattle.std.specs.Prelude.{◌≡◌, ℕ, List, ◌⊎◌, Result, Err, IsUtf8}
 use Rattle.std.specs.Str.Lossy.{utf8_valid_len}
+use Rattle.keep_types.specs.declared.leaf.Profile.{Profile}
 use Rattle.keep_syntax.specs.declared.fault.ReadFault.{ReadFault}
 use Rattle.keep_syntax.specs.declared.fault.ReadFault.TheVariants.{Memory, Utf8}
 use Rattle.keep_syntax.specs.declared.syntax.Syntax.{Syntax}
@@ -26,3 +27,8 @@ IsRefused t fault = (fault ≡ Memory) ⊎ IsReadFault t.profile limit t.text fa
 -- If the bytes are no text, this is reported, with the length of their longest prefix that is text.
 abbrev pub ReportsNoText : {T : Type 0} → List ℕ → Result T ReadFault → Type 0
 ReportsNoText bytes result = ¬ (IsUtf8 bytes) → result ≡ Err (Utf8 (utf8_valid_len bytes))
+
+-- the text of this document, in a profile, of which this is the syntax
+pub record IsReadAs (profile : Profile) (bytes : List ℕ) (syntax : Syntax) (d : Document) : Type 0 where
+  pub read : IsTextOfTree (text_in profile bytes) d
+  pub is : IsSyntaxOf syntax d

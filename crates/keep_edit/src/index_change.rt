@@ -1,15 +1,43 @@
 //! What an edit changes of the index, where it need not be built anew.
-ghost use Rattle.std.specs.Prelude.{◌≡◌, false, true};
-ghost use Rattle.keep_edit_plan.specs.IndexChanges.{CanChange, IsChanged};
+ghost use Rattle.std.specs.Prelude.{◌≡◌, ℕ, ◌<◌, IfSome, false, length, true};
+ghost use Rattle.keep_syntax.specs.Tree as tree;
+ghost use Rattle.keep_meaning.specs.Meaning.{body_fact};
+ghost use Rattle.keep_meaning.specs.Nodes.{fact_kind};
+ghost use Rattle.keep_meaning.specs.OtherValues.{nodes_in_value, totals_of};
+ghost use Rattle.keep_path.specs.NodesBelow.{AreBelow, with_value};
+ghost use Rattle.keep_edit_spec.specs.KeyvalLines.{IsLineValue};
+ghost use Rattle.keep_edit_plan.specs.IndexChanges.{CanChange, IsChanged, totals_in};
+ghost use Rattle.keep_edit.specs.Reading.{IsReadAs, IsTextOfValue};
 
-use keep_edit_plan::{Header, IndexChange};
-use keep_rules::Index;
+use keep_edit_plan::{Header, IndexChange, totals_of};
+use keep_rules::{Index, NodeId, Totals, ValueText};
+use keep_syntax::{Span, Syntax};
+use keep_token::Profile;
+use std::alloc::Global;
 
-/// Whether a change of an index was made where it is. If not, the index is as before: memory was refused, the node of a
-/// line can't come between the others or go from there, or a header says more than can be added.
-pub(crate) fn change_index(index: &mut Index, change: IndexChange<'_>) -> bool
+/// A value that is a greater part of its text than one in so many is not read once more: to build the index anew costs
+/// no more.
+const GREATEST_PART: usize = 4;
+
+/// The text after an edit, and the syntax that was read of it.
+#[derive(Clone, Copy)]
+pub(crate) struct NewText<'a> {
+    pub(crate) text: &'a str,
+    pub(crate) profile: Profile,
+    pub(crate) syntax: &'a Syntax,
+}
+
+/// Whether a change of an index was made where it is. If not, the index is as before: memory was refused, nodes can't
+/// come between the others or go from there, a value is most of its text, or a header says more than can be added.
+pub(crate) fn change_index(
+    alloc: Global,
+    index: &mut Index,
+    change: IndexChange<'_>,
+    new: NewText<'_>,
+) -> bool
     requires { CanChange index.old change }
-    ensures changed { result ≡ true → IsChanged index.old change.entry index.new }
+    ensures changed { (d : tree.Document) → IsReadAs new.entry.profile new.entry.text.now new.entry.syntax.now d
+        → result ≡ true → IsChanged index.old d change.entry index.new }
     ensures refused { result ≡ false → index.new ≡ index.old }
 {
     match change {
@@ -18,6 +46,18 @@ pub(crate) fn change_index(index: &mut Index, change: IndexChange<'_>) -> bool
             true
         }
         IndexChange::Key { node, key } => index.set_key(node, key).is_ok(),
+        IndexChange::Value {
+            node,
+            value,
+            totals,
+        } => index
+            .set_value(node, value, totals, totals_of(new.syntax))
+            .is_ok(),
+        IndexChange::Inside {
+            node,
+            value,
+            totals,
+        } => set_inside(alloc, index, node, value, totals, new),
         IndexChange::AddedLine {
             parent,
             key,
@@ -35,4 +75,46 @@ pub(crate) fn change_index(index: &mut Index, change: IndexChange<'_>) -> bool
             Header::Element => index.append_element(keys, statement, key).is_ok(),
         },
     }
+}
+
+/// Whether the nodes in the value of a line, which has that number, were made those of the new text. If not, the index
+/// is as before.
+fn set_inside(
+    alloc: Global,
+    index: &mut Index,
+    node: NodeId,
+    number: usize,
+    old: Totals,
+    new: NewText<'_>,
+) -> bool
+    requires { node.0 < length index.old.paths }
+    ensures changed { (d : tree.Document) → IsReadAs new.entry.profile new.entry.text.now new.entry.syntax.now d
+        → result ≡ true → (v : tree.Value) → IsLineValue d number v → (gone : ℕ) → AreBelow index.old.paths node.0 gone
+        → index.new ≡ with_value index.old node.0 gone (totals_in old) (totals_of d) (nodes_in_value v)
+        (fact_kind (body_fact v.body)) }
+    ensures refused { result ≡ false → index.new ≡ index.old }
+{
+    let Some(value) = line_value(alloc, new, number) else {
+        return false;
+    };
+    index
+        .set_value(node, &value, old, totals_of(new.syntax))
+        .is_ok()
+}
+
+/// The value of a line that has that number, read once more of its own text. None where it is most of the whole text,
+/// and where memory was refused.
+fn line_value(alloc: Global, new: NewText<'_>, number: usize) -> Option<ValueText>
+    ensures { (d : tree.Document) → IsReadAs new.entry.profile new.entry.text.now new.entry.syntax.now d
+        → (v : tree.Value) → IsLineValue d number v → IfSome result (λ value. IsTextOfValue value v) }
+{
+    if number >= new.syntax.value_count() {
+        return None;
+    }
+    let Span { start, end } = new.syntax.value(number).span;
+    let part = new.text.get(start..end)?;
+    if part.len() > new.text.len() / GREATEST_PART {
+        return None;
+    }
+    ValueText::read_in(alloc, part, new.profile).ok()
 }

@@ -4,20 +4,17 @@ ghost use Rattle.keep_syntax.specs.declared.fault.ReadFault.TheVariants.{Memory}
 ghost use Rattle.keep_syntax.specs.Tree as tree;
 ghost use Rattle.keep_edit_spec.specs.Edits.{Edit};
 ghost use Rattle.keep_edit_spec.specs.declared.fault.EditFault.TheVariants as law;
-ghost use Rattle.keep_meaning.specs.Marks.{marks};
-ghost use Rattle.keep_meaning.specs.Meaning.{mentions_in};
-ghost use Rattle.keep_meaning.specs.Rules.{ObeysRules};
 ghost use Rattle.keep_path.specs.NodeInfos.{NodeInfos};
-ghost use Rattle.keep_rules.specs.ReadDocuments.{IsIndexOf, WasRead};
+ghost use Rattle.keep_rules.specs.ReadDocuments.{IsIndexOf};
 ghost use Rattle.keep_edit_plan.specs.Answers.{text_after};
 ghost use Rattle.keep_edit_plan.specs.IndexChanges.{CanChange, IsChanged};
 ghost use Rattle.keep_edit_plan.specs.Plans.{EditPlanned, IsIndexChanged, IsPlanOf};
-ghost use Rattle.keep_edit.specs.Reading.{IsAccepted, IsTextOfTree, ProfiledText, text_in};
+ghost use Rattle.keep_edit.specs.Reading.{IsAccepted, IsReadAs, IsTextOfTree, ProfiledText, text_in};
 ghost use Rattle.keep_edit.specs.Answers.{EditDone, EditReported};
 ghost use Rattle.keep_edit.specs.Places.{IsMovedIn, IsOfEdit, IsPatched, IsTaken};
 
 use crate::document::Document;
-use crate::index_change::change_index;
+use crate::index_change::{NewText, change_index};
 use crate::lines::put_lines;
 use crate::patch::{put_back, put_in};
 use keep_edit_plan::{IndexChange, Plan, TextEdit};
@@ -161,7 +158,12 @@ fn reread(
     let Ok(replaced) = put_lines(syntax, whole, lines, profile) else {
         return Err(EditFault::Memory);
     };
-    match renew(alloc, text, lines, syntax, index, change) {
+    let new = NewText {
+        text,
+        profile,
+        syntax,
+    };
+    match renew(alloc, new, lines, index, change) {
         Ok(()) => Ok(last - whole.start),
         Err(fault) => {
             syntax.restore(replaced);
@@ -170,31 +172,30 @@ fn reread(
     }
 }
 
-/// Makes of the index of a document that of the text after an edit, by the new syntax: by the change, if there is one
-/// and it can be made where the index is; else it is built anew. `lines` are the lines of the text that are new. The
-/// only error is out of memory, and then it is as before.
+/// Makes of the index of a document that of the text after an edit: by the change, if there is one and it can be made
+/// where the index is; else it is built anew. `lines` are the lines of the text that are new. The only error is out of
+/// memory, and then it is as before.
 fn renew(
     alloc: Global,
-    text: &str,
+    new: NewText<'_>,
     lines: &str,
-    syntax: &Syntax,
     index: &mut Index,
     change: Option<IndexChange<'_>>,
 ) -> Result<(), EditFault>
-    requires read { (d : tree.Document) × WasRead text.now syntax.now d × ObeysRules (marks (mentions_in d)) }
+    requires read { (d : tree.Document) × IsReadAs new.profile new.text.now new.syntax.now d }
     requires can { IfSome change (CanChange index.old) }
-    ensures new { (d : tree.Document) → WasRead text.now syntax.now d
-        → IfSome change.entry (λ c. (u : NodeInfos) → IsChanged index.old c u → IsIndexOf d u)
+    ensures new { (d : tree.Document) → IsReadAs new.entry.profile new.entry.text.now new.entry.syntax.now d
+        → IfSome change.entry (λ c. (u : NodeInfos) → IsChanged index.old d c u → IsIndexOf d u)
         → OnOk result (IsIndexOf d index.new) }
     ensures old { OnErr result (index.new ≡ index.old) }
     ensures memory { IfErr result (λ f. f ≡ law.Memory) }
 {
     if let Some(change) = change {
-        if change_index(index, change) {
+        if change_index(alloc, index, change, new) {
             return Ok(());
         }
     }
-    match index.rebuilt(alloc, text, lines, syntax) {
+    match index.rebuilt(alloc, new.text, lines, new.syntax) {
         Ok(built) => {
             *index = built;
             Ok(())

@@ -14,7 +14,7 @@ use Rattle.keep_edit_plan.specs.Reading.{limit, ProfiledText, text_in, IsTextOfT
 use Rattle.keep_edit_plan.specs.Answers.{IsMadeAt, IsSpanOf, IsTextAfter, IsDone, text_after}
 use Rattle.keep_edit_plan.specs.IndexChanges.{IsIndexChange}
 use Rattle.keep_edit_plan.specs.Places.{place_at, IsDoneAt, IsOfEdit}
-use Rattle.keep_edit_plan.specs.Plans.{ChangesKindOrKey, EditPlanned, IsIndexChanged, IsPlan, IsPlanAt, IsPlanOf}
+use Rattle.keep_edit_plan.specs.Plans.{EditPlanned, IsIndexChanged, IsPlan, IsPlanAt, IsPlanOf, SaysIndexChange}
 use Rattle.keep_edit_plan.specs.declared.plan.IndexChange.{IndexChange}
 use Rattle.keep_edit_plan.specs.declared.plan.Plan.{Plan}
 use Rattle.keep_edit_plan.specs.declared.text_edit.TextEdit.{TextEdit}
@@ -78,7 +78,7 @@ module _ (d : ProfiledText) (s : Document) (e : Edit) (span : Span) (given : Lis
 
   -- the plan, with a change of the index or none
   module _ (change : Option IndexChange) (is : IfSome change (IsIndexChange s (edited_document s e))) where
-    pub planned : (ChangesKindOrKey s e → is_some change ≡ true) → (result : Result Plan EditFault) → IsPlanAt span given change result → EditPlanned s e d result
+    pub planned : (SaysIndexChange s e → is_some change ≡ true) → (result : Result Plan EditFault) → IsPlanAt span given change result → EditPlanned s e d result
     planned some (Err f) h = subst (λ (g : EditFault). EditPlanned s e d (Err g)) (sym h) full_planned
     planned some (Ok plan) (there, same) =
         subst (λ (r : Option EditFault). IsDone (IsPlan s e d) r (Ok plan)) (sym at.0)

@@ -5,10 +5,12 @@ pub mod NodeLaws
 pub mod FoundLaws
 pub mod SetLaws
 pub mod KindLaws
+pub mod ValueChangeLaws
 pub mod MovedNodes
 pub mod MovedNested
 pub mod KeyLaws
 pub mod EditedLaws
+pub mod InsideLaws
 pub mod RenameLaws
 pub mod NewlineLaws
 pub mod RemoveNode
@@ -30,6 +32,7 @@ pub mod LineWriting
 pub mod BracketPlaces
 pub mod KeysLaws
 pub mod InsertedLaws
+pub mod InsertInsideLaws
 pub mod LineChangeLaws
 pub mod LineRemovalLaws
 pub mod HeaderChangeLaws

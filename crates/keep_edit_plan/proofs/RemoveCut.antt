@@ -35,7 +35,8 @@ use Rattle.keep_meaning.specs.Meaning.{mentions_in}
 use Rattle.keep_meaning.specs.Nodes.{is_define, is_begun, statement_number}
 use Rattle.keep_path.specs.NodeInfos.{NodeInfos}
 use Rattle.keep_edit_spec.specs.Changed.{Changed, Place, IsChangeOf, place_of}
-use Rattle.keep_edit_spec.specs.Edits.{remove, place, changed_or_same}
+use Rattle.keep_edit_spec.specs.Edits.{remove, change, nested as in_value, place, changed_or_same}
+use Rattle.keep_edit_spec.specs.Values.{removal}
 use Rattle.keep_edit_spec.specs.Laws.{IsLawfulEdit}
 use Rattle.keep_edit_spec.specs.Refusals.{refusal}
 use Rattle.keep_edit_spec.specs.Removal.{past_space, preserved_text, entry_place, line_place, section_place}
@@ -221,6 +222,7 @@ not_nested (owner.Item j) i h e = absurd cc
 
 -- what holds of the change
 record IsChanged (path : List Part) (s : Document) (c : Changed Document) : Type 0 where
+  pub is : change s (remove path) ≡ Some c
   pub place : place s (remove path) ≡ place_of c
   pub cut : IsChangeOf text s c
   pub placed : IsPlaced path s c
@@ -228,7 +230,7 @@ record IsChanged (path : List Part) (s : Document) (c : Changed Document) : Type
 the_change : (d : ProfiledText) (path : List Part) (s : Document) → IsTextOfTree d s → refusal d.profile limit s (remove path) ≡ None → (c : Changed Document) × IsChanged path s c
 the_change d path s read allowed =
     let r : IsRemoved d.profile limit path s = removed d.profile limit path s (editable d s read) allowed in
-    (r.lawful.changed, record { place = ap (λ (o : Option (Changed Document)). place_of (changed_or_same s o)) r.lawful.is; cut = r.cut; placed = r.placed })
+    (r.lawful.changed, record { is = r.lawful.is; place = ap (λ (o : Option (Changed Document)). place_of (changed_or_same s o)) r.lawful.is; cut = r.cut; placed = r.placed })
 
 -- a value and a header are not at one path
 no_header : (d : ProfiledText) (path : List Part) (s : Document) (n : ℕ) (c : Changed Document) → IsTextOfTree d s → value_number_of path s ≡ Some n → IsSectionPlaced path s c → ⊥
@@ -287,12 +289,13 @@ module _ (d : ProfiledText) (syntax : Syntax) (index : NodeInfos) (path : List P
                   (at ∙ ap (λ (t : Statement). line_place d.text t info) one ∙ ap (line_place d.text v.statement) (sym same) ∙ ap (λ (b : List ℕ). line_place b v.statement v.own) read.reads.spelled ∙ p.place) keeps p.low);
               of = record { pre = p.pre; rest = p.rest; was = p.was; found = v; own_is = same; value_is = one_of_two (value_number_of path s) v.value.number number v.value.is found; line_is = line_is };
             })
-        | inr (inl p) ↦ absurd (not_nested p.own.owner line p.nested (ap (λ (i : ValueInfo). i.owner) (own_is number info p.own found here p.value) ∙ owned))
+        | inr (inl (p, inside)) ↦ absurd (not_nested p.own.owner line p.nested (ap (λ (i : ValueInfo). i.owner) (own_is number info p.own found here p.value) ∙ owned))
         | inr (inr p) ↦ absurd (no_header d path s number c read found p)
       ]
 
   -- an entry of brackets
   pub record IsEntryArm (info : ValueInfo) : Type 0 where
+    pub inside : change s (remove path) ≡ in_value removal path s
     pub nested : IsEntryIn d.text info
     pub cut : (cut : Cut) → cut_place d.text cut ≡ entry_place d.text info → KeepsGap info cut → IsCutAt path s d.text cut
 
@@ -302,12 +305,13 @@ module _ (d : ProfiledText) (syntax : Syntax) (index : NodeInfos) (path : List P
       let there = value_there d syntax index path s number holds read found info here in
       elim h.placed [
         | inl p ↦ absurd (other p.found.number (sym (ap (λ (i : ValueInfo). i.owner) (own_is number info p.found.own found here p.found.value)) ∙ p.found.line))
-        | inr (inl p) ↦
+        | inr (inl (p, inside)) ↦
             (let same : p.own ≡ info = own_is number info p.own found here p.value in
             let edged : IsEdged d.text info = subst (λ (i : ValueInfo). IsEdged d.text i) same (subst (λ (b : List ℕ). IsEdged b p.own) (sym read.reads.spelled) p.edged) in
             let is : place s (remove path) ≡ entry_place d.text info =
             h.place ∙ sym p.place ∙ ap (λ (b : List ℕ). entry_place b p.own) (sym read.reads.spelled) ∙ ap (entry_place d.text) same in
             record {
+              inside = h.is ∙ sym inside;
               nested = entry_in d.text info edged there.span;
               cut = λ cut at keeps. entry_cut_at d.text read.utf8 info edged there.span cut path s is at keeps;
             })
@@ -334,7 +338,7 @@ module _ (d : ProfiledText) (syntax : Syntax) (index : NodeInfos) (path : List P
       let (c, h) = the_change d path s read allowed in
       elim h.placed [
         | inl p ↦ absurd (valued p.found.own p.found.value)
-        | inr (inl p) ↦ absurd (valued p.own p.value)
+        | inr (inl (p, inside)) ↦ absurd (valued p.own p.value)
         | inr (inr p) ↦
             (let same : p.number ≡ number = headed_is number p.number headed c p refl in
             record {

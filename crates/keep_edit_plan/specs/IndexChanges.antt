@@ -1,23 +1,28 @@
 -- What an edit changes of the index, where it need not be built anew.
 use Rattle.std.specs.Prelude.{◌≡◌, ◌<◌, [], ◌∷◌, ◌++◌, None, length}
-use Rattle.keep_syntax.specs.Tree.{Document}
+use Rattle.std.specs.Prelude.{ℕ}
+use Rattle.keep_syntax.specs.Tree.{Document, Value as TreeValue}
 use Rattle.keep_meaning.specs.Counts.{statements_in}
 use Rattle.keep_meaning.specs.Marks.{start, reading_after}
-use Rattle.keep_meaning.specs.Meaning.{mentions_in}
-use Rattle.keep_meaning.specs.Nodes.{node_number}
+use Rattle.keep_meaning.specs.Meaning.{body_fact, mentions_in}
+use Rattle.keep_meaning.specs.Nodes.{fact_kind, node_number}
+use Rattle.keep_meaning.specs.OtherValues.{nodes_in_value, totals_of}
 use Rattle.keep_meaning.specs.StatementsMore.{AreNumbersAtEnd, said_next}
 use Rattle.keep_path.specs.NodeInfos.{NodeInfos, with_kind, with_node, with_path, without_node}
+use Rattle.keep_path.specs.NodesBelow.{AreBelow, with_value}
 use Rattle.keep_path.specs.Path.{EndsInKey, beside, key}
+pub use Rattle.keep_index_store.specs.Below.{totals_in}
 use Rattle.keep_index_store.specs.Renumbering.{numbers_of}
 use Rattle.keep_rules.specs.LinePlaces.{IsPlaceOf, met_before}
 use Rattle.keep_rules.specs.Lookup.{path_numbered}
 use Rattle.keep_rules.specs.MentionInfos.{with_mentions}
 use Rattle.keep_rules.specs.Nested.{AreNested}
 use Rattle.keep_rules.specs.ReadDocuments.{IsIndexOf}
+use Rattle.keep_edit_spec.specs.KeyvalLines.{IsLineValue}
 use Rattle.keep_edit_plan.specs.Headers.{key_texts, statement_of}
-use Rattle.keep_edit_plan.specs.Reading.{telling_in}
+use Rattle.keep_edit_plan.specs.Reading.{IsTextOfValue, telling_in}
 use Rattle.keep_edit_plan.specs.declared.plan.IndexChange.{IndexChange}
-use Rattle.keep_edit_plan.specs.declared.plan.IndexChange.TheVariants.{Kind, Key, AddedLine, RemovedLine}
+use Rattle.keep_edit_plan.specs.declared.plan.IndexChange.TheVariants.{Kind, Key, Value, Inside, AddedLine, RemovedLine}
 use Rattle.keep_edit_plan.specs.declared.plan.IndexChange.TheVariants.{AppendedHeader}
 
 -- The node is there. Where another key is its path's last one, the path ends in a key, and no node is at the new one.
@@ -28,6 +33,8 @@ CanChange t (Kind node kind) = node.0 < length t.paths
 CanChange t (Key node text) =
     (node.0 < length t.paths) × EndsInKey (path_numbered t node.0)
     × (node_number t.paths (beside (path_numbered t node.0) text.now) ≡ None)
+CanChange t (Value node value old) = node.0 < length t.paths
+CanChange t (Inside node number old) = node.0 < length t.paths
 CanChange t (AddedLine parent text line kind) =
     (parent.0 < length t.paths) × (node_number t.paths (path_numbered t parent.0 ++ key text.now ∷ []) ≡ None)
     × IsPlaceOf (numbers_of line) t.infos (met_before (numbers_of line) t.infos)
@@ -35,22 +42,28 @@ CanChange t (RemovedLine node line) = node.0 < length t.paths
 CanChange t (AppendedHeader header keys statement first) =
     (d : Document) × IsIndexOf d t × AreNumbersAtEnd d statement first
 
--- the nodes of the second are those of the first, with this change
-abbrev pub IsChanged : NodeInfos → IndexChange → NodeInfos → Type 0
-IsChanged t (Kind node kind) u = u ≡ with_kind t node.0 kind
-IsChanged t (Key node text) u =
+-- The nodes of the second are those of the first, with this change, which gives this document.
+abbrev pub IsChanged : NodeInfos → Document → IndexChange → NodeInfos → Type 0
+IsChanged t d (Kind node kind) u = u ≡ with_kind t node.0 kind
+IsChanged t d (Key node text) u =
     u ≡ with_path t (path_numbered t node.0) (beside (path_numbered t node.0) text.now)
-IsChanged t (AddedLine parent text line kind) u =
+IsChanged t d (Value node value old) u =
+    (v : TreeValue) → IsTextOfValue value.now v → (gone : ℕ) → AreBelow t.paths node.0 gone
+    → u ≡ with_value t node.0 gone (totals_in old) (totals_of d) (nodes_in_value v) (fact_kind (body_fact v.body))
+IsChanged t d (Inside node number old) u =
+    (v : TreeValue) → IsLineValue d number v → (gone : ℕ) → AreBelow t.paths node.0 gone
+    → u ≡ with_value t node.0 gone (totals_in old) (totals_of d) (nodes_in_value v) (fact_kind (body_fact v.body))
+IsChanged t d (AddedLine parent text line kind) u =
     u ≡ with_node t (met_before (numbers_of line) t.infos) (numbers_of line)
     (path_numbered t parent.0 ++ key text.now ∷ []) kind
-IsChanged t (RemovedLine node line) u = u ≡ without_node t node.0 (numbers_of line)
-IsChanged t (AppendedHeader header keys statement first) u =
-    (d : Document) → IsIndexOf d t → AreNumbersAtEnd d statement first
-    → u ≡ with_mentions t (said_next d (statement_of header (key_texts keys.now)))
+IsChanged t d (RemovedLine node line) u = u ≡ without_node t node.0 (numbers_of line)
+IsChanged t d (AppendedHeader header keys statement first) u =
+    (old : Document) → IsIndexOf old t → AreNumbersAtEnd old statement first
+    → u ≡ with_mentions t (said_next old (statement_of header (key_texts keys.now)))
 
 -- What is known of the nodes of the new document is what is known of those of the old one, with this change. They are
 -- nested as its headers say.
 pub record IsIndexChange (old new : Document) (change : IndexChange) : Type 0 where
   pub can : CanChange (telling_in old) change
-  pub told : (u : NodeInfos) → IsChanged (telling_in old) change u → u ≡ telling_in new
+  pub told : (u : NodeInfos) → IsChanged (telling_in old) new change u → u ≡ telling_in new
   pub nested : AreNested (mentions_in new) (reading_after start (statements_in new)).tables

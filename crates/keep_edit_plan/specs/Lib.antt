@@ -7,6 +7,7 @@ pub mod Holding
 pub mod Newlines
 pub mod Headers
 pub mod IndexChanges
+pub mod InsideValues
 pub mod Plans
 pub mod Given
 pub mod Writing

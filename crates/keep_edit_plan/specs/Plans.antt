@@ -1,15 +1,15 @@
 -- What is decided of an edit: what it writes, and what it changes of the index.
-use Rattle.std.specs.Prelude.{◌≡◌, ⊤, ℕ, true, List, [], IfSome, Option, Some, is_some, Result, Ok, Err}
+use Rattle.std.specs.Prelude.{◌≡◌, ◌⊎◌, ⊤, ℕ, true, List, [], IfSome, Option, Some, is_some, Result, Ok, Err}
 use Rattle.keep_types.specs.declared.syntax.Span.{Span}
 use Rattle.keep_token.specs.Encoded.{encoded_key}
 use Rattle.keep_syntax.specs.Tree.{Document, value_depth}
 use Rattle.keep_meaning.specs.Meaning.{mentions_in}
 use Rattle.keep_meaning.specs.Nodes.{children, node_number, node_paths}
-use Rattle.keep_path.specs.Path.{Part}
+use Rattle.keep_path.specs.Path.{EndsInKey, Part}
 use Rattle.keep_rules.specs.declared.index.NodeId.{NodeId}
 use Rattle.keep_edit_spec.specs.declared.fault.EditFault.{EditFault}
 use Rattle.keep_edit_spec.specs.declared.fault.EditFault.TheVariants.{Memory}
-use Rattle.keep_edit_spec.specs.Edits.{Edit, set, rename, edited_document}
+use Rattle.keep_edit_spec.specs.Edits.{Edit, set, rename, append_table, append_element, edited_document}
 use Rattle.keep_edit_plan.specs.Answers.{IsDone, IsFound, IsMade, IsMadeAt, refusal_in, text_after}
 use Rattle.keep_edit_plan.specs.IndexChanges.{IsIndexChange}
 use Rattle.keep_edit_plan.specs.Places.{IsDoneAt, IsOfEdit, place_at}
@@ -20,19 +20,22 @@ use Rattle.keep_edit_plan.specs.declared.text_edit.TextEdit.{TextEdit}
 
 -- ---- what a plan is
 
--- The edits of which no more of the index changes than a kind or a key: a scalar in place of a value below which no
--- node is, and another key.
-abbrev pub ChangesKindOrKey : Document → Edit → Type 0
-ChangesKindOrKey s (set path value) = (value_depth value ≡ 0) × (children path (node_paths (mentions_in s)) ≡ [])
-ChangesKindOrKey s (rename path text) = ⊤
-ChangesKindOrKey s _ = ⊥
+-- The edits whose plans say what they change of the index: another value with a key, a scalar in place of a value below
+-- which no node is, another key, and a header at the end.
+abbrev pub SaysIndexChange : Document → Edit → Type 0
+SaysIndexChange s (set path value) =
+    EndsInKey path ⊎ ((value_depth value ≡ 0) × (children path (node_paths (mentions_in s)) ≡ []))
+SaysIndexChange s (rename path text) = ⊤
+SaysIndexChange s (append_table keys) = ⊤
+SaysIndexChange s (append_element keys) = ⊤
+SaysIndexChange s _ = ⊥
 
--- What is written is the edit's. If it says what the edit changes of the index, that is all that changes, and it does
--- say so where that is a kind or a key.
+-- What is written is the edit's. If it says what the edit changes of the index, that is all that changes; and of these
+-- edits it does say so.
 pub record IsPlan (s : Document) (e : Edit) (old : ProfiledText) (plan : Plan) : Type 0 where
   pub made : IsMade s e old plan.text_edit
   pub change : IfSome plan.index_change (IsIndexChange s (edited_document s e))
-  pub some : ChangesKindOrKey s e → is_some plan.index_change ≡ true
+  pub some : SaysIndexChange s e → is_some plan.index_change ≡ true
 
 -- the edit is decided: it is refused, or this is its plan
 abbrev pub EditPlanned : Document → Edit → ProfiledText → Result Plan EditFault → Type 0

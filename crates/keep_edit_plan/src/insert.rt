@@ -88,7 +88,7 @@ impl<'a> DocumentRef<'a> {
         let place = Span { start: at, end: at };
         Ok(Plan {
             text_edit: TextEdit { place, new },
-            index_change: self.line_change(path, insertion, value),
+            index_change: self.insertion_change(path, insertion, value),
         })
     }
 

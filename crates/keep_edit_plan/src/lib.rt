@@ -9,15 +9,18 @@ mod edit;
 mod header;
 mod holder;
 mod insert;
+mod inside;
 mod newline;
 mod plan;
 mod remove;
 mod rename;
 mod set;
 mod text_edit;
+mod totals;
 
 pub use document::DocumentRef;
 pub use edit::Edit;
 pub use header::Header;
 pub use plan::{IndexChange, Plan};
 pub use text_edit::{TextEdit, part_at};
+pub use totals::totals_of;

@@ -4,7 +4,7 @@ ghost use Rattle.keep_edit_plan.specs.Plans.{IsPlanAt};
 use crate::header::Header;
 use crate::text_edit::TextEdit;
 use keep_edit_spec::EditFault;
-use keep_rules::{Kind, LineNumbers, NodeId};
+use keep_rules::{Kind, LineNumbers, NodeId, Totals, ValueText};
 use keep_syntax::Span;
 use std::alloc::Global;
 
@@ -20,6 +20,19 @@ pub enum IndexChange<'a> {
     Key {
         node: NodeId,
         key: &'a str,
+    },
+    /// Another value, with a key, in the place of that of a node; the document had so many values and key parts.
+    Value {
+        node: NodeId,
+        value: &'a ValueText,
+        totals: Totals,
+    },
+    /// The value of a line has other values in it, at this node and with this number; the document had so many values
+    /// and key parts.
+    Inside {
+        node: NodeId,
+        value: usize,
+        totals: Totals,
     },
     /// A line comes with these numbers: below a table there is one node more, by this key, with nothing below it.
     AddedLine {

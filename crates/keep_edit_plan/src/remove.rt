@@ -56,7 +56,7 @@ impl<'a> DocumentRef<'a> {
         let text = self.text;
         let (node, piece) = self.piece(path)?;
         let cut = self.cut(piece);
-        let change = self.removed_line(node, piece);
+        let change = self.removal_change(path, node, piece);
         plan_at(alloc, cut.span, part_at(text, cut.preserved), change)
     }
 

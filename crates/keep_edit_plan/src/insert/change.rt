@@ -1,6 +1,7 @@
 //! What an insertion changes of the index.
 ghost use Rattle.std.specs.Prelude.{IfSome, Ok};
 ghost use Rattle.keep_syntax.specs.Tree as tree;
+ghost use Rattle.keep_path.specs.Path.{AreUtf8};
 ghost use Rattle.keep_edit_spec.specs.Edits.{edited_document, insert};
 ghost use Rattle.keep_edit_plan.specs.IndexChanges.{IsIndexChange};
 ghost use Rattle.keep_edit_plan.specs.Inserting.{IsInsertionOf};
@@ -12,8 +13,35 @@ use crate::plan::IndexChange;
 use keep_rules::{Path, Step, ValueText};
 
 impl<'a> DocumentRef<'a> {
+    /// What an insertion changes of the index, if that is another value of a line, or one line more, with one key and a
+    /// scalar. It takes no memory.
+    pub(crate) fn insertion_change<'p>(
+        &self,
+        path: &'p Path,
+        insertion: Insertion,
+        value: &ValueText,
+    ) -> Option<IndexChange<'p>>
+        requires aimed { (s : tree.Document) × IsTextOfTree self.now s
+            × ((v : tree.Value) × IsTextOfValue value.now v
+            × IsInsertionOf self.now.profile path.now v s (Ok insertion)) }
+        requires utf8 { AreUtf8 path.now }
+        ensures { (s : tree.Document) → IsTextOfTree self.now s → (v : tree.Value) → IsTextOfValue value.now v
+            → IsInsertionOf self.now.profile path.now v s (Ok insertion)
+            → IfSome result (IsIndexChange s (edited_document s (insert path.now v))) }
+    {
+        // The invariant of a document is known to the proof from where a field of it is looked at.
+        let _text = self.text;
+        match insertion.spot {
+            Spot::BeforeItem(_) | Spot::AfterEntry(_) | Spot::InEmpty(_) => self.inside_change(
+                path,
+            ),
+            Spot::AfterBody(_) => self.line_change(path, insertion, value),
+            Spot::AfterLine(_) | Spot::NewSection(_) => None,
+        }
+    }
+
     /// What an insertion changes of the index, if that is one line more, with one key and a scalar. It takes no memory.
-    pub(crate) fn line_change<'p>(
+    fn line_change<'p>(
         &self,
         path: &'p Path,
         insertion: Insertion,

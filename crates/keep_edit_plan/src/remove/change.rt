@@ -10,13 +10,36 @@ ghost use Rattle.keep_edit_plan.specs.Removing.{IsRemovalFound};
 use super::Piece;
 use crate::document::DocumentRef;
 use crate::plan::IndexChange;
-use keep_rules::{LineNumbers, NodeId};
+use keep_rules::{LineNumbers, NodeId, Path};
 use keep_syntax::Owner;
 
 impl<'a> DocumentRef<'a> {
+    /// What a removal changes of the index, if that is another value of a line, or one line less, with one key and a
+    /// value below which there is no node. It takes no memory.
+    pub(crate) fn removal_change(
+        &self,
+        path: &Path,
+        node: NodeId,
+        piece: Piece,
+    ) -> Option<IndexChange<'static>>
+        requires { (s : tree.Document) × IsTextOfTree self.now s
+            × IsRemovalFound self.now.profile path.now s (Ok (node, piece)) }
+        ensures { (s : tree.Document) → IsTextOfTree self.now s
+            → IsRemovalFound self.now.profile path.now s (Ok (node, piece))
+            → IfSome result (IsIndexChange s (edited_document s (remove path.now))) }
+    {
+        let Piece::Value(number) = piece else {
+            return None;
+        };
+        match self.syntax.value(number).owner {
+            Owner::Line(_) => self.removed_line(node, piece),
+            _ => self.inside_change(path),
+        }
+    }
+
     /// What a removal changes of the index, if that is one line less, with one key and a value below which there is no
     /// node. It takes no memory.
-    pub(crate) fn removed_line(&self, node: NodeId, piece: Piece) -> Option<IndexChange<'static>>
+    fn removed_line(&self, node: NodeId, piece: Piece) -> Option<IndexChange<'static>>
         requires { (s : tree.Document) × IsTextOfTree self.now s
             × ((path : List Part) × IsRemovalFound self.now.profile path s (Ok (node, piece))) }
         ensures { (s : tree.Document) → IsTextOfTree self.now s → (path : List Part)

@@ -17,10 +17,10 @@ cut-cut-requires c =
     let h = seen c.self.view_is c.self.invariant in
     (c.args.path.now, h.tree, h.read, (c.in_ok-node.ensures h.tree h.read).1)
 
-pub removed_line-change-requires : goal.removed_line-change-requires
-removed_line-change-requires c =
+pub removal_change-change-requires : goal.removal_change-change-requires
+removal_change-change-requires c =
     let h = seen c.self.view_is c.self.invariant in
-    (h.tree, h.read, (c.args.path.now, c.in_ok-node.ensures h.tree h.read))
+    (h.tree, h.read, c.in_ok-node.ensures h.tree h.read)
 
 pub part_at-requires : goal.part_at-requires
 part_at-requires c =
@@ -35,7 +35,7 @@ returns-clause-planned c = λ s read.
     let is = rw (c.part_at.ensures, text_seen c.self.view_is) at c.plan_at.ensures in
     planned c.args.self.now s (remove c.args.path.now) c.cut-cut.result.span (text_at c.args.self.now.text c.cut-cut.result.preserved) read
     (removal_done c.args.self.now c.args.path.now s _ c.cut-cut.result found.1 at) (removal_law c.args.self.now c.args.path.now s read found.1.0)
-    c.removed_line-change.result (c.removed_line-change.ensures s read c.args.path.now found) (λ one. absurd one) c.plan_at.result is
+    c.removal_change-change.result (c.removal_change-change.ensures s read found) (λ one. absurd one) c.plan_at.result is
 
 pub returns-clause-of_edit : goal.returns-clause-of_edit
 returns-clause-of_edit c =
@@ -45,4 +45,4 @@ returns-clause-of_edit c =
     let is = rw (c.part_at.ensures, text_seen c.self.view_is) at c.plan_at.ensures in
     plan_of_edit c.args.self.now h.tree (remove c.args.path.now) c.cut-cut.result.span (text_at c.args.self.now.text c.cut-cut.result.preserved) h.read
     (removal_done c.args.self.now c.args.path.now h.tree _ c.cut-cut.result found.1 at) (removal_law c.args.self.now c.args.path.now h.tree h.read found.1.0)
-    c.removed_line-change.result (c.removed_line-change.ensures h.tree h.read c.args.path.now found) c.plan_at.result is
+    c.removal_change-change.result (c.removal_change-change.ensures h.tree h.read found) c.plan_at.result is

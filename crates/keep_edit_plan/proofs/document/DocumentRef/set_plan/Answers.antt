@@ -30,10 +30,10 @@ returns-then-not-is_allowed_in-clause-planned c = λ s read v value.
     let at = setting _ _ _ _ c.args.path.now s v _ _ _ h read (c.in_ok-node.ensures s read).1 c.value-found.ensures.stored value (c.depth.ensures v value) in
     foreign_done _ _ _ _ _ _ _ at _ c.if-found-depth-gt-STANDARD_DEPTH.false (allowed_by v c.self.view_is (c.is_allowed_in.ensures v value) c.if-not-is_allowed_in.true)
 
-pub kind_change-requires : goal.kind_change-requires
-kind_change-requires c =
+pub value_change-requires : goal.value_change-requires
+value_change-requires c =
     let h = seen c.self.view_is c.self.invariant in
-    (h.tree, h.read, (c.args.path.now, (c.in_ok-node.ensures h.tree h.read).0))
+    (h.tree, h.read, (c.in_ok-node.ensures h.tree h.read).0)
 
 pub returns-clause-planned : goal.returns-clause-planned
 returns-clause-planned c = λ s read v value.
@@ -44,7 +44,7 @@ returns-clause-planned c = λ s read v value.
     let there = done_at _ _ _ _ _ _ _ at may in
     let is = rw c.as_str-new.ensures.text at c.plan_at.ensures in
     planned c.args.self.now s (set c.args.path.now v) c.value-found.result.span c.args.value.now read there (set_law _ _ _ _ _ _ _ at may)
-    c.kind_change.result (c.kind_change.ensures.change s read c.args.path.now found.0 v value there.0) (c.kind_change.ensures.some s read c.args.path.now found.0 v value) c.plan_at.result is
+    c.value_change.result (c.value_change.ensures.change s read found.0 v value there.0) (c.value_change.ensures.some s read found.0 v value) c.plan_at.result is
 
 pub returns-clause-of_edit : goal.returns-clause-of_edit
 returns-clause-of_edit c =
@@ -56,4 +56,4 @@ returns-clause-of_edit c =
     let there = done_at _ _ _ _ _ _ _ at may in
     let is = rw c.as_str-new.ensures.text at c.plan_at.ensures in
     plan_of_edit c.args.self.now h.tree (set c.args.path.now v) c.value-found.result.span c.args.value.now h.read there (set_law _ _ _ _ _ _ _ at may)
-    c.kind_change.result (c.kind_change.ensures.change h.tree h.read c.args.path.now found.0 v value there.0) c.plan_at.result is
+    c.value_change.result (c.value_change.ensures.change h.tree h.read found.0 v value there.0) c.plan_at.result is
