@@ -73,17 +73,17 @@ module _ {E P : Type 0} (unpack : P → E) (raise : ℕ → E → E) where
       ∙ ap (λ m. entries unpack raise v ++ unwrap_or m (unpack s) ∷ []) (found_before n n v.unfit before (omega arith))
       ∙ ap (λ x. entries unpack raise v ++ x ∷ []) is
 
-  pub pushed_unfit : (v : PackedVec E P) (ps : List P) (us : List (Numbered E)) (s : P) (n : ℕ) (e : E) → n ≡ length v.packed.items
-      → move_of v.moves.items n ≡ None → AreBefore n v.unfit → us ≡ v.unfit ++ numbered n e ∷ [] → ps ≡ v.packed.items ++ s ∷ []
+  pub pushed_unfit : (v : PackedVec E P) (ps : List P) (us : List (Numbered E)) (s : P) (n : ℕ) (e x : E) → n ≡ length v.packed.items
+      → raise_by raise (move_of v.moves.items n) x ≡ e → AreBefore n v.unfit → us ≡ v.unfit ++ numbered n x ∷ [] → ps ≡ v.packed.items ++ s ∷ []
       → of_lists v.moves.items ps us ≡ entries unpack raise v ++ e ∷ []
-  pushed_unfit v ps us s n e is still before more all =
+  pushed_unfit v ps us s n e x is raised before more all =
       let xs = map unpack v.packed.items in
       ap (λ qs. of_lists v.moves.items qs us) all
       ∙ one_more v.moves.items us v.packed.items s
       ∙ ap (λ k. of_lists v.moves.items v.packed.items us ++ raise_by raise (move_of v.moves.items k) (unwrap_or (found k us) (unpack s)) ∷ []) (sym is)
-      ∙ ap (λ m. of_lists v.moves.items v.packed.items us ++ raise_by raise m (unwrap_or (found n us) (unpack s)) ∷ []) still
-      ∙ ap (λ m. of_lists v.moves.items v.packed.items us ++ unwrap_or m (unpack s) ∷ []) (ap (found n) more ∙ found_last n e v.unfit before)
-      ∙ ap (λ ys. in_blocks raise v.moves.items 0 ys ++ e ∷ []) (unfit_alike v.unfit us 0 xs (λ i low high. ap (found i) more ∙ found_earlier i n e v.unfit (λ z. omega (arith, high, is, z, length-map v.packed.items unpack))))
+      ∙ ap (λ m. of_lists v.moves.items v.packed.items us ++ raise_by raise (move_of v.moves.items n) (unwrap_or m (unpack s)) ∷ []) (ap (found n) more ∙ found_last n x v.unfit before)
+      ∙ ap (λ y. of_lists v.moves.items v.packed.items us ++ y ∷ []) raised
+      ∙ ap (λ ys. in_blocks raise v.moves.items 0 ys ++ e ∷ []) (unfit_alike v.unfit us 0 xs (λ i low high. ap (found i) more ∙ found_earlier i n x v.unfit (λ z. omega (arith, high, is, z, length-map v.packed.items unpack))))
 
   -- ---- one by its number
 

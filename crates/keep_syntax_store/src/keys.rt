@@ -3,7 +3,7 @@ mod shifting;
 
 use crate::moves::{Counts, moved_key};
 use crate::packed_vec::Entry;
-use crate::places::raised_span;
+use crate::places::{lowered_span, raised_span};
 use crate::widths::{LONG, SHORT, distance};
 use keep_types::{KeyPart, Leaf, Span};
 
@@ -79,6 +79,13 @@ impl Entry for KeyPart {
         KeyPart {
             leaf: self.leaf,
             span: raised_span(self.span, by),
+        }
+    }
+
+    fn lowered(self, block: Option<usize>) -> KeyPart {
+        KeyPart {
+            leaf: self.leaf,
+            span: lowered_span(self.span, block),
         }
     }
 }

@@ -2,6 +2,7 @@
 ghost use Rattle.std.specs.Prelude.{◌≡◌, ◌<◌, ◌≤◌, ◌++◌, ◌∷◌, [], None, Some, length, map, get_or, slice_get};
 ghost use Rattle.std.specs.Prelude.{slice_range, IfSome, OnOk, SomeIff};
 ghost use Rattle.std.specs.Bool.{Decides};
+ghost use Rattle.keep_syntax_store.specs.Blocks.{raise_by};
 ghost use Rattle.keep_syntax_store.specs.Moving.{MovesRight};
 ghost use Rattle.keep_syntax_store.specs.PackedVec.{IsAllPacked, IsRunOf, entries};
 
@@ -53,6 +54,10 @@ pub trait Entry: Copy {
     /// The entry with its places moved on; its numbers stay.
     fn raised(self, by: usize) -> Self
         ensures { result ≡ raise by self };
+
+    /// The entry that a block's move makes this one.
+    fn lowered(self, block: Option<usize>) -> Self
+        ensures { raise_by raise block result ≡ self };
 }
 
 /// Entries in text order. One that doesn't fit into few bytes is in `unfit` by its number, with a stand-in at its place
@@ -131,22 +136,17 @@ impl<T: Entry> PackedVec<T, T::Packed> {
         self.push_unfit(entry)
     }
 
-    /// Adds one more that isn't packed. A block that was moved takes none.
+    /// Adds one more that isn't packed.
     #[inline(never)]
     fn push_unfit(&mut self, entry: T) -> Result<(), AllocError>
         ensures { OnOk result (entries T.unpacked T.raise self.new
             ≡ entries T.unpacked T.raise self.old ++ entry ∷ []) }
     {
         let number = self.packed.len();
-        if block_move(&self.moves, number / BLOCK).is_some() {
-            return Err(AllocError);
-        }
-        self.packed.push(T::stand_in())?;
-        if let Err(refused) = self.unfit.push(number, entry) {
-            // no stand-in without its entry
-            self.packed.pop();
-            return Err(refused);
-        }
+        let stored = entry.lowered(block_move(&self.moves, number / BLOCK));
+        self.packed.reserve(1)?;
+        self.unfit.push(number, stored)?;
+        self.packed.push_reserved(T::stand_in());
         Ok(())
     }
 

@@ -226,6 +226,7 @@ impl Parts {
     }
 
     /// The statement with this number.
+    #[inline(always)]
     pub fn statement_at(&self, number: usize) -> Statement
         requires { number < length (spec.flat self.now).statements }
         ensures { slice_get (spec.flat self.now).statements number ≡ Some result }

@@ -29,6 +29,25 @@ pub fn raised_span(span: Span, by: usize) -> Span
     }
 }
 
+/// What a block's move makes this span.
+pub fn lowered_span(span: Span, block: Option<usize>) -> Span
+    ensures { spec.raise_by spec.raise_span block result ≡ span }
+{
+    Span {
+        start: lowered(span.start, block),
+        end: lowered(span.end, block),
+    }
+}
+
+pub fn lowered_there(at: Option<usize>, block: Option<usize>) -> Option<usize>
+    ensures { spec.raise_by spec.raise_there block result ≡ at }
+{
+    match at {
+        Some(at) => Some(lowered(at, block)),
+        None => None,
+    }
+}
+
 /// The place that a block's move makes this place.
 pub fn lowered(at: usize, block: Option<usize>) -> usize
     ensures { spec.raise_by spec.raise_place block result ≡ at }

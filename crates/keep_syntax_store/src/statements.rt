@@ -4,7 +4,7 @@ mod shifting;
 use crate::moves::{Counts, moved_statement};
 use crate::packed_vec::Entry;
 use crate::parts::if_there;
-use crate::places::raised_span;
+use crate::places::{lowered_span, raised_span};
 use crate::widths::{LONG, SHORT, distance, either};
 use keep_types::{Span, Statement, StatementKind};
 
@@ -115,6 +115,17 @@ impl Entry for Statement {
             kind: self.kind,
             span: raised_span(self.span, by),
             line: raised_span(self.line, by),
+            first_key: self.first_key,
+            keys: self.keys,
+            value: self.value,
+        }
+    }
+
+    fn lowered(self, block: Option<usize>) -> Statement {
+        Statement {
+            kind: self.kind,
+            span: lowered_span(self.span, block),
+            line: lowered_span(self.line, block),
             first_key: self.first_key,
             keys: self.keys,
             value: self.value,

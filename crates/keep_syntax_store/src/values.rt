@@ -9,7 +9,7 @@ mod shifting;
 use crate::moves::{Counts, moved_value};
 use crate::packed_vec::{BLOCK, Entry, PackedVec, block_move};
 use crate::parts::{flag_and_number, if_there};
-use crate::places::{lowered, raised_span, raised_there};
+use crate::places::{lowered, lowered_span, lowered_there, raised_span, raised_there};
 use crate::widths::{LONG, SHORT, distance, either};
 use keep_types::{Leaf, Owner, Span, ValueInfo};
 
@@ -176,6 +176,20 @@ impl Entry for ValueInfo {
             keys: self.keys,
             comma_before: raised_there(self.comma_before, by),
             comma_after: raised_there(self.comma_after, by),
+        }
+    }
+
+    fn lowered(self, block: Option<usize>) -> ValueInfo {
+        ValueInfo {
+            leaf: self.leaf,
+            span: lowered_span(self.span, block),
+            whole: lowered_span(self.whole, block),
+            owner: self.owner,
+            depth: self.depth,
+            first_key: self.first_key,
+            keys: self.keys,
+            comma_before: lowered_there(self.comma_before, block),
+            comma_after: lowered_there(self.comma_after, block),
         }
     }
 }
