@@ -1,20 +1,24 @@
 //! The stored facts about a node, where a line comes or goes: their numbers change in place.
-ghost use Rattle.std.specs.Prelude.{◌≡◌, IfNone, IfSome};
+ghost use Rattle.std.specs.Prelude.{◌≡◌, IfNone, IfSome, true};
 ghost use Rattle.keep_path.specs.NodeInfos as spec;
 ghost use Rattle.keep_index_store.specs.Facts.{info_of};
-ghost use Rattle.keep_index_store.specs.Renumbering.{InfoCanGrow, ShortCanGrow};
+ghost use Rattle.keep_index_store.specs.Renumbering.{CanGrow, InfoCanGrow, ShortCanGrow};
 ghost use Rattle.keep_index_store.specs.Renumbering.{renumbered_facts, renumbered_short};
 
-use super::{Form, LONG, PackedFacts, ShortFacts};
+use super::{Form, PackedFacts, ShortFacts};
 use crate::renumbering::LineNumbers;
 
-/// What a number of 32 bits is once there is one more at `at`. It may not fit into 32 bits then.
+/// What a number of 32 bits is once there is one more at `at`. None, if it can't be greater by one in 32 bits.
 #[inline(always)]
-fn later_number(at: usize, number: u32) -> usize
-    ensures { result ≡ spec.later_number at number }
+fn later_number(at: usize, number: u32) -> Option<u32>
+    ensures later { IfSome result (λ n. n ≡ spec.later_number at number) }
+    ensures full { IfNone result (CanGrow number → ⊥) }
 {
-    let number = number as usize;
-    if number < at { number } else { number + 1 }
+    if (number as usize) < at {
+        Some(number)
+    } else {
+        number.checked_add(1)
+    }
 }
 
 /// What a number of 32 bits is once that at `at` is gone.
@@ -30,6 +34,15 @@ fn earlier_number(at: usize, number: u32) -> u32
 }
 
 impl ShortFacts {
+    /// Whether both numbers are less than the line's numbers: then they stay as they are, whether it comes or goes.
+    #[inline(always)]
+    fn is_before_line(&self, line: LineNumbers) -> bool
+        ensures later { result ≡ true → renumbered_short spec.later_number line self.now ≡ self.now }
+        ensures earlier { result ≡ true → renumbered_short spec.earlier_number line self.now ≡ self.now }
+    {
+        (self.key as usize) < line.key && (self.number as usize) < line.statement.min(line.value)
+    }
+
     /// Changes the numbers to those once the line is there. None, if one can't be greater by one in 32 bits: then
     /// nothing is changed.
     #[inline(always)]
@@ -38,20 +51,18 @@ impl ShortFacts {
         ensures unchanged { IfNone result (self.new ≡ self.old) }
         ensures full { IfNone result (ShortCanGrow self.old → ⊥) }
     {
-        let key = if self.marks == 0 {
-            self.key as usize
-        } else {
-            later_number(line.key, self.key)
-        };
-        let number = match line.number_for(self.origin) {
-            Some(at) => later_number(at, self.number),
-            None => self.number as usize,
-        };
-        if key > LONG || number > LONG {
-            return None;
+        if self.is_before_line(line) {
+            return Some(());
         }
-        self.key = key as u32;
-        self.number = number as u32;
+        let key = if self.marks == 0 {
+            self.key
+        } else {
+            later_number(line.key, self.key)?
+        };
+        if let Some(at) = line.number_for(self.origin) {
+            self.number = later_number(at, self.number)?;
+        }
+        self.key = key;
         Some(())
     }
 
@@ -60,6 +71,9 @@ impl ShortFacts {
     fn renumber_earlier(&mut self, line: LineNumbers)
         ensures { self.new ≡ renumbered_short spec.earlier_number line self.old }
     {
+        if self.is_before_line(line) {
+            return;
+        }
         if self.marks != 0 {
             self.key = earlier_number(line.key, self.key);
         }
