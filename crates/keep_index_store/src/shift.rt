@@ -1,5 +1,6 @@
 //! How numbers are moved where the value of a document gives place to another.
-ghost use Rattle.std.specs.Prelude.{◌≡◌, ◌-◌, ◌<◌, ◌^◌, min};
+ghost use Rattle.std.specs.Prelude.{◌≡◌, ◌-◌, ◌<◌, ◌^◌, min, true};
+ghost use Rattle.keep_index_store.specs.declared.facts.NodeFacts.{NodeFacts};
 ghost use Rattle.keep_index_store.specs.Below.{shifted_by, shifted_facts, value_shift};
 ghost use Rattle.keep_index_store.specs.Shifting.{CanShift};
 
@@ -44,6 +45,14 @@ impl Shift {
 }
 
 impl NumberShifts {
+    /// Whether there are as many numbers as before: then each stays as it is.
+    #[inline(always)]
+    pub(crate) fn moves_nothing(self) -> bool
+        ensures { result ≡ true → (facts : NodeFacts) → shifted_facts self facts ≡ facts }
+    {
+        self.values.old == self.values.new && self.keys.old == self.keys.new
+    }
+
     /// How the number that a place names is moved, if it is that of a value.
     #[inline(always)]
     pub(crate) fn value_shift(self, origin: OriginKind) -> Option<Shift>

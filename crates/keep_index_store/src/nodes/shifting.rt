@@ -29,11 +29,14 @@ fn shift_each(nodes: &mut [Node], by: NumberShifts)
 }
 
 /// Moves the numbers of all nodes, and says whether it was done: not where one would have more than 32 bits. Then
-/// nothing is changed. It takes no memory.
+/// nothing is changed. It takes no memory, and does not go over the nodes where no number is moved.
 pub fn shift_all(nodes: &mut [Node], by: NumberShifts) -> bool
     ensures shifted { result ≡ true → nodes.new ≡ map (with_shifted_stored by) nodes.old }
     ensures unchanged { result ≡ false → nodes.new ≡ nodes.old }
 {
+    if by.moves_nothing() {
+        return true;
+    }
     let fits = can_shift_all(nodes, by);
     if fits {
         shift_each(nodes, by);
