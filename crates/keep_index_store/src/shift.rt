@@ -1,5 +1,5 @@
 //! How numbers are moved where the value of a document gives place to another.
-ghost use Rattle.std.specs.Prelude.{◌≡◌, ◌-◌, ◌<◌, ◌^◌, min, true};
+ghost use Rattle.std.specs.Prelude.{◌≡◌, ℕ, ◌-◌, ◌<◌, ◌^◌, min, true};
 ghost use Rattle.keep_index_store.specs.declared.facts.NodeFacts.{NodeFacts};
 ghost use Rattle.keep_index_store.specs.Below.{shifted_by, shifted_facts, value_shift};
 ghost use Rattle.keep_index_store.specs.Shifting.{CanShift};
@@ -41,6 +41,15 @@ impl Shift {
         } else {
             number.saturating_sub(self.old - self.new)
         }
+    }
+
+    /// Each number less than this has 32 bits at most once it is moved.
+    #[inline(always)]
+    pub(crate) fn limit(self) -> u32
+        ensures { (number : ℕ) → number < result → shifted_by self number < 2 ^ 32 }
+    {
+        let grown = self.new.saturating_sub(self.old);
+        (u32::MAX as usize).saturating_sub(grown) as u32
     }
 }
 

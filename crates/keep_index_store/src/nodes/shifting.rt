@@ -6,7 +6,8 @@ ghost use Rattle.keep_index_store.specs.Shifting.{AllCanShift};
 use super::{Node, Nodes};
 use crate::shift::NumberShifts;
 
-/// Whether the numbers of all nodes have 32 bits at most once they are moved.
+/// Whether the numbers of all nodes have 32 bits at most once they are moved. One that is not moved may be tested as if
+/// it were.
 fn can_shift_all(nodes: &[Node], by: NumberShifts) -> bool
     ensures { result ≡ true → AllCanShift by nodes.now }
 {
@@ -28,7 +29,7 @@ fn shift_each(nodes: &mut [Node], by: NumberShifts)
     }
 }
 
-/// Moves the numbers of all nodes, and says whether it was done: not where one would have more than 32 bits. Then
+/// Moves the numbers of all nodes, and says whether it was done: not where one could have more than 32 bits. Then
 /// nothing is changed. It takes no memory, and does not go over the nodes where no number is moved.
 pub fn shift_all(nodes: &mut [Node], by: NumberShifts) -> bool
     ensures shifted { result ≡ true → nodes.new ≡ map (with_shifted_stored by) nodes.old }
@@ -45,7 +46,7 @@ pub fn shift_all(nodes: &mut [Node], by: NumberShifts) -> bool
 }
 
 impl Nodes {
-    /// Moves the numbers in the facts about all nodes, and says whether it was done: not where one would have more than
+    /// Moves the numbers in the facts about all nodes, and says whether it was done: not where one could have more than
     /// 32 bits. Then nothing is changed. It takes no memory.
     pub fn shift_numbers(&mut self, by: NumberShifts) -> bool
         ensures shifted { result ≡ true → self.new.items ≡ map (with_shifted_facts by) self.old.items }

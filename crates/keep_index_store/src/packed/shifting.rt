@@ -7,6 +7,14 @@ use super::{Form, LONG, PackedFacts, ShortFacts};
 use crate::shift::NumberShifts;
 
 impl ShortFacts {
+    /// Whether both numbers have 32 bits at most, moved or not. It does not ask which of them are moved.
+    #[inline(always)]
+    fn can_shift(&self, by: NumberShifts) -> bool
+        ensures { result ≡ true → ShortCanShift by self.now }
+    {
+        self.key < by.keys.limit() && self.number < by.values.limit()
+    }
+
     /// Moves the numbers, which then have 32 bits at most.
     #[inline(always)]
     fn shift(&mut self, by: NumberShifts)
@@ -23,13 +31,19 @@ impl ShortFacts {
 }
 
 impl PackedFacts {
-    /// Whether the numbers have 32 bits at most once they are moved.
+    /// Whether the numbers have 32 bits at most once they are moved. In the packed form one that is not moved is tested
+    /// as if it were.
     #[inline(always)]
     pub fn can_shift(&self, by: NumberShifts) -> bool
         ensures { result ≡ true → CanShift by self.now }
     {
-        let then = self.unpack().shifted(by);
-        then.key <= LONG && then.number <= LONG
+        match &self.form {
+            Form::Packed { short, .. } => short.can_shift(by),
+            Form::Boxed(facts) => {
+                let then = facts.shifted(by);
+                then.key <= LONG && then.number <= LONG
+            }
+        }
     }
 
     /// Moves the numbers, which then have 32 bits at most, in the form that is there, so that it takes no memory.
