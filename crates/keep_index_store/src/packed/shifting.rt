@@ -15,12 +15,23 @@ impl ShortFacts {
         self.key < by.keys.limit() && self.number < by.values.limit()
     }
 
+    /// Whether both numbers are less than the first that is moved: then they stay as they are.
+    #[inline(always)]
+    fn is_before_shift(&self, by: NumberShifts) -> bool
+        ensures { result ≡ true → shifted_short by self.now ≡ self.now }
+    {
+        (self.key as usize) < by.keys.from && (self.number as usize) < by.values.from
+    }
+
     /// Moves the numbers, which then have 32 bits at most.
     #[inline(always)]
     fn shift(&mut self, by: NumberShifts)
         requires { ShortCanShift by self.old }
         ensures { self.new ≡ shifted_short by self.old }
     {
+        if self.is_before_shift(by) {
+            return;
+        }
         if self.marks != 0 {
             self.key = by.keys.apply(self.key as usize) as u32;
         }
