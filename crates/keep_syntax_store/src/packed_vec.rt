@@ -129,7 +129,8 @@ impl<T: Entry> PackedVec<T, T::Packed> {
     {
         if self.moves.is_empty() && self.unfit.ends_by(self.packed.len()) {
             if let Some(stored) = entry.packed() {
-                self.packed.push(stored)?;
+                self.packed.reserve(1)?;
+                self.packed.push_reserved(stored);
                 return Ok(());
             }
         }
