@@ -1,6 +1,6 @@
 //! Lists of a text's entries, each stored in few bytes where it fits.
 ghost use Rattle.std.specs.Prelude.{◌≡◌, ◌<◌, ◌≤◌, ◌++◌, ◌∷◌, [], None, Some, length, map, get_or, slice_get};
-ghost use Rattle.std.specs.Prelude.{slice_range, IfSome, OnOk, SomeIff};
+ghost use Rattle.std.specs.Prelude.{slice_range, IfOk, IfSome, OnOk, SomeIff};
 ghost use Rattle.std.specs.Bool.{Decides};
 ghost use Rattle.keep_syntax_store.specs.Blocks.{raise_by};
 ghost use Rattle.keep_syntax_store.specs.Moving.{MovesRight};
@@ -80,6 +80,17 @@ impl<T: Entry> PackedVec<T, T::Packed> {
             unfit: Unfit::new(alloc),
             moves: Vec::new(alloc),
         }
+    }
+
+    /// None yet, with room for so many that are packed.
+    pub fn with_room(alloc: Global, count: usize) -> Result<Self, AllocError>
+        ensures { IfOk result (λ list. entries T.unpacked T.raise list ≡ []) }
+    {
+        Ok(PackedVec {
+            packed: Vec::with_capacity(alloc, count)?,
+            unfit: Unfit::new(alloc),
+            moves: Vec::new(alloc),
+        })
     }
 
     /// How many there are.
@@ -195,9 +206,10 @@ impl<T: Entry> PackedVec<T, T::Packed> {
             → entries T.unpacked T.raise self.new ≡ entries T.unpacked T.raise self.old }
     {
         if !self.moves.is_empty() {
-            let mut all = PackedVec::new(alloc);
+            let count = self.len();
+            let mut all = PackedVec::with_room(alloc, count)?;
             let zero = nothing();
-            all.append_moved(self, 0, self.len(), &zero, &zero)?;
+            all.append_moved(self, 0, count, &zero, &zero)?;
             *self = all;
         }
         Ok(())

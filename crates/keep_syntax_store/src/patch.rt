@@ -104,15 +104,16 @@ impl<T: Entry> PackedVec<T, T::Packed> {
     {
         let (from, to) = run;
         let first = from / BLOCK;
+        let start = first * BLOCK;
         let after = to / BLOCK + 1;
         let count = self.packed.len();
         let end = to + (count - to).min(BLOCK - to % BLOCK);
-        if !self.unfit.is_free(first * BLOCK, end) {
+        if !self.unfit.is_free(start, end) {
             return Ok(None);
         }
         let zero = nothing();
-        let mut all = PackedVec::new(alloc);
-        all.append_moved(self, first * BLOCK, from, &zero, &zero)?;
+        let mut all = PackedVec::with_room(alloc, end - start)?;
+        all.append_moved(self, start, from, &zero, &zero)?;
         all.append_moved(fresh, 0, fresh.len(), &zero, &counts.from)?;
         all.append_moved(self, to, end, &counts.to, &counts.until)?;
         if !all.is_packed() {
@@ -121,7 +122,7 @@ impl<T: Entry> PackedVec<T, T::Packed> {
         let by = counts.until.at.wrapping_sub(counts.to.at);
         let moves = next_moves(alloc, &self.moves, first, after, count / BLOCK + 1, by)?;
         Ok(Some(Patch {
-            from: first * BLOCK,
+            from: start,
             run: all.packed,
             moves,
         }))

@@ -68,7 +68,8 @@ impl Parts {
         ensures { IfOk result (λ kinds. kinds.items
             ≡ take from (flat self.now).kinds ++ ((flat fresh.now).kinds ++ drop to (flat self.now).kinds)) }
     {
-        let mut kinds = Vec::new(alloc);
+        let kept = self.kinds.len() - (to - from);
+        let mut kinds = Vec::with_capacity(alloc, kept.saturating_add(fresh.kinds.len()))?;
         kinds.extend_from_slice(&self.kinds[..from])?;
         kinds.extend_from_slice(fresh.kinds.as_slice())?;
         kinds.extend_from_slice(&self.kinds[to..])?;

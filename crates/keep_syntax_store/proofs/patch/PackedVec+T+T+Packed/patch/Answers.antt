@@ -33,7 +33,7 @@ returns g c = λ right.
     ∙ c.in_ok-append_moved-3.ensures
     ∙ ap (λ xs. xs ++ map (moved k.to k.until) (slice_range es b end)) (c.in_ok-append_moved-2.ensures
     ∙ ap (λ xs. xs ++ map (moved c.nothing-zero.result k.from) (slice_range fresh 0 c.len.result)) (c.in_ok-append_moved.ensures
-    ∙ ap (λ xs. xs ++ map (moved c.nothing-zero.result c.nothing-zero.result) (slice_range es (a / 16 * 16) a)) c.new-all.ensures
+    ∙ ap (λ xs. xs ++ map (moved c.nothing-zero.result c.nothing-zero.result) (slice_range es (a / 16 * 16) a)) c.in_ok-all.ensures
     ∙ ap (λ (z : Counts). map (moved z z) (slice_range es (a / 16 * 16) a)) c.nothing-zero.ensures)
     ∙ ap (λ (z : Counts). map (moved nothing nothing) (slice_range es (a / 16 * 16) a) ++ map (moved z k.from) (slice_range fresh 0 c.len.result)) c.nothing-zero.ensures
     ∙ ap (λ xs. map (moved nothing nothing) (slice_range es (a / 16 * 16) a) ++ map (moved nothing k.from) xs) (ap (λ n. slice_range fresh 0 n) c.len.ensures ∙ range_whole fresh)) in
