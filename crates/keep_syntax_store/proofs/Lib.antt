@@ -21,4 +21,5 @@ pub mod UnfitLaws
 pub mod BlockLaws
 pub mod RaiseLaws
 pub mod EntryLaws
+pub mod CopiedEntryLemmas
 pub mod PatchLaws

@@ -1,9 +1,10 @@
 -- What a list of entries stores: those in few bytes and, by their numbers, the others, each moved with its block.
-use Rattle.std.specs.Prelude.{◌≡◌, ℕ, ◌+◌, ◌≤◌, List, [], ◌++◌, length, map, take, drop, slice_range}
+use Rattle.std.specs.Prelude.{◌≡◌, ℕ, ◌+◌, ◌*◌, ◌/◌, ◌≤◌, List, [], ◌++◌, length, map, take, drop, slice_range}
 use Rattle.keep_syntax_store.specs.declared.packed_vec.PackedVec.{PackedVec}
+use Rattle.keep_syntax_store.specs.declared.packed_vec.TheConstants.{BLOCK}
 use Rattle.keep_syntax_store.specs.declared.patch.Patch.{Patch}
 use Rattle.keep_syntax_store.specs.Blocks.{in_blocks}
-use Rattle.keep_syntax_store.specs.Unfit.{with_unfit}
+use Rattle.keep_syntax_store.specs.Unfit.{IsFree, with_unfit}
 
 -- its entries, where `unpack` gives the entry that was packed, and `raise` moves the places of one
 abbrev pub entries : {E P : Type 0} → (P → E) → (ℕ → E → E) → PackedVec E P → List E
@@ -13,6 +14,13 @@ entries unpack raise v = in_blocks raise v.moves.items 0 (with_unfit v.unfit 0 (
 pub record IsAllPacked {E P : Type 0} (v : PackedVec E P) : Type 0 where
   pub packed : v.unfit ≡ []
   pub still : v.moves.items ≡ []
+
+-- the entries from a number up to another are packed, and in one block
+pub record IsPackedRun {E P : Type 0} (from to : ℕ) (v : PackedVec E P) : Type 0 where
+  pub order : from ≤ to
+  pub within : to ≤ length v.packed.items
+  pub block : to ≤ (from / BLOCK + 1) * BLOCK
+  pub free : IsFree from to v.unfit
 
 -- what is not in few bytes, and how blocks are moved, is the same
 pub record HasSameRest {E P : Type 0} (v w : PackedVec E P) : Type 0 where

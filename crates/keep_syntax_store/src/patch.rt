@@ -1,6 +1,6 @@
 //! Entries of a list that change places with as many others; the blocks after them are moved.
 ghost use Rattle.std.specs.Prelude.{◌≡◌, ℕ, ◌+◌, ◌<◌, ◌≤◌, ◌++◌, None, length, map, take, drop, get_or};
-ghost use Rattle.std.specs.Prelude.{slice_range, IfOk, IfSome};
+ghost use Rattle.std.specs.Prelude.{slice_range, IfOk, IfSome, OnOk};
 ghost use Rattle.std.specs.List.{AllByRecursion};
 ghost use Rattle.keep_syntax_store.specs.Blocks as blocks;
 ghost use Rattle.keep_syntax_store.specs.Moving.{MovesRight, OnlyPlacesMove};
@@ -83,6 +83,22 @@ fn swap_range<T>(items: &mut [T], from: usize, run: &mut [T])
 }
 
 impl<T: Entry> PackedVec<T, T::Packed> {
+    /// Adds entries of another list, all packed and in one block. They are copied as they are stored where that block
+    /// is not moved, and this list has no moves and all of it is packed.
+    fn append_as_stored(&mut self, other: &Self, from: usize, to: usize) -> Result<(), AllocError>
+        requires { spec.IsPackedRun from to other.now }
+        ensures { MovesRight T.IsAfter T.moved T.raise → OnOk result (spec.entries T.unpacked T.raise self.new
+            ≡ spec.entries T.unpacked T.raise self.old
+            ++ slice_range (spec.entries T.unpacked T.raise other.now) from to) }
+    {
+        if self.is_packed() && block_move(&other.moves, from / BLOCK).is_none() {
+            self.packed.extend_from_slice(&other.packed[from..to])?;
+            return Ok(());
+        }
+        let zero = nothing();
+        self.append_moved(other, from, to, &zero, &zero)
+    }
+
     /// The entries of the blocks that a run is in, with other entries in the place of the run, and all blocks after
     /// them moved. None if one of the entries in these blocks isn't packed.
     pub fn patch(
@@ -113,7 +129,7 @@ impl<T: Entry> PackedVec<T, T::Packed> {
         }
         let zero = nothing();
         let mut all = PackedVec::with_room(alloc, end - start)?;
-        all.append_moved(self, start, from, &zero, &zero)?;
+        all.append_as_stored(self, start, from)?;
         all.append_moved(fresh, 0, fresh.len(), &zero, &counts.from)?;
         all.append_moved(self, to, end, &counts.to, &counts.until)?;
         if !all.is_packed() {
