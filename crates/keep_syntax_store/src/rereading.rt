@@ -168,17 +168,15 @@ pub fn replaced_starts(
 ) -> Result<Starts, AllocError>
     ensures { IfOk result (λ out. out ≡ spec.replaced_starts starts.now fresh.now whole len size end) }
 {
-    let mut out = Starts::new(alloc);
-    out.append_moved(starts, 0, starts.count_before(whole.start), 0, 0)?;
+    let from = starts.count_before(whole.start);
+    let to = starts.count_before(whole.end);
+    let after = starts.len().saturating_sub(to);
+    let count = from.saturating_add(fresh.len()).saturating_add(after);
+    let mut out = Starts::with_room(alloc, count)?;
+    out.append_moved(starts, 0, from, 0, 0)?;
     if whole.end < len {
         out.append_moved(fresh, 0, fresh.count_before(size), 0, whole.start)?;
-        out.append_moved(
-            starts,
-            starts.count_before(whole.end),
-            starts.len(),
-            whole.end,
-            end,
-        )?;
+        out.append_moved(starts, to, starts.len(), whole.end, end)?;
     } else {
         out.append_moved(fresh, 0, fresh.len(), 0, whole.start)?;
     }

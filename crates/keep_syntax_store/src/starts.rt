@@ -155,6 +155,15 @@ impl Starts {
         }
     }
 
+    /// No place yet, and memory for the steps of so many.
+    pub(crate) fn with_room(alloc: Global, count: usize) -> Result<Starts, AllocError>
+        ensures { IfOk result (λ starts. starts ≡ []) }
+    {
+        let mut starts = Starts::new(alloc);
+        starts.steps.reserve(count)?;
+        Ok(starts)
+    }
+
     /// Stores one more place. After a refusal those before are stored. A place before the last one is refused: a text
     /// that is read from its start on has none.
     #[inline(always)]

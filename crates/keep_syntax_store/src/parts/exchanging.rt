@@ -208,7 +208,12 @@ impl Parts {
         ensures { IfOk result (λ places. places ≡ spec.replaced_places (flat self.now)
             (flat fresh.now) from.now to.now end) }
     {
-        let mut out = Starts::new(alloc);
+        let after = self.kinds.len().saturating_sub(to.tokens);
+        let count = from
+            .tokens
+            .saturating_add(fresh.kinds.len())
+            .saturating_add(after);
+        let mut out = Starts::with_room(alloc, count)?;
         out.append_moved(&self.starts, 0, from.tokens, 0, 0)?;
         out.append_moved(&fresh.starts, 0, fresh.kinds.len(), 0, from.at)?;
         out.append_moved(&self.starts, to.tokens, self.kinds.len(), to.at, end)?;
