@@ -3,6 +3,7 @@ pub mod StartLaws
 pub mod RunLaws
 pub mod MilestoneLaws
 pub mod PastLaws
+pub mod BulkMilestoneLemmas
 pub mod CountLaws
 pub mod TestLaws
 pub mod FlatLaws

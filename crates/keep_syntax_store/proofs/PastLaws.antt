@@ -31,7 +31,7 @@ past_before xs n place p ascends past before = before_by_last place 0 (take n xs
 
 -- ---- a range of a list, and some more of it
 
-take_sum : (xs : List ℕ) (n m : ℕ) → take (n + m) xs ≡ take n xs ++ take m (drop n xs)
+pub take_sum : (xs : List ℕ) (n m : ℕ) → take (n + m) xs ≡ take n xs ++ take m (drop n xs)
 take_sum xs zero m = ap (λ (k : ℕ). take k xs) (omega arith)
 take_sum [] (suc n) m = take_all (suc n + m) [] (omega arith) ∙ sym (take_all m [] (omega arith))
 take_sum (x ∷ xs) (suc n) m = ap (λ (k : ℕ). take k (x ∷ xs)) (let e : suc n + m ≡ suc (n + m) = omega arith in e) ∙ ap (λ (ys : List ℕ). x ∷ ys) (take_sum xs n m)

@@ -4,8 +4,8 @@ ghost use Rattle.std.specs.Prelude.{slice_range, IfSome, IsNone, IfOk, OnOk, OnE
 ghost use Rattle.std.specs.List.{AllByRecursion};
 ghost use Rattle.keep_syntax_store.specs.declared.starts.TheConstants.{FAR};
 ghost use Rattle.keep_syntax_store.specs.Lifted as lifted;
-ghost use Rattle.keep_syntax_store.specs.Starts.{AllSmall, Ascend, Before, CanGoOn, IsMilestone, fars, last_of};
-ghost use Rattle.keep_syntax_store.specs.Starts.{places_at};
+ghost use Rattle.keep_syntax_store.specs.Starts.{AllSmall, Ascend, Before, CanGoOn, CanGoTo, IsMilestone, fars, last_of};
+ghost use Rattle.keep_syntax_store.specs.Starts.{places_at, CanMoveOn, moved_on};
 
 use crate::moves::moved;
 use memchr::memchr;
@@ -18,7 +18,8 @@ const FAR: u8 = 255;
 /// How many near steps are taken at once. So few lead less far than 2 ^ 16, and numbers of 16 bits are summed fastest.
 const MOST_NEAR: usize = 256;
 
-/// How many steps are copied at once, and about how many there are from one milestone to the next.
+/// How many steps are copied at once where there are no milestones, and about how many there are from one milestone to
+/// the next.
 const BLOCK: usize = 1024;
 
 /// A place that is known without the steps before it: so many `steps` lead to it, `far` of them far.
@@ -59,6 +60,15 @@ pub struct Places<'a> {
     far: &'a [usize],
     ghost small: { AllSmall (places_at at steps.now far.now) },
     ghost matched: { length far.now ≡ fars steps.now },
+}
+
+/// The places from one milestone to another, and the milestones after the one up to the other.
+#[derive(Clone, Copy)]
+struct Between<'a> {
+    low: Milestone,
+    high: Milestone,
+    places: Places<'a>,
+    milestones: &'a [Milestone],
 }
 
 /// Near steps, each told by its byte, and how far they lead together.
@@ -112,12 +122,77 @@ fn moved_places(
 ) -> Result<Vec<usize>, AllocError>
     ensures { IfOk result (λ out. out.items ≡ map (lifted.moved old new) places.now) }
 {
-    let mut out = Vec::new(alloc);
+    let mut out = Vec::with_capacity(alloc, places.len())?;
     'places: for at in places {
         let Some(place) = moved(*at, old, new) else {
             return Err(AllocError);
         };
         out.push(place)?;
+    }
+    Ok(out)
+}
+
+// stores steps after others, and their far places, moved from after `old` to after `new`
+fn push_steps(
+    steps: &mut Vec<u8>,
+    far: &mut Vec<usize>,
+    run: &Places<'_>,
+    old: usize,
+    new: usize,
+) -> Result<(), AllocError>
+    ensures ok { OnOk result (steps.new.items ≡ steps.old.items ++ run.now.steps.now) }
+    ensures far { OnOk result (far.new.items ≡ far.old.items ++ map (lifted.moved old new) run.now.far.now) }
+    ensures err { OnErr result (steps.new.items ≡ steps.old.items) }
+    ensures err_far { OnErr result (far.new.items ≡ far.old.items) }
+{
+    let mut run_far = moved_places(*far.allocator(), run.far, old, new)?;
+    let count = steps.len();
+    steps.extend_from_slice(run.steps)?;
+    if let Err(refused) = far.append(&mut run_far) {
+        // no far step without its place
+        steps.truncate(count);
+        return Err(refused.into());
+    }
+    Ok(())
+}
+
+// a milestone where what comes after `low` comes after `at`, if it is between `low` and `high`
+fn moved_milestone(
+    milestone: Milestone,
+    low: Milestone,
+    high: Milestone,
+    at: Milestone,
+) -> Option<Milestone>
+    ensures from { IfSome result (λ _. low.steps ≤ milestone.steps) }
+    ensures to { IfSome result (λ _. milestone.steps ≤ high.steps) }
+    ensures moved { IfSome result (λ m. m ≡ moved_on low at milestone) }
+{
+    if high.steps < milestone.steps {
+        return None;
+    }
+    Some(Milestone {
+        steps: moved(milestone.steps, low.steps, at.steps)?,
+        far: moved(milestone.far, low.far, at.far)?,
+        place: moved(milestone.place, low.place, at.place)?,
+    })
+}
+
+// the milestones between `low` and `high`, where what comes after `low` comes after `at`
+fn moved_milestones(
+    alloc: Global,
+    milestones: &[Milestone],
+    low: Milestone,
+    high: Milestone,
+    at: Milestone,
+) -> Result<Vec<Milestone>, AllocError>
+    ensures { (steps far : List ℕ) → AllByRecursion (CanMoveOn low high at steps far) milestones.now
+        → IfOk result (λ out. AllByRecursion (IsMilestone steps far) out.items) }
+{
+    let mut out = Vec::with_capacity(alloc, milestones.len())?;
+    'milestones: for milestone in milestones {
+        if let Some(moved) = moved_milestone(*milestone, low, high, at) {
+            out.push(moved)?;
+        }
     }
     Ok(out)
 }
@@ -139,7 +214,7 @@ fn milestone_at(milestones: &[Milestone], number: usize) -> Milestone
 }
 
 impl Starts {
-    ghost use Rattle.keep_syntax_store.specs.Left.{IsPast, places_left};
+    ghost use Rattle.keep_syntax_store.specs.Left.{AreBetween, IsPast, places_left};
     ghost use Rattle.keep_syntax_store.specs.Starts.{first_from, last_to};
     ghost use Rattle.keep_syntax_store.specs.Rereading.{places_before};
 
@@ -366,14 +441,7 @@ impl Starts {
         let Some(last) = moved(last, old, new) else {
             return Err(AllocError);
         };
-        let mut far = moved_places(*self.far.allocator(), run.far, old, new)?;
-        let count = self.steps.len();
-        self.steps.extend_from_slice(run.steps)?;
-        if let Err(refused) = self.far.append(&mut far) {
-            // no far step without its place
-            self.steps.truncate(count);
-            return Err(refused.into());
-        }
+        push_steps(&mut self.steps, &mut self.far, run, old, new)?;
         self.last = last;
         Ok(())
     }
@@ -421,8 +489,112 @@ impl Starts {
         Ok(())
     }
 
+    /// Stores also the places from one milestone to another, moved with the last one from after `old` to after `new`,
+    /// and the milestones up to the other. Nothing is counted anew: what comes after the one comes after the last place.
+    fn push_between(
+        &mut self,
+        between: &Between<'_>,
+        old: usize,
+        new: usize,
+    ) -> Result<(), AllocError>
+        requires are { AreBetween between.now.low between.now.high between.now.places between.now.milestones.now }
+        requires joins { last_of 0 self.old ≡ lifted.moved old new between.now.low.place }
+        requires after { old ≤ between.now.low.place }
+        ensures { OnOk result (self.new ≡ self.old ++ map (lifted.moved old new) (places_left between.now.places)) }
+    {
+        let Some(end) = moved(between.high.place, old, new) else {
+            return Err(AllocError);
+        };
+        let place = self.last;
+        let at = Milestone {
+            steps: self.steps.len(),
+            far: self.far.len(),
+            place,
+        };
+        let alloc = *self.far.allocator();
+        let mut milestones = moved_milestones(
+            alloc,
+            between.milestones,
+            between.low,
+            between.high,
+            at,
+        )?;
+        push_steps(&mut self.steps, &mut self.far, &between.places, old, new)?;
+        self.last = end;
+        self.milestones.append(&mut milestones)?;
+        Ok(())
+    }
+
+    /// The places from number `from` to the last milestone up to number `to`, if `from` places lead to a milestone.
+    fn between(&self, from: usize, to: usize) -> Option<Between<'_>>
+        ensures from { IfSome result (λ between. from ≤ between.high.steps) }
+        ensures to { IfSome result (λ between. between.high.steps ≤ to) }
+        ensures are { IfSome result (λ between. AreBetween between.low between.high between.places
+            between.milestones.now) }
+        ensures places { IfSome result (λ between. places_left between.places
+            ≡ slice_range self.now from between.high.steps) }
+    {
+        let milestones = self.milestones.as_slice();
+        let passed = milestones.partition_point(|milestone| milestone.steps < from);
+        let reached = milestones.partition_point(|milestone| milestone.steps <= to);
+        let low = milestone_at(milestones, passed + 1);
+        let high = milestone_at(milestones, reached);
+        if reached <= passed || low.steps != from || high.steps < from || to < high.steps {
+            return None;
+        }
+        let places = Places::between(self.steps.as_slice(), self.far.as_slice(), low, high);
+        Some(Between {
+            low,
+            high,
+            places,
+            milestones: &milestones[passed + 1..reached],
+        })
+    }
+
+    /// How many places lead to the first milestone after number `from`, at most `to`.
+    fn next_milestone(&self, from: usize, to: usize) -> usize
+        requires { from ≤ to }
+        ensures from { from ≤ result }
+        ensures to { result ≤ to }
+    {
+        let milestones = self.milestones.as_slice();
+        let passed = milestones.partition_point(|milestone| milestone.steps <= from);
+        let next = milestone_at(milestones, passed + 1).steps;
+        if from < next && next < to { next } else { to }
+    }
+
+    /// Stores also the places of another list from number `from` to its last milestone up to number `to`, moved from
+    /// after `old` to after `new`, and returns the number up to which they are stored. It stores none if there is no
+    /// milestone at `from`, or the last place that is stored is not that milestone's, moved.
+    fn append_between(
+        &mut self,
+        other: &Starts,
+        from: usize,
+        to: usize,
+        old: usize,
+        new: usize,
+    ) -> Result<usize, AllocError>
+        requires { from ≤ to }
+        ensures from { IfOk result (λ next. from ≤ next) }
+        ensures to { IfOk result (λ next. next ≤ to) }
+        ensures stored { IfOk result (λ next. self.new
+            ≡ self.old ++ map (lifted.moved old new) (slice_range other.now from next)) }
+    {
+        let Some(between) = other.between(from, to) else {
+            return Ok(from);
+        };
+        let Some(place) = moved(between.low.place, old, new) else {
+            return Ok(from);
+        };
+        if place != self.last {
+            return Ok(from);
+        }
+        self.push_between(&between, old, new)?;
+        Ok(between.high.steps)
+    }
+
     /// Stores also the places of another list from number `from` up to number `to`, moved from after `old` to after
-    /// `new`, a block of them after another.
+    /// `new`. Those between two of its milestones are copied at once.
     pub(crate) fn append_moved(
         &mut self,
         other: &Starts,
@@ -433,6 +605,31 @@ impl Starts {
     ) -> Result<(), AllocError>
         ensures { OnOk result (self.new ≡ self.old ++ map (lifted.moved old new) (slice_range other.now from to)) }
     {
+        if to <= from {
+            return Ok(());
+        }
+        let low = other.next_milestone(from, to);
+        self.append_blocks(other, from, low, old, new)?;
+        let high = self.append_between(other, low, to, old, new)?;
+        self.append_blocks(other, high, to, old, new)?;
+        Ok(())
+    }
+
+    /// Stores also the places of another list from number `from` up to number `to`, moved from after `old` to after
+    /// `new`, a block of them after another.
+    fn append_blocks(
+        &mut self,
+        other: &Starts,
+        from: usize,
+        to: usize,
+        old: usize,
+        new: usize,
+    ) -> Result<(), AllocError>
+        ensures { OnOk result (self.new ≡ self.old ++ map (lifted.moved old new) (slice_range other.now from to)) }
+    {
+        if to <= from {
+            return Ok(());
+        }
         let mut left = other.places_from(from);
         let mut number = from;
         'runs: while number < to {
@@ -462,6 +659,20 @@ impl<'a> Places<'a> {
             at: milestone.place,
             steps: &steps[milestone.steps..],
             far: &far[milestone.far..],
+        }
+    }
+
+    /// Those from one milestone to another.
+    fn between(steps: &'a [u8], far: &'a [usize], low: Milestone, high: Milestone) -> Places<'a>
+        requires { CanGoTo steps.now far.now low high }
+        ensures at { result.at ≡ low.place }
+        ensures steps { result.steps.now ≡ slice_range steps.now low.steps high.steps }
+        ensures far { result.far.now ≡ slice_range far.now low.far high.far }
+    {
+        Places {
+            at: low.place,
+            steps: &steps[low.steps..high.steps],
+            far: &far[low.far..high.far],
         }
     }
 

@@ -1,25 +1,19 @@
-use Rattle.std.proofs.Common.{◌∙◌, arith}
-use Rattle.keep_syntax_store.specs.Left.{places_left}
+use Rattle.std.proofs.Common.{◌≡◌, ◌++◌, map, drop, refl, arith}
+use Rattle.std.specs.Prelude.{slice_range}
 use Rattle.keep_syntax_store.specs.Lifted.{moved}
-use Rattle.keep_syntax_store.proofs.PastLaws.{past_ascends, past_last, stored_further}
+use Rattle.keep_syntax_store.proofs.PastLaws.{stored_further}
 use Rattle.keep_syntax_store.proofs.starts.Starts.append_moved.Goals as goal
 
-pub append_block-requires-clause-ascend : goal.append_block-requires-clause-ascend
-append_block-requires-clause-ascend c =
-    past_ascends c.args.other.now c.runs.number c.runs.left c.places_from-left.ensures.ascend c.runs.invariant.past
-
-pub append_block-requires-clause-last : goal.append_block-requires-clause-last
-append_block-requires-clause-last c =
-    past_last c.args.other.now c.runs.number c.next_block-next.result.0 c.runs.left c.next_block-next.result.1 c.runs.invariant.past c.next_block-next.ensures.past (omega (arith, c.next_block-next.ensures.further))
-
-pub runs-preserved : goal.runs-preserved
-runs-preserved c =
-    let next = c.next_block-next.result.0 in
-    let so_far = c.runs.invariant in
-    record {
-      begun = omega (arith, so_far.begun, c.next_block-next.ensures.further);
-      bounded = omega (arith, c.next_block-next.ensures.within, c.runs-test.true);
-      past = c.next_block-next.ensures.past;
-      stored = stored_further (moved c.args.old c.args.new) c.args.self.now c.runs.self c.push_milestone.new.self c.args.other.now (places_left c.runs.left) c.args.from c.runs.number next
-          so_far.begun (omega (arith, c.next_block-next.ensures.further)) so_far.past.left so_far.stored (c.push_milestone.ensures ∙ c.in_ok-append_block.ensures);
-    }
+pub returns : goal.returns
+returns c =
+    let f = moved c.args.old c.args.new in
+    let before = c.args.self.now in
+    let xs = c.args.other.now in
+    let start = c.args.from in
+    let low = c.next_milestone-low.result in
+    let high = c.in_ok-high.high in
+    let next = c.next_milestone-low.ensures in
+    let so_far : c.append_between.new.self ≡ before ++ map f (slice_range xs start high) =
+    stored_further f before c.append_blocks.new.self c.append_between.new.self xs (drop low xs) start low high next.from c.in_ok-high.ensures.from refl c.in_ok-append_blocks.ensures c.in_ok-high.ensures.stored in
+    stored_further f before c.append_between.new.self c.append_blocks-2.new.self xs (drop high xs) start high c.args.to (omega (arith, next.from, c.in_ok-high.ensures.from)) c.in_ok-high.ensures.to refl so_far
+    c.in_ok-append_blocks-2.ensures

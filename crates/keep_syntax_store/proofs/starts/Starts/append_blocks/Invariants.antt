@@ -1,7 +1,7 @@
 use Rattle.std.proofs.Common.{◌≡◌, ◌≤◌, ◌-◌, ◌++◌, map, slice_range}
 use Rattle.keep_syntax_store.specs.Left.{IsPast}
 use Rattle.keep_syntax_store.specs.Lifted.{moved}
-use Rattle.keep_syntax_store.proofs.starts.Starts.append_moved.Given as goal
+use Rattle.keep_syntax_store.proofs.starts.Starts.append_blocks.Given as goal
 
 abbrev pub invariant-runs : goal.invariant-runs
 invariant-runs l = record {
