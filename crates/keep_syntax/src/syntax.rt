@@ -80,6 +80,7 @@ impl Syntax {
     }
 
     /// The statement with this number, from 0.
+    #[inline(always)]
     pub fn statement(&self, number: usize) -> Statement
         requires { number < length (spec.statements_of self.now) }
         ensures { slice_get (spec.statements_of self.now) number ≡ Some result }
