@@ -24,6 +24,7 @@ pub mod MovedReadyLemmas
 pub mod MovedLinkLemmas
 pub mod MovedRowLemmas
 pub mod SmallLinkLemmas
+pub mod ParentRangeLemmas
 pub mod MovedTreeLemmas
 pub mod RemovedListLemmas
 pub mod RemovedRunLemmas

@@ -45,13 +45,6 @@ impl Nodes {
         ensures { result ≡ true → (j : ℕ) → last < j → j < length self.now.items
             → ((node_at self.now.items j).parent < id) ⊎ (last < (node_at self.now.items j).parent) }
     {
-        let len = self.len();
-        for later in last + 1..len {
-            let parent = self.parent(later);
-            if id <= parent && parent <= last {
-                return false;
-            }
-        }
-        true
+        !self.links.any_within(last + 1, id, last)
     }
 }
