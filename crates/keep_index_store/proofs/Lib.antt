@@ -34,6 +34,7 @@ pub mod RemovedRowLemmas
 pub mod SplicedLemmas
 pub mod ShiftedLemmas
 pub mod ShiftedLinkLemmas
+pub mod SameCountLemmas
 pub mod ReplacedNodeLemmas
 pub mod ReplacedStoredLemmas
 pub mod KeyBelowLemmas

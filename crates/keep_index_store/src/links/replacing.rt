@@ -12,11 +12,14 @@ use crate::shift::Shift;
 use crate::splicing::splice_in;
 use std::alloc::Global;
 
-/// Gives each link the number that the parent has then.
+/// Gives each link the number that the parent has then: its own, where as many nodes come as go.
 fn shift_links(links: &mut [PackedLink], by: Shift)
     requires { All (λ h. CanShiftLink by (link_of h)) links.old }
     ensures { map link_of links.new ≡ map (shifted_link by) (map link_of links.old) }
 {
+    if by.old == by.new {
+        return;
+    }
     for link in links.iter_mut() {
         link.parent = shifted(link.parent as usize, by) as u32;
     }

@@ -33,11 +33,14 @@ pub fn make_ready(
     shift_all(list.as_mut_slice(), by)
 }
 
-/// Moves the numbers of the children of each node.
+/// Moves the numbers of the children of each node, unless as many nodes come as go.
 fn shift_children(list: &mut [Node], by: Shift)
     requires { All (λ n. CanShiftChildren by n.children) list.old }
     ensures { list.new ≡ map (with_shifted_children by) list.old }
 {
+    if by.old == by.new {
+        return;
+    }
     for node in list.iter_mut() {
         node.children.shift(by);
     }

@@ -1,7 +1,9 @@
-use Rattle.std.proofs.Common.{◌<◌, length, get_or, refl, arith}
+use Rattle.std.proofs.Common.{◌<◌, length, get_or, map, refl, sym, arith}
 use Rattle.keep_index_store.specs.declared.links.PackedLink.{PackedLink}
+use Rattle.keep_index_store.specs.Links.{link_of}
 use Rattle.keep_index_store.specs.Replacing.{shifted_link}
 use Rattle.keep_index_store.proofs.MovedLinkLemmas.{links_more, rest_more}
+use Rattle.keep_index_store.proofs.SameCountLemmas.{links_same}
 use Rattle.keep_index_store.proofs.ShiftedLinkLemmas.{can_here, link_next}
 use Rattle.keep_index_store.proofs.links.replacing.shift_links.Goals as goal
 
@@ -31,3 +33,6 @@ loop-link-preserved c =
           (link_next c.args.by h next c.shifted.ensures refl),
       rest_more old links i next c.loop-link.invariant.1,
     )
+
+pub returns-then-by : goal.returns-then-by
+returns-then-by c = sym (links_same c.args.by c.if-by.true (map link_of c.args.links.now))

@@ -6,6 +6,7 @@ use Rattle.keep_index_store.specs.Children.{ChildList}
 use Rattle.keep_index_store.specs.Below.{shifted_children}
 use Rattle.keep_index_store.specs.Replacing.{CanShiftChildren, with_shifted_children}
 use Rattle.keep_index_store.proofs.MovedListLemmas.{partly_at, partly_count}
+use Rattle.keep_index_store.proofs.SameCountLemmas.{nodes_same}
 use Rattle.keep_index_store.proofs.nodes.taking_in.shift_children.Goals as goal
 
 pub loop-node-preserved : goal.loop-node-preserved
@@ -32,3 +33,6 @@ shift-requires c =
     let d : StoredNode = c.node-item.result in
     subst (λ (n : StoredNode). CanShiftChildren c.args.by n.children)
     (sym (partly_at f now list i c.loop-node.invariant d low)) (c.requires i d low)
+
+pub returns-then-by : goal.returns-then-by
+returns-then-by c = sym (nodes_same c.args.by c.if-by.true c.args.list.now)
