@@ -1,5 +1,5 @@
 //! The children of a node.
-ghost use Rattle.std.specs.Prelude.{◌≡◌, ◌<◌, ◌-◌, ◌∷◌, [], None, OnErr, OnOk, IfOk, IfSome, IfNone};
+ghost use Rattle.std.specs.Prelude.{◌≡◌, ◌⊎◌, ◌<◌, ◌-◌, ◌∷◌, [], None, OnErr, OnOk, IfOk, IfSome, IfNone, false};
 ghost use Rattle.std.specs.Prelude.{length, option_copied, option_map, slice_get, slice_index_or};
 ghost use Rattle.std.specs.Bool.{Decides};
 ghost use Rattle.std.specs.List.{remove};
@@ -7,7 +7,7 @@ ghost use Rattle.keep_index_store.specs.AllNodes.{and_key, and_item, with_key};
 ghost use Rattle.keep_index_store.specs.Below.{shifted_children};
 ghost use Rattle.keep_index_store.specs.ChildForms.{children_in};
 ghost use Rattle.keep_index_store.specs.Children.{Keyed, holding, no_children, holds_of, named, child_ids, child_named};
-ghost use Rattle.keep_index_store.specs.Children.{child_numbered};
+ghost use Rattle.keep_index_store.specs.Children.{Bare, child_numbered};
 ghost use Rattle.keep_index_store.specs.Moved.{CanMove, moved_children, with_last_at};
 ghost use Rattle.keep_index_store.specs.Removed.{HasNoItem, earlier_children};
 ghost use Rattle.keep_index_store.specs.Replacing.{CanShiftChildren};
@@ -258,9 +258,29 @@ impl Children {
         }
     }
 
+    /// Whether there can be children: at a scalar there are none, and at a table without a key.
+    #[inline(always)]
+    fn can_have_some(&self) -> bool
+        ensures { result ≡ false → (self.now ≡ Bare) ⊎ (self.now ≡ Keyed []) }
+    {
+        !matches!(self.form, Form::Nothing | Form::NoKeys)
+    }
+
     /// Gives each child the number that it has once the last node, which is `last`, has the number `at`. It takes no
     /// memory.
+    #[inline(always)]
     pub fn renumber(&mut self, last: usize, at: usize)
+        requires { CanMove last at self.old }
+        ensures { self.new ≡ moved_children last at self.old }
+    {
+        if self.can_have_some() {
+            self.renumber_each(last, at);
+        }
+    }
+
+    /// The same, where there can be children. Most nodes have none, and are passed over without this call.
+    #[inline(never)]
+    fn renumber_each(&mut self, last: usize, at: usize)
         requires { CanMove last at self.old }
         ensures { self.new ≡ moved_children last at self.old }
     {
@@ -287,7 +307,19 @@ impl Children {
     }
 
     /// Gives each child the number that it has once the node `at`, which is no item here, is gone. It takes no memory.
+    #[inline(always)]
     pub fn renumber_earlier(&mut self, at: usize)
+        requires { HasNoItem at self.old }
+        ensures { self.new ≡ earlier_children at self.old }
+    {
+        if self.can_have_some() {
+            self.renumber_each_earlier(at);
+        }
+    }
+
+    /// The same, where there can be children.
+    #[inline(never)]
+    fn renumber_each_earlier(&mut self, at: usize)
         requires { HasNoItem at self.old }
         ensures { self.new ≡ earlier_children at self.old }
     {
@@ -301,7 +333,19 @@ impl Children {
     }
 
     /// Moves the number of each child. It takes no memory.
+    #[inline(always)]
     pub fn shift(&mut self, by: Shift)
+        requires { CanShiftChildren by self.old }
+        ensures { self.new ≡ shifted_children by self.old }
+    {
+        if self.can_have_some() {
+            self.shift_each(by);
+        }
+    }
+
+    /// The same, where there can be children.
+    #[inline(never)]
+    fn shift_each(&mut self, by: Shift)
         requires { CanShiftChildren by self.old }
         ensures { self.new ≡ shifted_children by self.old }
     {

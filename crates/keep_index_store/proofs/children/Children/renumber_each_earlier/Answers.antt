@@ -5,9 +5,9 @@ use Rattle.keep_index_store.specs.ChildForms.{children_in}
 use Rattle.keep_index_store.specs.Runs.{consecutive}
 use Rattle.keep_index_store.proofs.RemovedKeyLemmas.{items_earlier, keys_earlier}
 use Rattle.keep_index_store.proofs.RemovedRunLemmas.{run_apart}
-use Rattle.keep_index_store.proofs.children.Children.renumber_earlier.Goals as goal
-use Rattle.keep_index_store.proofs.children.Children.renumber_earlier.Goals.{in-Nothing-1, in-NoKeys-1, in-OneKey}
-use Rattle.keep_index_store.proofs.children.Children.renumber_earlier.Goals.{in-Keys, in-Run, in-Items}
+use Rattle.keep_index_store.proofs.children.Children.renumber_each_earlier.Goals as goal
+use Rattle.keep_index_store.proofs.children.Children.renumber_each_earlier.Goals.{in-Nothing-1, in-NoKeys-1, in-OneKey}
+use Rattle.keep_index_store.proofs.children.Children.renumber_each_earlier.Goals.{in-Keys, in-Run, in-Items}
 
 pub first_earlier-requires-clause-apart : goal.first_earlier-requires-clause-apart
 first_earlier-requires-clause-apart c =

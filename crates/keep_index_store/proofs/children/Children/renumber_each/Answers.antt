@@ -5,8 +5,8 @@ use Rattle.keep_index_store.specs.ChildForms.{children_in}
 use Rattle.keep_index_store.specs.Runs.{consecutive}
 use Rattle.keep_index_store.proofs.MovedKeyLemmas.{items_moved, keys_moved}
 use Rattle.keep_index_store.proofs.MovedRunLemmas.{keys_within, run_within}
-use Rattle.keep_index_store.proofs.children.Children.renumber.Goals as goal
-use Rattle.keep_index_store.proofs.children.Children.renumber.Goals.{in-Nothing-1, in-NoKeys-1, in-OneKey, in-Keys, in-Run, in-Items}
+use Rattle.keep_index_store.proofs.children.Children.renumber_each.Goals as goal
+use Rattle.keep_index_store.proofs.children.Children.renumber_each.Goals.{in-Nothing-1, in-NoKeys-1, in-OneKey, in-Keys, in-Run, in-Items}
 
 pub renumber-requires : goal.renumber-requires
 renumber-requires c =

@@ -4,9 +4,9 @@ use Rattle.std.proofs.lemmas.List.{with_items_is}
 use Rattle.keep_index_store.specs.ChildForms.{children_in}
 use Rattle.keep_index_store.specs.Runs.{consecutive}
 use Rattle.keep_index_store.proofs.ShiftedLemmas.{items_can, items_shifted, keys_can, keys_shifted, run_can, run_sides}
-use Rattle.keep_index_store.proofs.children.Children.shift.Goals as goal
-use Rattle.keep_index_store.proofs.children.Children.shift.Goals.{in-Nothing-1, in-NoKeys-1, in-OneKey}
-use Rattle.keep_index_store.proofs.children.Children.shift.Goals.{in-Keys, in-Run, in-Items}
+use Rattle.keep_index_store.proofs.children.Children.shift_each.Goals as goal
+use Rattle.keep_index_store.proofs.children.Children.shift_each.Goals.{in-Nothing-1, in-NoKeys-1, in-OneKey}
+use Rattle.keep_index_store.proofs.children.Children.shift_each.Goals.{in-Keys, in-Run, in-Items}
 
 pub shift-requires : goal.shift-requires
 shift-requires c =
