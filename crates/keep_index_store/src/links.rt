@@ -1,6 +1,6 @@
 //! The parent links of the nodes, in as few bytes as the numbers allow.
 ghost use Rattle.std.specs.Prelude.{◌≡◌, ◌≤◌, ◌<◌, ◌^◌, ◌++◌, ◌∷◌, [], length, max, slice_get, IfSome, OnOk, OnErr};
-ghost use Rattle.std.specs.Prelude.{◌-◌, ℕ, All, None, Some, false, map, take, true};
+ghost use Rattle.std.specs.Prelude.{◌-◌, ℕ, All, None, Some, false, map, take, true, vec_len};
 ghost use Rattle.std.specs.List.{remove};
 ghost use Rattle.keep_index_store.specs.Links.{FitsIn32Bits, IsSmall, link_of};
 ghost use Rattle.keep_index_store.specs.Moved.{moved_link, moved_number, with_last_at};
@@ -125,14 +125,14 @@ fn renumber(links: &mut [PackedLink], place: NewPlace)
 }
 
 /// Moves the last link to where its node goes, and gives each the numbers that it has then.
-fn move_last_link(links: &mut [PackedLink], place: NewPlace)
-    requires grows { All (λ h. (h.parent < 2 ^ 32 - 1) × (h.number < 2 ^ 32 - 1)) links.old }
+fn move_last_link(links: &mut Vec<PackedLink>, place: NewPlace)
+    requires grows { All (λ h. (h.parent < 2 ^ 32 - 1) × (h.number < 2 ^ 32 - 1)) links.old.items }
     requires order { place.number ≤ place.before }
-    requires within { place.at < length links.old }
-    ensures { (none : ParentLink)
-        → map link_of links.new ≡ map (moved_link place) (with_last_at none (map link_of links.old) place.at) }
+    requires within { place.at < vec_len links.old }
+    ensures { (none : ParentLink) → map link_of links.new.items
+        ≡ map (moved_link place) (with_last_at none (map link_of links.old.items) place.at) }
 {
-    renumber(links, place);
+    renumber(links.as_mut_slice(), place);
     move_last_to(links, place.at);
 }
 
@@ -230,7 +230,7 @@ impl ParentLinks {
         requires order { place.number ≤ place.before }
         ensures { (none : ParentLink) → self.new ≡ map (moved_link place) (with_last_at none self.old place.at) }
     {
-        move_last_link(self.packed.as_mut_slice(), place);
+        move_last_link(&mut self.packed, place);
     }
 
     /// Whether both numbers of each link are stored in 32 bits.

@@ -7,7 +7,7 @@ ghost use Rattle.keep_index_store.specs.AllNodes.{HasSmallLink, with_key_below};
 ghost use Rattle.keep_index_store.specs.Children.{holding, no_children, holds_of, named, child_ids, child_named};
 ghost use Rattle.keep_index_store.specs.Children.{child_numbered};
 ghost use Rattle.keep_index_store.specs.Facts.{joined_facts};
-ghost use Rattle.std.specs.Prelude.{◌+◌, ◌≤◌, ◌^◌, ℕ, All, map, true};
+ghost use Rattle.std.specs.Prelude.{◌+◌, ◌≤◌, ◌^◌, ℕ, All, map, true, vec_len};
 ghost use Rattle.keep_index_store.specs.Moved.{CanMove, IsLast, moved_nodes, reordered};
 ghost use Rattle.keep_index_store.specs.Moved.{stored_at, with_last_at, with_last_key, with_moved_children};
 ghost use Rattle.keep_index_store.specs.declared.nodes.Node.{Node as StoredNode};
@@ -65,18 +65,21 @@ fn renumber_children(list: &mut [Node], last: usize, at: usize)
 
 /// Moves the last node, and the last key of its parent, to where they go, and gives the children of each node the
 /// numbers that they have then.
-fn move_last_node(list: &mut [Node], place: NewPlace)
-    requires within { (place.above < length list.old) × (place.at < length list.old) }
-    requires holds { holds_of (stored_at list.old place.above).children ≡ by_key }
-    requires place { place.number < length (named (stored_at list.old place.above).children) }
-    requires each { All (λ n. CanMove (length list.old - 1) place.at n.children) (with_last_key list.old place) }
-    ensures { (none : StoredNode) → list.new ≡ map (with_moved_children (length list.old - 1) place.at)
-        (with_last_at none (with_last_key list.old place) place.at) }
+fn move_last_node(list: &mut Vec<Node>, place: NewPlace)
+    requires within { (place.above < length list.old.items) × (place.at < length list.old.items) }
+    requires holds { holds_of (stored_at list.old.items place.above).children ≡ by_key }
+    requires place { place.number < length (named (stored_at list.old.items place.above).children) }
+    requires each { All (λ n. CanMove (length list.old.items - 1) place.at n.children)
+        (with_last_key list.old.items place) }
+    ensures moved { (none : StoredNode) → list.new.items
+        ≡ map (with_moved_children (length list.old.items - 1) place.at)
+        (with_last_at none (with_last_key list.old.items place) place.at) }
+    ensures len { vec_len list.new ≡ vec_len list.old }
 {
     let last = list.len() - 1;
     let above = &mut list[place.above];
     above.children.move_last_key(place.number);
-    renumber_children(list, last, place.at);
+    renumber_children(list.as_mut_slice(), last, place.at);
     move_last_to(list, place.at);
 }
 
@@ -385,7 +388,7 @@ impl Nodes {
             number: place,
         };
         self.links.move_last(place);
-        move_last_node(self.list.as_mut_slice(), place);
+        move_last_node(&mut self.list, place);
     }
 
     /// Joins the facts from one more mention of a node to its own; its role is now this one. If memory runs out,
