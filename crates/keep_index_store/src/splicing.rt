@@ -1,16 +1,7 @@
-//! Elements of a vector that give place to all of another.
-ghost use Rattle.std.specs.Prelude.{◌≡◌, List, ◌+◌, ◌≤◌, ◌++◌, length, drop, take, vec_capacity, vec_len};
+//! Elements of a vector that give place to all of another. As many as can change places with new ones where they are,
+//! so what follows is moved once at most, and not at all where as many come as go.
+ghost use Rattle.std.specs.Prelude.{◌≡◌, List, [], ◌+◌, ◌<◌, ◌≤◌, ◌++◌, length, drop, take, vec_capacity, vec_len};
 ghost use Rattle.keep_path.specs.NodesBelow.{spliced};
-
-/// Moves the elements from `tail` on before those from `from` on.
-fn to_start<T>(items: &mut [T], from: usize, tail: usize)
-    requires order { from ≤ tail }
-    requires within { tail ≤ length items.old }
-    ensures { (prefix back : List T) → items.old ≡ prefix ++ back → length prefix ≡ tail
-        → items.new ≡ take from prefix ++ (back ++ drop from prefix) }
-{
-    items[from..].rotate_left(tail - from);
-}
 
 /// Moves `count` elements from `start` on to the end.
 fn to_end<T>(items: &mut [T], start: usize, count: usize)
@@ -21,16 +12,66 @@ fn to_end<T>(items: &mut [T], start: usize, count: usize)
     items[start..].rotate_left(count);
 }
 
-/// Of four runs, the last is moved to after the first, and the second to the end.
-fn swap_runs<T>(items: &mut [T], at: usize, gone: usize, before: usize)
-    requires { (at + gone ≤ before) × (before ≤ length items.old) }
-    ensures { (prefix mid back new : List T) → items.old ≡ (prefix ++ (mid ++ back)) ++ new → length prefix ≡ at
-        → length mid ≡ gone → length prefix + (length mid + length back) ≡ before
-        → items.new ≡ prefix ++ (new ++ (back ++ mid)) }
+/// So many elements after the first `at` change places with the first of others.
+fn exchange<T>(items: &mut [T], at: usize, others: &mut [T], count: usize)
+    requires within { at + count ≤ length items.old }
+    requires others { count ≤ length others.old }
+    ensures items { items.new ≡ spliced at count (take count others.old) items.old }
+    ensures others { others.new ≡ take count (drop at items.old) ++ drop count others.old }
 {
-    let added = items.len() - before;
-    to_start(items, at, before);
-    to_end(items, at + added, gone);
+    items[at..at + count].swap_with_slice(&mut others[..count]);
+}
+
+/// Takes away so many elements after the first `at`.
+fn remove_run<T: Drop>(items: &mut Vec<T>, at: usize, count: usize)
+    requires { at + count ≤ vec_len items.old }
+    ensures { items.new.items ≡ spliced at count [] items.old.items }
+{
+    if count == 1 {
+        items.remove(at);
+        return;
+    }
+    let len = items.len() - count;
+    to_end(items.as_mut_slice(), at, count);
+    items.truncate(len);
+}
+
+/// The `gone` elements after the first `at` give place to all of another vector, which has one more. It takes no
+/// memory.
+fn splice_one_more<T: Drop>(items: &mut Vec<T>, at: usize, gone: usize, mut new: Vec<T>)
+    requires within { at + gone ≤ vec_len items.old }
+    requires one_more { vec_len new ≡ gone + 1 }
+    requires room { vec_len items.old < vec_capacity items.old }
+    ensures { items.new.items ≡ spliced at gone new.items items.old.items }
+{
+    let Some(last) = new.pop() else {
+        unreachable!()
+    };
+    exchange(items.as_mut_slice(), at, new.as_mut_slice(), gone);
+    let Ok(()) = items.insert(at + gone, last) else {
+        unreachable!()
+    };
+}
+
+/// The same, where the other vector has at least one more.
+fn splice_more<T: Drop>(items: &mut Vec<T>, at: usize, gone: usize, mut new: Vec<T>)
+    requires within { at + gone ≤ vec_len items.old }
+    requires more { gone < vec_len new }
+    requires room { vec_len items.old + vec_len new ≤ vec_capacity items.old }
+    ensures { items.new.items ≡ spliced at gone new.items items.old.items }
+{
+    if new.len() == gone + 1 {
+        splice_one_more(items, at, gone, new);
+        return;
+    }
+    let before = items.len();
+    let len = before + (new.len() - gone);
+    exchange(items.as_mut_slice(), at, new.as_mut_slice(), gone);
+    let Ok(()) = items.append(&mut new) else {
+        unreachable!()
+    };
+    to_end(items.as_mut_slice(), at + gone, before - at);
+    items.truncate(len);
 }
 
 /// The `gone` elements after the first `at` give place to all of another vector. It takes no memory.
@@ -39,11 +80,11 @@ pub fn splice_in<T: Drop>(items: &mut Vec<T>, at: usize, gone: usize, mut new: V
     requires room { vec_len items.old + vec_len new ≤ vec_capacity items.old }
     ensures { items.new.items ≡ spliced at gone new.items items.old.items }
 {
-    let before = items.len();
-    let Ok(()) = items.append(&mut new) else {
-        unreachable!()
-    };
-    let len = items.len() - gone;
-    swap_runs(items.as_mut_slice(), at, gone, before);
-    items.truncate(len);
+    let count = new.len();
+    if gone < count {
+        splice_more(items, at, gone, new);
+        return;
+    }
+    exchange(items.as_mut_slice(), at, new.as_mut_slice(), count);
+    remove_run(items, at + count, gone - count);
 }

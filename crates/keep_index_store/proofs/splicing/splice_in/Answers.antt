@@ -1,6 +1,7 @@
-use Rattle.std.proofs.Common.{◌≡◌, ◌+◌, ◌-◌, ◌++◌, length, take, drop, ap, sym, ◌∙◌, arith, vec_len, append_assoc}
-use Rattle.std.proofs.lemmas.List.{length-append, length-drop, with_items_is}
-use Rattle.keep_index_store.proofs.SplicedLemmas.{run_count, take_count, take_prefix, three_runs}
+use Rattle.std.proofs.Common.{◌≡◌, ◌+◌, ◌-◌, [], length, take, ap, ◌∙◌, arith}
+use Rattle.std.proofs.lemmas.List.{take_all, with_items_is}
+use Rattle.keep_path.specs.NodesBelow.{spliced}
+use Rattle.keep_index_store.proofs.SplicedLemmas.{spliced_then_removed}
 use Rattle.keep_index_store.proofs.splicing.splice_in.Goals as goal
 
 pub returns : goal.returns
@@ -9,35 +10,17 @@ returns g c =
     let ns = c.args.new.items in
     let at = c.args.at in
     let gone = c.args.gone in
-    let l : length xs ≡ vec_len c.args.items.now = omega (arith, c.args.items.now.ok.0) in
-    let m : length ns ≡ vec_len c.args.new = omega (arith, c.args.new.ok.0) in
-    let front = take at xs in
-    let out = take gone (drop at xs) in
-    let back = drop (at + gone) xs in
-    let a = take_count xs at (omega (arith, c.requires.within, l)) in
-    let b = run_count xs at gone (omega (arith, c.requires.within, l)) in
-    let rest = length-drop (at + gone) xs in
-    let now : c.as_mut_slice.result.now ≡ (front ++ (out ++ back)) ++ ns =
-    c.as_mut_slice.ensures.value ∙ c.in-Ok.ensures.items ∙ ap (λ ys. ys ++ ns) (three_runs xs at gone) in
-    let swapped : c.swap_runs.new.items ≡ front ++ (ns ++ (back ++ out)) =
-    c.swap_runs.ensures front out back ns now a b
-    (omega (arith, a, b, l, rest, c.requires.within, c.len-before.ensures)) in
-    let together : front ++ (ns ++ (back ++ out)) ≡ (front ++ (ns ++ back)) ++ out =
-    ap (λ ys. front ++ ys) (sym (append_assoc ns back out)) ∙ sym (append_assoc front (ns ++ back) out) in
-    let many : length c.swap_runs.new.items ≡ c.append.new.self.len =
-    omega (arith, c.swap_runs.auto.items, c.as_mut_slice.ensures.len, c.append.new.self.ok.0) in
-    c.truncate.ensures.items
-    ∙ ap (take (c.len.result - gone)) (with_items_is c.append.new.self c.swap_runs.new.items many ∙ swapped ∙ together)
-    ∙ take_prefix (front ++ (ns ++ back)) out (c.len.result - gone)
-    (omega (
-      arith,
-      length-append front (ns ++ back),
-      length-append ns back,
-      a,
-      rest,
-      l,
-      m,
-      c.len.ensures,
-      c.in-Ok.ensures.len,
-      c.requires.within,
-    ))
+    let count = c.len-count.result in
+    let some : length ns ≡ count = omega (arith, c.args.new.ok.0, c.len-count.ensures) in
+    let exchanged : c.exchange.new.items ≡ spliced at count ns xs =
+    c.exchange.ensures.items
+    ∙ ap (spliced at count (take count c.as_mut_slice-2.result.now)) c.as_mut_slice.ensures.value
+    ∙ ap (λ zs. spliced at count zs xs)
+    (ap (take count) c.as_mut_slice-2.ensures.value ∙ take_all count ns (omega (arith, some))) in
+    let many : length c.exchange.new.items ≡ c.args.items.now.len =
+    omega (arith, c.exchange.auto.items, ap length c.as_mut_slice.ensures.value, c.args.items.now.ok.0) in
+    c.remove_run.ensures
+    ∙ ap (spliced (at + count) (gone - count) [])
+    (with_items_is c.args.items.now c.exchange.new.items many ∙ exchanged)
+    ∙ spliced_then_removed xs ns at count some (omega (arith, c.requires.within, c.args.items.now.ok.0)) (gone - count)
+    gone (omega (arith, c.if-gone-count.false))
