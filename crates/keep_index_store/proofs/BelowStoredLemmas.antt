@@ -27,7 +27,7 @@ use Rattle.keep_index_store.proofs.TrieLemmas.{IsAmongChildren}
 
 -- ---- the children of one node
 
-ids_shifted : (s : Shift) (c : ChildList) → child_ids (shifted_children s c) ≡ map (shifted_by s) (child_ids c)
+pub ids_shifted : (s : Shift) (c : ChildList) → child_ids (shifted_children s c) ≡ map (shifted_by s) (child_ids c)
 ids_shifted s Bare = refl
 ids_shifted s (Keyed pairs) =
     map-map (λ e. e.1) (λ (e : List ℕ × ℕ). (e.0, shifted_by s e.1)) pairs

@@ -39,7 +39,7 @@ parent_read : (nodes : List TrieNode) (i : ℕ) (d : TrieNode) → i < length no
 parent_read nodes i d h = get_or-map (λ (n : TrieNode). n.parent) nodes i d 0 h
 
 -- a node whose path begins with another's, and has one step more, is below it
-parent_from_path : (nodes : List TrieNode) → IsTrie nodes → (i p : ℕ) (x : Part) → 0 < i → i < length nodes → p < length nodes
+pub parent_from_path : (nodes : List TrieNode) → IsTrie nodes → (i p : ℕ) (x : Part) → 0 < i → i < length nodes → p < length nodes
     → path_at nodes i ≡ path_at nodes p ++ x ∷ [] → parent_at nodes i ≡ p
 parent_from_path nodes trie i p x later h g is =
     let d : TrieNode = some_node nodes i h in

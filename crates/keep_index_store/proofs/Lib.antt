@@ -6,6 +6,7 @@ pub mod SetKeyLemmas
 pub mod KeyMapLemmas
 pub mod NodeRowLemmas
 pub mod StoredLemmas
+pub mod KindLemmas
 pub mod BothLemmas
 pub mod JoinedLemmas
 pub mod ChildLemmas
@@ -52,4 +53,6 @@ pub mod ReplacedRowLemmas
 pub mod BelowPathLemmas
 pub mod BelowTrieLemmas
 pub mod BelowTreeLemmas
+pub mod RemovedValueLemmas
+pub mod InsertedValueLemmas
 pub mod Shared

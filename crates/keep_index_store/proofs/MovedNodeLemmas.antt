@@ -40,7 +40,7 @@ step_stays last at Bare n = refl
 step_stays last at (Keyed pairs) n = ap key (keys_stay (moved_number last at) pairs n)
 step_stays last at (Listed ids) n = refl
 
-ids_moved : (last at : ℕ) (c : ChildList) → child_ids (moved_children last at c) ≡ map (moved_number last at) (child_ids c)
+pub ids_moved : (last at : ℕ) (c : ChildList) → child_ids (moved_children last at c) ≡ map (moved_number last at) (child_ids c)
 ids_moved last at Bare = refl
 ids_moved last at (Keyed pairs) = map-map (λ e. e.1) (λ (e : List ℕ × ℕ). (e.0, moved_number last at e.1)) pairs ∙ sym (map-map (moved_number last at) (λ (e : List ℕ × ℕ). e.1) pairs)
 ids_moved last at (Listed ids) = refl

@@ -4,7 +4,7 @@
 -- In both lists the node and those after it give place to all of the other tree, whose root has the facts and the link
 -- of the node. Row by row these are the nodes of before, where those below the node are others, and so its children.
 --
--- Theorems: `links_can`, `inside_links_can`, `before_can`, `after_can`, `inside_can` and `rows_then`.
+-- Theorems: `rows_small`; `links_can`, `inside_links_can`, `before_can`, `after_can`, `inside_can` and `rows_then`.
 use Rattle.std.proofs.Common.{◌≡◌, ℕ, zero, suc, ◌+◌, ◌<◌, ◌≤◌, ◌^◌, All, List, [], ◌∷◌, ◌++◌, length, get_or}
 use Rattle.std.proofs.Common.{append_assoc, set, take, drop, map, refl, sym, ◌∙◌, ap, subst, arith, inl, inr}
 use Rattle.std.specs.Prelude.{◌⊎◌}
@@ -23,8 +23,10 @@ use Rattle.keep_index_store.specs.Below.{CanReplaceBelow, HasNumbersBelow, repla
 use Rattle.keep_index_store.specs.Below.{shifted_by, shifted_children, shifted_node, with_shifted_facts}
 use Rattle.keep_index_store.specs.Below.{with_shifted_stored}
 use Rattle.keep_index_store.specs.Children.{ChildList, child_ids}
+use Rattle.keep_index_store.specs.Links.{FitsIn32Bits}
 use Rattle.keep_index_store.specs.Moved.{stored_at}
 use Rattle.keep_index_store.specs.NodeRows.{node_row, node_rows, all_nodes}
+use Rattle.keep_index_store.specs.Removed.{HasStoredLink}
 use Rattle.keep_index_store.specs.Replacing.{CanShift, CanShiftChildren, CanShiftLink, link_at, replaced_links}
 use Rattle.keep_index_store.specs.Replacing.{replaced_stored, shift_of, shifted_link, with_shifted_children}
 use Rattle.keep_index_store.proofs.NodeRowLemmas.{children_read, count_seen, nothing, nowhere, rows_at}
@@ -57,6 +59,15 @@ module _ (len id gone many : ℕ) (within : id + gone < len) (some : 0 < many) (
   inside_fits n low = omega (arith, shifted_high (shift_inside id) n (omega arith), low, few, within)
 
 -- ---- rows
+
+-- whose links are stored in 32 bits
+pub rows_small : (ns : List StoredNode) (hs : List ParentLink) → All FitsIn32Bits hs
+    → All HasStoredLink (node_rows ns hs)
+rows_small [] hs small k d h = absurd (omega (arith, h))
+rows_small (n ∷ ns) [] small k d h = absurd (omega (arith, h))
+rows_small (n ∷ ns) (l ∷ hs) small zero d h = small 0 l (omega arith)
+rows_small (n ∷ ns) (l ∷ hs) small (suc k) d h =
+    rows_small ns hs (λ j e low. small (suc j) e (omega (arith, low))) k d (omega (arith, h))
 
 rows_append : (a b : List StoredNode) (c d : List ParentLink) → length c ≡ length a
     → node_rows (a ++ b) (c ++ d) ≡ node_rows a c ++ node_rows b d

@@ -1,9 +1,15 @@
 -- A key of a line that comes among the nodes.
-use Rattle.std.specs.Prelude.{◌≡◌, ℕ, ◌-◌, ◌<◌, ◌≤◌, List, [], ◌∷◌, ◌++◌, length, Contains}
+use Rattle.std.specs.Prelude.{◌≡◌, ℕ, ◌-◌, ◌<◌, ◌≤◌, List, [], ◌∷◌, ◌++◌, length, All, Contains}
+use Rattle.std.specs.List.{insert}
 use Rattle.keep_types.specs.declared.node.Kind.{Kind}
 use Rattle.keep_types.specs.declared.node.Kind.TheVariants as kind
-use Rattle.keep_path.specs.Path.{key}
-use Rattle.keep_index_store.specs.Trie.{TrieNode, Holding, nothing, by_key, by_index, holds_at}
+use Rattle.keep_types.specs.declared.node.NodeInfo.{NodeInfo}
+use Rattle.keep_path.specs.NodeInfos.{NodeInfos}
+use Rattle.keep_path.specs.Path.{Part, key}
+use Rattle.keep_index_store.specs.AllNodes.{Node}
+use Rattle.keep_index_store.specs.Removed.{HasStoredLink, IsLeaf}
+use Rattle.keep_index_store.specs.Stored.{infos_of, trie_of}
+use Rattle.keep_index_store.specs.Trie.{TrieNode, Holding, nothing, by_key, by_index, holds_at, holdings_of}
 use Rattle.keep_index_store.specs.Trie.{parent_at, paths_of, path_at}
 
 -- what children a line's node may have
@@ -24,3 +30,15 @@ pub record HasPlace (nodes : List TrieNode) (parent : ℕ) (text : List ℕ) (at
   pub keyed : holds_at nodes parent ≡ by_key
   pub fresh : Contains (paths_of nodes) (path_at nodes parent ++ key text ∷ []) → ⊥
   pub apart : at < length nodes → SplitsNoItems nodes at
+
+-- with one node more, which has the number `at`, this path and these facts
+abbrev pub with_one : NodeInfos → ℕ → List Part → NodeInfo → NodeInfos
+with_one t at path info = record { paths = insert t.paths at path; infos = insert t.infos at info }
+
+-- the nodes with one more, which has that number, this path, these children and these facts: it can be taken out again
+pub record IsInserted (old new : List Node) (at : ℕ) (path : List Part) (h : Holding) (info : NodeInfo) : Type 0 where
+  pub paths : paths_of (trie_of new) ≡ insert (paths_of (trie_of old)) at path
+  pub holdings : holdings_of (trie_of new) ≡ insert (holdings_of (trie_of old)) at h
+  pub infos : infos_of new ≡ insert (infos_of old) at info
+  pub leaf : IsLeaf new at
+  pub links : All HasStoredLink new

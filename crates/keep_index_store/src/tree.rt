@@ -12,6 +12,7 @@ ghost use Rattle.keep_path.specs.NodeInfos.{with_path};
 ghost use Rattle.keep_path.specs.Path.{EndsInKey, beside, key, index};
 
 mod inserting;
+mod inserting_value;
 mod joining;
 mod removing;
 mod renumbering;
@@ -21,6 +22,7 @@ use crate::children::Holds;
 use crate::facts::NodeFacts;
 use crate::nodes::Nodes;
 pub use inserting::NotInPlace;
+pub use inserting_value::NewValue;
 pub use joining::Join;
 use keep_types::{Kind, NodeInfo, Origin, Role};
 use std::alloc::{AllocError, Global};

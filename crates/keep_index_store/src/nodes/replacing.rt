@@ -59,6 +59,7 @@ impl Nodes {
         requires { CanReplaceBelow self.old.items id gone inside.items }
         ensures replaced { result ≡ true
             → self.new.items ≡ replaced_below (map (with_shifted_facts by) self.old.items) id gone inside.items }
+        ensures links { result ≡ true → All HasStoredLink self.new.items }
         ensures refused { result ≡ false → self.new ≡ self.old }
     {
         let alloc = self.allocator();

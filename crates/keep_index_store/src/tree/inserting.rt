@@ -1,18 +1,20 @@
 //! The tree with one key more, that of a line: its node comes between those that are there.
 ghost use Rattle.std.specs.Prelude.{◌≡◌, ◌<◌, ◌∷◌, ◌++◌, [], OnErr, OnOk, false, length, true};
 ghost use Rattle.std.specs.List.{insert};
-ghost use Rattle.keep_path.specs.NodeInfos.{with_node};
+ghost use Rattle.keep_path.specs.NodeInfos.{line_info, with_node};
 ghost use Rattle.keep_path.specs.Path.{key};
 ghost use Rattle.keep_index_store.specs.Children.{holding};
 ghost use Rattle.keep_index_store.specs.Facts.{info_of};
-ghost use Rattle.keep_index_store.specs.Inserted.{HasPlace, SplitsNoItems, holding_of};
+ghost use Rattle.keep_index_store.specs.Inserted.{HasPlace, IsInserted, SplitsNoItems, holding_of};
 ghost use Rattle.keep_index_store.specs.Renumbering.{numbers_of};
+ghost use Rattle.keep_index_store.specs.Stored.{IsStored, trie_of};
 ghost use Rattle.keep_index_store.specs.Tree.{node_infos};
 ghost use Rattle.keep_index_store.specs.Trie.{IsTrie, by_key, holdings_of, holds_at, path_at, paths_of};
 
 use super::Tree;
 use crate::children::Holds;
 use crate::facts::NodeFacts;
+use crate::nodes::Nodes;
 use crate::renumbering::LineNumbers;
 use keep_types::{Kind, Origin, Role};
 
@@ -21,7 +23,7 @@ use keep_types::{Kind, Origin, Role};
 pub struct NotInPlace;
 
 /// What children the node of a line may have.
-fn holds_of(kind: Kind) -> Holds
+pub fn holds_of(kind: Kind) -> Holds
     ensures { holding result ≡ holding_of kind }
 {
     match kind {
@@ -29,6 +31,40 @@ fn holds_of(kind: Kind) -> Holds
         Kind::Inline => Holds::Keys,
         _ => Holds::Nothing,
     }
+}
+
+/// The facts about the node of a line, whose value has this kind.
+pub fn line_facts(line: LineNumbers, kind: Kind) -> NodeFacts
+    ensures { info_of result ≡ line_info (numbers_of line) kind }
+{
+    NodeFacts {
+        role: Some(Role::Value),
+        ..NodeFacts::named(kind, line.key, Origin::Value(line.value))
+    }
+}
+
+/// Adds a node with no children below a table, with the number `at`, and says whether it was done: not where memory is
+/// refused or a parent link does not fit into 8 bytes. Then nothing is changed.
+pub fn insert_leaf(
+    nodes: &mut Nodes,
+    parent: usize,
+    text: &str,
+    facts: NodeFacts,
+    holds: Holds,
+    at: usize,
+) -> bool
+    requires stored { IsStored nodes.old.items }
+    requires place { HasPlace (trie_of nodes.old.items) parent text.now at }
+    ensures inserted { result ≡ true → IsInserted nodes.old.items nodes.new.items at
+        (path_at (trie_of nodes.old.items) parent ++ key text.now ∷ []) (holding holds) (info_of facts) }
+    ensures refused { result ≡ false → nodes.new ≡ nodes.old }
+{
+    if !nodes.can_grow_below(parent) || nodes.add_key(parent, text, facts, holds).is_err() {
+        return false;
+    }
+    let place = nodes.children_before(parent, at);
+    nodes.move_last(at, place);
+    true
 }
 
 impl Tree {
@@ -60,10 +96,7 @@ impl Tree {
         if !self.has_place(parent, text, at) || self.renumber_later(line).is_none() {
             return Err(NotInPlace);
         }
-        let facts = NodeFacts {
-            role: Some(Role::Value),
-            ..NodeFacts::named(kind, line.key, Origin::Value(line.value))
-        };
+        let facts = line_facts(line, kind);
         if !self.insert_node(parent, text, facts, holds_of(kind), at) {
             self.renumber_earlier(line);
             return Err(NotInPlace);
@@ -72,7 +105,7 @@ impl Tree {
     }
 
     /// Whether a node can come below a table by this key, under that number.
-    fn has_place(&self, parent: usize, text: &str, at: usize) -> bool
+    pub(super) fn has_place(&self, parent: usize, text: &str, at: usize) -> bool
         requires { parent < length self.now.trie }
         ensures { result ≡ true → HasPlace self.now.trie parent text.now at }
     {
@@ -114,13 +147,6 @@ impl Tree {
         ensures trie { result ≡ true → IsTrie self.new.trie }
         ensures refused { result ≡ false → self.new ≡ self.old }
     {
-        if !self.nodes.can_grow_below(parent)
-            || self.nodes.add_key(parent, text, facts, holds).is_err()
-        {
-            return false;
-        }
-        let place = self.nodes.children_before(parent, at);
-        self.nodes.move_last(at, place);
-        true
+        insert_leaf(&mut self.nodes, parent, text, facts, holds, at)
     }
 }

@@ -10,7 +10,7 @@ use Rattle.keep_index_store.specs.Replacing.{CanShiftChildren, CanShiftLink, rep
 use Rattle.keep_index_store.proofs.NodeRowLemmas.{count_seen, links_seen}
 use Rattle.keep_index_store.proofs.RemovedRowLemmas.{links_fit}
 use Rattle.keep_index_store.proofs.ReplacedStoredLemmas.{after_can, before_can, beside_is, inside_can}
-use Rattle.keep_index_store.proofs.ReplacedStoredLemmas.{inside_links_can, links_can, rows_then}
+use Rattle.keep_index_store.proofs.ReplacedStoredLemmas.{inside_links_can, links_can, rows_small, rows_then}
 use Rattle.keep_index_store.proofs.nodes.Nodes.replace_below.Goals as goal
 
 pub numbers_beside-beside-requires-clause-few : goal.numbers_beside-beside-requires-clause-few
@@ -195,3 +195,8 @@ returns-clause-replaced c _ =
     ∙ ap (node_rows (replaced_stored beside c.args.id c.args.gone list' ins)) links
     ∙ rows_then c.self.inside.list.items ins c.self.inside.links c.inside.inside.links c.args.self.now c.args.inside
     c.self.view_is c.self.invariant c.inside.view_is c.inside.invariant c.args.id c.args.gone c.requires c.args.by
+
+pub returns-clause-links : goal.returns-clause-links
+returns-clause-links c _ =
+    rows_small c.replace_nodes.new.list.items c.of_packed-2.result
+    (subst (λ (hs : List ParentLink). All FitsIn32Bits hs) (sym c.of_packed-2.ensures) c.replace_links.ensures.fit)
