@@ -53,4 +53,5 @@ pub mod KeyvalPlaces
 pub mod DottedPlace
 pub mod InsertDottedPlace
 pub mod InsertAddsLine
+pub mod InsertAddsValue
 pub mod InsertNested

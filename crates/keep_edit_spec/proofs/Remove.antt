@@ -24,3 +24,4 @@ pub mod LineOfValue
 pub mod RemoveSectionPlace
 pub mod RemovePlaces
 pub mod RemoveTakesLine
+pub mod RemoveTakesValue

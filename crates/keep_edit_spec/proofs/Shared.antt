@@ -10,7 +10,7 @@ pub use Rattle.keep_edit_spec.proofs.Common.Moves.{IsInjectiveOn, mentions_moved
 pub use Rattle.keep_edit_spec.proofs.Rename.RenameInValue.{snoc_of}
 pub use Rattle.keep_edit_spec.proofs.Rename.MovedLines.{IsDocumentMoved, moved_numbered}
 pub use Rattle.keep_edit_spec.proofs.Rename.RenameNodes.{IsClear, IsNodeRenamed, KeepsSteps, nodes_renamed}
-pub use Rattle.keep_edit_spec.proofs.Remove.LineOfValue.{line_numbers, line_of_value}
+pub use Rattle.keep_edit_spec.proofs.Remove.LineOfValue.{line_numbers, line_of_value, value_line}
 pub use Rattle.keep_edit_spec.proofs.Remove.RemoveLinePlace.{IsLineValue, IsLow, is_high}
 pub use Rattle.keep_edit_spec.proofs.Remove.RemovePlaces.{IsPlaced, IsRemoved, removed}
 pub use Rattle.keep_edit_spec.proofs.Common.Doubles.{IsMentioned, has_some}
@@ -55,7 +55,9 @@ pub use Rattle.keep_edit_spec.proofs.Insert.BodyStatements.{count_few}
 pub use Rattle.keep_edit_spec.proofs.Insert.InsertPlaces.{EndsBefore, IsThroughHeader, element_placed, header_ends, header_placed, headed_within, holder_prefix, plain_rest, root_ends, root_placed, through_header, through_placed}
 pub use Rattle.keep_edit_spec.proofs.Insert.InsertNested.{braced_nested, item_nested}
 pub use Rattle.keep_edit_spec.proofs.Insert.InsertAddsLine.{insert_adds_line}
+pub use Rattle.keep_edit_spec.proofs.Insert.InsertAddsValue.{insert_adds_value}
 pub use Rattle.keep_edit_spec.proofs.Remove.RemoveTakesLine.{remove_takes_line}
+pub use Rattle.keep_edit_spec.proofs.Remove.RemoveTakesValue.{remove_takes_value}
 pub use Rattle.keep_edit_spec.proofs.Insert.InsertDottedPlace.{IsBaseAt, IsDottedPlaced, dotted_placed}
 pub use Rattle.keep_edit_spec.proofs.Common.Texts.{text_of-append}
 pub use Rattle.keep_edit_spec.proofs.Touched.FitLaws.{touched_lines_are_lines}

@@ -4,4 +4,5 @@ pub mod ValueFacts
 pub mod ValueDepths
 pub mod LineValueText
 pub mod LineValue
+pub mod BareValue
 pub mod LineKeys

@@ -1,7 +1,8 @@
 -- A line with a keyval that an `insert` writes or a `remove` takes: which of the two documents has one line more.
-use Rattle.std.specs.Prelude.{◌≡◌, ℕ, false, List, [], ◌∷◌, ◌++◌, take, Some, None, IsUtf8}
+use Rattle.std.specs.Prelude.{◌≡◌, ℕ, suc, false, List, [], ◌∷◌, ◌++◌, take, Some, None, IsUtf8}
 use Rattle.std.specs.List.{AllByRecursion, filter_map}
 use Rattle.keep_types.specs.declared.leaf.Profile.{Profile}
+use Rattle.keep_types.specs.declared.leaf.Profile.TheVariants.{Wide}
 use Rattle.keep_syntax.specs.Tree.{Name, Value, Line, Document, keyval, none}
 use Rattle.keep_path.specs.Path.{Part, key}
 use Rattle.keep_meaning.specs.Counts.{count_from, line_statement, no_count}
@@ -10,8 +11,10 @@ use Rattle.keep_meaning.specs.LinesMore.{HasLineMore, path_after}
 use Rattle.keep_meaning.specs.Marks.{marks, start}
 use Rattle.keep_meaning.specs.Meaning.{body_fact, lines, mentions_in, reading_after_lines, step}
 use Rattle.keep_meaning.specs.Nodes.{is_node}
+use Rattle.keep_meaning.specs.OtherValues.{HasOtherValue, totals_of}
 use Rattle.keep_meaning.specs.Rules.{ObeysRules}
 use Rattle.keep_edit_spec.specs.Edits.{edited_document, end_of, insert, remove}
+use Rattle.keep_edit_spec.specs.Laws.{IsEditable, IsGivenValue}
 use Rattle.keep_edit_spec.specs.Look.{holder, keys_in}
 use Rattle.keep_edit_spec.specs.Refusals.{refusal}
 
@@ -59,3 +62,45 @@ RemoveTakesLine =
     (s : Document) (path : List Part) (before : List Line) (value : Value) → ObeysRules (marks (mentions_in s))
     → IsLineOf s path before value
     → HasLineAt (edited_document s (remove path)) s path (body_fact value.body) before
+
+-- ---- the same where something is in the value: the line comes with nothing in its value, and then that is put there
+
+-- the value with nothing in it
+abbrev pub bare_value : Value → Value
+bare_value v = record v { nested = none }
+
+-- The second document has one line more, after these lines: it gives this path, which the first has not, this fact.
+pub record IsBareLine (d bare : Document) (path : List Part) (fact : Fact) (before : List Line) : Type 0 where
+  pub line : HasLineAt d bare path fact before
+  pub values : (totals_of bare).values ≡ suc (totals_of d).values
+  pub keys : (totals_of bare).keys ≡ suc (totals_of d).keys
+  pub obeys : ObeysRules (marks (mentions_in bare))
+
+-- After these lines is a keyval of one key part with this path, with this value.
+pub record IsValueLine (s : Document) (path : List Part) (before : List Line) (value : Value) : Type 0 where
+  pub line : Line
+  pub after : List Line
+  pub name : Name
+  pub here : lines s ≡ before ++ line ∷ after
+  pub content : line.content ≡ keyval name value
+  pub place : (reading_after_lines start before).body ++ step 0 (Some name) ≡ path
+  pub one : name.key.more ≡ []
+
+-- An insert of one key into the root, a table or an element that is defined adds a line at its end, and the value
+-- there.
+abbrev pub InsertAddsValue : Type 0
+InsertAddsValue =
+    (profile : Profile) (limit : ℕ) (s : Document) (path : List Part) (text : List ℕ) (value : Value) (n : ℕ)
+    → IsEditable profile limit s → IsGivenValue Wide value → AllByRecursion IsUtf8 (keys_in path)
+    → refusal profile limit s (insert path value) ≡ None
+    → path ≡ holder path (mentions_in s) ++ key text ∷ [] → end_of s (holder path (mentions_in s)) ≡ Some n
+    → (bare : Document) × IsBareLine s bare path (body_fact value.body) (take n (lines s))
+    × HasOtherValue bare (edited_document s (insert path value)) path value
+
+-- A remove of such a line takes the value, and then the line, or what it says.
+abbrev pub RemoveTakesValue : Type 0
+RemoveTakesValue =
+    (profile : Profile) (limit : ℕ) (s : Document) (path : List Part) (before : List Line) (value : Value)
+    → IsEditable profile limit s → IsValueLine s path before value
+    → (bare : Document) × HasOtherValue s bare path (bare_value value)
+    × IsBareLine (edited_document s (remove path)) bare path (body_fact value.body) before

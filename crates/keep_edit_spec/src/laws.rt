@@ -70,6 +70,17 @@ pub fn remove_takes_line()
     ensures { keyvals.RemoveTakesLine }
 {}
 
+/// An `insert` of one key at the end of a body gives a document with one line more that has nothing in its value, and
+/// then the value there.
+pub fn insert_adds_value()
+    ensures { keyvals.InsertAddsValue }
+{}
+
+/// A `remove` of such a line takes what is in its value, and then the line.
+pub fn remove_takes_value()
+    ensures { keyvals.RemoveTakesValue }
+{}
+
 /// An `append_table` or an `append_element` that is not refused gives a document with one statement more, as its last:
 /// the header with these keys, which are in UTF-8.
 pub fn append_adds_statement()

@@ -1,60 +1,68 @@
 -- An insert of one key at the end of a body adds a line.
 --
--- Theorem: `insert_adds_line`.
-use Rattle.std.proofs.Common.{◌≡◌, ℕ, Bool, false, ◌||◌, List, [], ◌∷◌, ◌++◌, length, map, take, drop, refl, sym, ap, ap₂, ◌∙◌, arith, length-append, Option, Some, None}
+-- Theorem: `insert_adds_line`; and `bare_added` where something is in the value, for the insert of the value without that.
+use Rattle.std.proofs.Common.{◌≡◌, ℕ, suc, ◌≤◌, Bool, false, ◌||◌, List, [], ◌∷◌, ◌++◌, length, map, take, drop, refl, sym, ap, ap₂, subst}
+use Rattle.std.proofs.Common.{◌∙◌, arith, length-append, Option, Some, None}
 use Rattle.std.specs.Prelude.{IsUtf8}
 use Rattle.std.specs.List.{AllByRecursion, list_any}
 use Rattle.std.proofs.lemmas.List.{length-map, take-append-drop}
 use Rattle.keep_types.specs.declared.leaf.Profile.{Profile}
-use Rattle.keep_syntax.specs.Tree.{Entries, Value, Line, Document, keyval, none}
+use Rattle.keep_syntax.specs.Tree.{Entries, Value, Line, Ended, Document, keyval}
 use Rattle.keep_path.specs.Path.{Part, key, last_part}
 use Rattle.keep_path.proofs.Shared.{last_pushed}
 use Rattle.keep_meaning.specs.Counts.{statements_in}
 use Rattle.keep_meaning.specs.Marks as marks
 use Rattle.keep_meaning.specs.Marks.{Mention, Statement, start, value as kinds_value}
-use Rattle.keep_meaning.specs.Meaning.{body_fact, entries_mentions, keyed_mentions, keys_of, line_of, lines, mentions_in, valued_mentions}
+use Rattle.keep_meaning.specs.Meaning.{body_fact, keyed_mentions, keys_of, keyval_mentions, line_of, lines, mentions_in, valued_mentions}
 use Rattle.keep_meaning.specs.Nodes.{is_at, is_node, is_root}
 use Rattle.keep_edit_spec.specs.Changed.{Changed}
 use Rattle.keep_edit_spec.specs.Edits.{changed_or_same, edited_document, end_of, insert, name_with}
-use Rattle.keep_edit_spec.specs.KeyvalLines.{HasLineAt, InsertAddsLine}
+use Rattle.keep_edit_spec.specs.KeyvalLines.{HasLineAt, InsertAddsLine, bare_value}
 use Rattle.keep_edit_spec.specs.Lines.{new_line, newline_of, put_lines}
 use Rattle.keep_edit_spec.specs.Look.{holder, item_number, keys_in}
 use Rattle.keep_edit_spec.specs.Refusals.{refusal}
 use Rattle.keep_edit_spec.proofs.Common.BodyEnd.{IsBodyEnd, end_is}
 use Rattle.keep_edit_spec.proofs.Common.LineStatements.{put_statements, reading_statements, statements-append, statements_of}
-use Rattle.keep_edit_spec.proofs.Common.NewLines.{key_means}
+use Rattle.keep_edit_spec.proofs.Common.NewLines.{IsKeyText, key_means}
+use Rattle.keep_edit_spec.proofs.Common.Runs.{AllOf}
 use Rattle.keep_edit_spec.proofs.Common.SetDocument.{page_lines}
 use Rattle.keep_edit_spec.proofs.Insert.InsertLine.{change_here, later_keys}
 use Rattle.keep_edit_spec.proofs.Insert.NewPath.{IsNewPath, drop_prefix_parts, new_path}
 use Rattle.keep_edit_spec.proofs.Rename.KeyTexts.{key_texts}
 
-module _ (profile : Profile) (limit : ℕ) (s : Document) (path : List Part) (text : List ℕ) (value : Value) (n : ℕ) (utf8 : AllByRecursion IsUtf8 (keys_in path))
-    (allowed : refusal profile limit s (insert path value) ≡ None) (one : path ≡ holder path (mentions_in s) ++ key text ∷ []) (ends : end_of s (holder path (mentions_in s)) ≡ Some n)
-    (empty : value.nested ≡ none) where
+-- The path is new, and in the document are the lines of the body that it goes into, up to line n.
+module _ (profile : Profile) (limit : ℕ) (s : Document) (path : List Part) (text : List ℕ) (value : Value) (n : ℕ)
+    (utf8 : AllByRecursion IsUtf8 (keys_in path)) (allowed : refusal profile limit s (insert path value) ≡ None)
+    (one : path ≡ holder path (mentions_in s) ++ key text ∷ []) (ends : end_of s (holder path (mentions_in s)) ≡ Some n) where
   abbrev a : List Part
   a = holder path (mentions_in s)
 
-  no_item : item_number path (mentions_in s) ≡ None
+  pub no_item : item_number path (mentions_in s) ≡ None
   no_item = rw (ap last_part one ∙ last_pushed a (key text), item_number) refl
 
   new : IsNewPath path (mentions_in s)
   new = new_path profile limit (mentions_in s) path value no_item allowed
 
-  rest : drop (length a) path ≡ key text ∷ []
+  pub rest : drop (length a) path ≡ key text ∷ []
   rest = ap (drop (length a)) one ∙ drop_prefix_parts a (key text ∷ [])
 
-  means : keys_of (name_with (text ∷ [])).key ≡ text ∷ []
-  means = key_means profile text [] (later_keys profile a path (text ∷ []) one (key_texts profile (keys_in path) utf8))
+  pub texts : AllOf (IsKeyText profile) (text ∷ [])
+  texts = later_keys profile a path (text ∷ []) one (key_texts profile (keys_in path) utf8)
 
-  end : IsBodyEnd s a n
+  pub means : keys_of (name_with (text ∷ [])).key ≡ text ∷ []
+  means = key_means profile text [] texts
+
+  pub end : IsBodyEnd s a n
   end = end_is s a n ends
 
-  fresh : is_node path (mentions_in s) ≡ false
-  fresh =
+  pub unsaid : list_any (is_at (a ++ key text ∷ [])) (mentions_in s) ≡ false
+  unsaid =
       let first : key text ∷ [] ≡ key new.first ∷ map key new.more = sym rest ∙ new.rest in
       let same : text ≡ new.first = cc in
-      let here : path ≡ a ++ key new.first ∷ [] = one ∙ ap (λ (t : List ℕ). a ++ key t ∷ []) same in
-      ap₂ (λ (b c : Bool). b || c) (ap is_root one ∙ not_root a) (ap (λ (p : List Part). list_any (is_at p) (mentions_in s)) here ∙ new.fresh)
+      ap (λ (t : List ℕ). list_any (is_at (a ++ key t ∷ [])) (mentions_in s)) same ∙ new.fresh
+
+  fresh : is_node path (mentions_in s) ≡ false
+  fresh = ap₂ (λ (b c : Bool). b || c) (ap is_root one ∙ not_root a) (ap (λ (p : List Part). list_any (is_at p) (mentions_in s)) one ∙ unsaid)
     where
       not_root : (p : List Part) → is_root (p ++ key text ∷ []) ≡ false
       not_root [] = refl
@@ -66,20 +74,32 @@ module _ (profile : Profile) (limit : ℕ) (s : Document) (path : List Part) (te
   abbrev after : List Line
   after = drop n (lines s)
 
-  said : marks.keyval (keyed_mentions (keys_of (name_with (text ∷ [])).key) (valued_mentions (kinds_value (body_fact value.body)) (entries_mentions 0 value.nested)))
+  said : marks.keyval (keyval_mentions (name_with (text ∷ [])) (bare_value value))
       ≡ marks.keyval (record { path = key text ∷ []; kind = kinds_value (body_fact value.body) } ∷ [])
-  said = ap₂ (λ (ks : List (List ℕ)) (es : Entries). marks.keyval (keyed_mentions ks (valued_mentions (kinds_value (body_fact value.body)) (entries_mentions 0 es)))) means empty
+  said = ap (λ (ks : List (List ℕ)). marks.keyval (keyed_mentions ks (valued_mentions (kinds_value (body_fact value.body)) []))) means
 
-  edited : statements_in (edited_document s (insert path value)) ≡ statements_of before ++ marks.keyval (record { path = key text ∷ []; kind = kinds_value (body_fact value.body) } ∷ []) ∷ statements_of after
+  -- the new line is put among the lines
+  pub put : (v : Value) → lines (edited_document s (insert path v))
+      ≡ page_lines (put_lines n (new_line (newline_of s) (keyval (name_with (text ∷ [])) v) ∷ []) (newline_of s) s.ended s.last).to
+  put v =
+      let new_lines : List Part → List Ended = λ ps. new_line (newline_of s) (keyval (name_with (keys_in ps)) v) ∷ [] in
+      ap (λ (o : Option (Changed Document)). lines (changed_or_same s o).to) (change_here s path v n no_item ends)
+      ∙ ap (λ (ps : List Part). page_lines (put_lines n (new_lines ps) (newline_of s) s.ended s.last).to) rest
+
+  pub few : n ≤ suc (length s.ended)
+  few = omega (arith, end.few, length-append (map line_of s.ended) (s.last ∷ []), length-map s.ended line_of)
+
+  edited : statements_in (edited_document s (insert path (bare_value value)))
+      ≡ statements_of before ++ marks.keyval (record { path = key text ∷ []; kind = kinds_value (body_fact value.body) } ∷ []) ∷ statements_of after
   edited =
-      ap (λ (o : Option (Changed Document)). statements_in (changed_or_same s o).to) (change_here s path value n no_item ends)
-      ∙ ap (λ (ps : List Part). statements_of (page_lines (put_lines n (new_line (newline_of s) (keyval (name_with (keys_in ps)) value) ∷ []) (newline_of s) s.ended s.last).to)) rest
-      ∙ put_statements n (new_line (newline_of s) (keyval (name_with (text ∷ [])) value) ∷ []) (newline_of s) s.ended s.last (omega (arith, end.few, length-append (map line_of s.ended) (s.last ∷ []), length-map s.ended line_of))
-      ∙ statements-append before (line_of (new_line (newline_of s) (keyval (name_with (text ∷ [])) value)) ∷ after)
+      ap statements_of (put (bare_value value))
+      ∙ put_statements n (new_line (newline_of s) (keyval (name_with (text ∷ [])) (bare_value value)) ∷ []) (newline_of s) s.ended s.last few
+      ∙ statements-append before (line_of (new_line (newline_of s) (keyval (name_with (text ∷ [])) (bare_value value))) ∷ after)
       ∙ ap (λ (st : Statement). statements_of before ++ st ∷ statements_of after) said
 
-  pub added : HasLineAt s (edited_document s (insert path value)) path (body_fact value.body) before
-  added = record {
+  -- of a value that may be put there, the line alone
+  pub bare_added : HasLineAt s (edited_document s (insert path (bare_value value))) path (body_fact value.body) before
+  bare_added = record {
     line = record {
       before = statements_of before;
       after = statements_of after;
@@ -95,4 +115,7 @@ module _ (profile : Profile) (limit : ℕ) (s : Document) (path : List Part) (te
   }
 
 pub insert_adds_line : InsertAddsLine
-insert_adds_line profile limit s path text value n utf8 allowed one ends empty = added profile limit s path text value n utf8 allowed one ends empty
+insert_adds_line profile limit s path text value n utf8 allowed one ends empty =
+    let with_entries : Entries → Document = λ es. edited_document s (insert path (record { body = value.body; nested = es })) in
+    subst (λ (es : Entries). HasLineAt s (with_entries es) path (body_fact value.body) (take n (lines s))) (sym empty)
+    (bare_added profile limit s path text value n utf8 allowed one ends)

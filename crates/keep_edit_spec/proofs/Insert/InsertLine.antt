@@ -67,7 +67,7 @@ later_keys profile a path ks e h =
 
 -- ---- the law
 
-body_law : (profile : Profile) (s : Document) (a : List Part) (n : ℕ) (k : List ℕ) (ks : List (List ℕ)) (v : Value) → IsBodyEnd s a n → AllOf (IsKeyText profile) (k ∷ ks)
+pub body_law : (profile : Profile) (s : Document) (a : List Part) (n : ℕ) (k : List ℕ) (ks : List (List ℕ)) (v : Value) → IsBodyEnd s a n → AllOf (IsKeyText profile) (k ∷ ks)
     → list_any (is_at (a ++ key k ∷ [])) (mentions_in s) ≡ false → Rules (mentions_in s) → Rules (mentions_of_value v)
     → EachTo (IsKeyvalLaw s (a ++ map key (k ∷ ks)) v) (at_line s n (keyval (name_with (k ∷ ks)) v ∷ []))
 body_law profile s a n k ks v end texts fresh rules value_rules =

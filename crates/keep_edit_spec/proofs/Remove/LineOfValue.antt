@@ -1,10 +1,11 @@
--- The line on which the value of a path is (`IsLineValue`): where its key has one part and no node is below the value,
--- it is a line of which `remove_takes_line` speaks, and its numbers are those that the syntax has with the value.
+-- The line on which the value of a path is (`IsLineValue`): where its key has one part it is a line of which
+-- `RemoveTakesValue` speaks, and where no node is below the value, too, one of which `RemoveTakesLine` does. Its numbers are
+-- those that the syntax has with the value.
 --
 -- A value in which something is nested has a node below it (`childless`), so here nothing is. What the syntax counts
 -- before a line are the statements, the values and the key parts that the lines before it say (`lines_counted`).
 --
--- Theorems: `line_of_value` and `line_numbers`.
+-- Theorems: `value_line`, `line_of_value` and `line_numbers`.
 use Rattle.std.proofs.Common.{◌≡◌, ℕ, suc, ◌+◌, List, [], ◌∷◌, ◌++◌, length, map, refl, sym, ap, subst, ◌∙◌, append-nil, append_assoc, arith, None, Some}
 use Rattle.std.specs.List.{cons_option, filter_map}
 use Rattle.keep_syntax.specs.Numbered as syntax
@@ -20,7 +21,7 @@ use Rattle.keep_meaning.specs.Marks.{Mention, Reading, Statement, below, next_re
 use Rattle.keep_meaning.specs.Meaning.{body_fact, entries_mentions, further_value, key_value, keyed_mentions, keys_of, keyval_mentions, line_of, lines, lines_mentions, mentions_in, reading_after_lines, statement_of, step, valued_mentions}
 use Rattle.keep_meaning.specs.Nodes.{children, node_paths}
 use Rattle.keep_meaning.proofs.Shared.{count_after-keys, count_after-values, count_from-statements, marked-content, valued-content}
-use Rattle.keep_edit_spec.specs.KeyvalLines.{IsLineOf}
+use Rattle.keep_edit_spec.specs.KeyvalLines.{IsLineOf, IsValueLine}
 use Rattle.keep_edit_spec.proofs.Common.SetDocument.{whole_mentions}
 use Rattle.keep_edit_spec.proofs.Common.SetLaw.{run}
 use Rattle.keep_edit_spec.proofs.Remove.RemoveLinePlace.{IsLineValue, head_line, lines_split, tail_lines}
@@ -122,6 +123,17 @@ module _ (path : List Part) (s : Document) (pre rest : List Ended) (was : s.ende
     where
       regroup : (a b c d : List Mention) → a ++ ((b ++ c) ++ d) ≡ (a ++ b) ++ (c ++ d)
       regroup a b c d = simp append_assoc refl
+
+  pub value_line : v.own.keys ≡ 1 → IsValueLine s path (map line_of pre) held
+  value_line one = record {
+    line = head_line rest s.last;
+    after = tail_lines rest s.last;
+    name = name;
+    here = lines_are;
+    content = v.its_line.content;
+    place = v.its_line.named;
+    one = one_part name.key.more (sym v.keys ∙ one);
+  }
 
   pub line_of_value : v.own.keys ≡ 1 → children path (node_paths (mentions_in s)) ≡ [] → IsLineOf s path (map line_of pre) held
   line_of_value one alone = record {

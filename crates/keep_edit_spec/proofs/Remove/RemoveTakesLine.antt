@@ -3,11 +3,11 @@
 -- Both ways leave the statements of the other lines. Which line the remove takes hold of is known by the rules: no two lines
 -- give one path a value (`no_two`), so it is the line that is meant (`same_line`).
 --
--- Theorem: `remove_takes_line`.
+-- Theorem: `remove_takes_line`; and `takes` where something is in the value, for the document where nothing is.
 use Rattle.std.proofs.Common.{◌≡◌, ℕ, zero, suc, ◌≤◌, Bool, true, false, cond, ◌||◌, List, [], ◌∷◌, ◌++◌, length, map, take, drop, refl, sym, ap, ap₂, subst, ◌∙◌, ◌⊎◌, inl, inr, append-nil, arith, length-append, Option, Some, None}
 use Rattle.std.specs.List.{cons_option, list_any}
 use Rattle.std.proofs.lemmas.List.{length-map}
-use Rattle.keep_syntax.specs.Tree.{Content, Entries, Further, Value, Line, Document}
+use Rattle.keep_syntax.specs.Tree.{Content, Entries, Further, Name, Value, Line, Document, keyval}
 use Rattle.keep_path.specs.Path.{Part, key, strip}
 use Rattle.keep_path.proofs.Shared.{path_decides}
 use Rattle.keep_meaning.specs.Counts.{statements_in}
@@ -19,7 +19,7 @@ use Rattle.keep_meaning.specs.Rules.{ObeysRules}
 use Rattle.keep_meaning.proofs.Shared.{lines_mentions-statements}
 use Rattle.keep_edit_spec.specs.Changed.{Changed, or_else}
 use Rattle.keep_edit_spec.specs.Edits.{changed_or_same, clear_line, edited_document, is_own, nested, remove, without_lines}
-use Rattle.keep_edit_spec.specs.KeyvalLines.{HasLineAt, IsLineOf, RemoveTakesLine}
+use Rattle.keep_edit_spec.specs.KeyvalLines.{HasLineAt, IsLineOf, IsValueLine, RemoveTakesLine, bare_value}
 use Rattle.keep_edit_spec.specs.Lines.{begins, body_length, in_document, in_lines, last_line, with_page}
 use Rattle.keep_edit_spec.specs.Values.{removal}
 use Rattle.keep_edit_spec.proofs.Common.InValue.{beside_keyval}
@@ -99,7 +99,26 @@ not_at p (m ∷ ms) h = ap₂ (λ (a b : Bool). a || b) (by (is_at p m) refl) (n
         let clash : None ≡ Some [] = sym h.0 ∙ ap (strip p) (same ∙ sym (append-nil p)) ∙ strip-append p [] in
         absurd cc
 
-module _ (s : Document) (path : List Part) (before : List Line) (value : Value) (obeys : ObeysRules (marks.marks (mentions_in s))) (h : IsLineOf s path before value) where
+-- what the line says, with nothing in its value
+abbrev pub bare_statement : Name → Value → Statement
+bare_statement name value = marks.keyval (record { path = key (key_value name.key.first) ∷ []; kind = kinds_value (body_fact value.body) } ∷ [])
+
+-- a document in which the line is, with nothing in its value
+pub bare_statements : (m : Document) (pre post : List Line) (l : Line) (name : Name) (value : Value) → lines m ≡ pre ++ l ∷ post
+    → l.content ≡ keyval name (bare_value value) → name.key.more ≡ [] → statements_in m ≡ statements_of pre ++ bare_statement name value ∷ statements_of post
+bare_statements m pre post l name value is content one =
+    ap statements_of is ∙ statements-append pre (l ∷ post)
+    ∙ ap (λ (c : Content). statements_of pre ++ cons_option (statement_of c) (statements_of post)) content
+    ∙ ap (λ (fs : List Further). statements_of pre ++ says fs ∷ statements_of post) one
+  where
+    says : List Further → Statement
+    says fs = marks.keyval (keyed_mentions (key_value name.key.first ∷ map further_value fs) (valued_mentions (kinds_value (body_fact value.body)) []))
+
+-- The remove takes the line from the document, and so does it from one with the same statements but for that of the line,
+-- which says there what it says with nothing in its value.
+module _ (s : Document) (path : List Part) (before : List Line) (value : Value) (obeys : ObeysRules (marks.marks (mentions_in s)))
+    (h : IsValueLine s path before value)
+    (bare : Document) (whole : statements_in bare ≡ statements_of before ++ bare_statement h.name value ∷ statements_of h.after) where
   rules : Rules (lines_mentions start (before ++ h.line ∷ h.after))
   rules = subst (λ (ls : List Line). Rules (lines_mentions start ls)) h.here (rules_of_document s obeys)
 
@@ -114,10 +133,6 @@ module _ (s : Document) (path : List Part) (before : List Line) (value : Value) 
       by (inl same) = same
       by (inr (inl later)) = absurd (no_two path pre before later.0 post h.line l later.1 own mine (subst (λ (ls : List Line). Rules (lines_mentions start ls)) is (rules_of_document s obeys)))
       by (inr (inr earlier)) = absurd (no_two path before pre earlier.0 h.after l h.line earlier.1 mine own rules)
-
-  said : marks.keyval (keyval_mentions h.name value) ≡ marks.keyval (record { path = key (key_value h.name.key.first) ∷ []; kind = kinds_value (body_fact value.body) } ∷ [])
-  said =
-      ap₂ (λ (fs : List Further) (es : Entries). marks.keyval (keyed_mentions (key_value h.name.key.first ∷ map further_value fs) (valued_mentions (kinds_value (body_fact value.body)) (entries_mentions 0 es)))) h.one h.empty
 
   named : (reading_after_lines start before).body ++ key (key_value h.name.key.first) ∷ [] ≡ path
   named = ap (λ (fs : List Further). (reading_after_lines start before).body ++ key (key_value h.name.key.first) ∷ map key (map further_value fs)) (sym h.one) ∙ h.place
@@ -138,7 +153,7 @@ module _ (s : Document) (path : List Part) (before : List Line) (value : Value) 
 
   -- the statements of the other lines are left
   taken : (d : Document) (pre post : List Line) (l : Line) → lines s ≡ pre ++ l ∷ post → IsOwnLine (reading_after_lines start pre).body path l.content
-      → statements_in d ≡ statements_of (pre ++ post) → HasLineAt d s path (body_fact value.body) before
+      → statements_in d ≡ statements_of (pre ++ post) → HasLineAt d bare path (body_fact value.body) before
   taken d pre post l is mine left =
       let same = same_line pre post l is mine in
       let others : statements_in d ≡ statements_of (before ++ h.after) = left ∙ ap₂ (λ (xs ys : List Line). statements_of (xs ++ ys)) same.0 same.1 in
@@ -149,9 +164,7 @@ module _ (s : Document) (path : List Part) (before : List Line) (value : Value) 
           text = key_value h.name.key.first;
           fact = body_fact value.body;
           old = others ∙ statements-append before h.after;
-          new = ap statements_of h.here ∙ statements-append before (h.line ∷ h.after)
-              ∙ ap (λ (c : Content). statements_of before ++ cons_option (statement_of c) (statements_of h.after)) h.content
-              ∙ ap (λ (st : Statement). statements_of before ++ st ∷ statements_of h.after) said;
+          new = whole;
         };
         after = refl;
         place = ap (λ (r : Reading). r.body ++ key (key_value h.name.key.first) ∷ []) (reading_statements start before) ∙ named;
@@ -161,9 +174,9 @@ module _ (s : Document) (path : List Part) (before : List Line) (value : Value) 
 
   -- ---- the two ways
 
-  cleared : EachTo (λ d. HasLineAt d s path (body_fact value.body) before) (in_document s (in_lines (clear_line path) start s.ended s.last))
+  cleared : EachTo (λ d. HasLineAt d bare path (body_fact value.body) before) (in_document s (in_lines (clear_line path) start s.ended s.last))
   cleared =
-      to_within (λ p. LinesCleared start path (lines s) (page_lines p)) (λ d. HasLineAt d s path (body_fact value.body) before) (with_page s) _ [] (in_lines (clear_line path) start s.ended s.last)
+      to_within (λ p. LinesCleared start path (lines s) (page_lines p)) (λ d. HasLineAt d bare path (body_fact value.body) before) (with_page s) _ [] (in_lines (clear_line path) start s.ended s.last)
       (λ p c. taken (with_page s p) c.pre c.post c.old c.was c.own
       (ap statements_of c.is ∙ statements-append c.pre (c.now ∷ c.post)
       ∙ ap (λ (x : Content). statements_of c.pre ++ cons_option (statement_of x) (statements_of c.post)) c.clear ∙ sym (statements-append c.pre c.post)))
@@ -172,7 +185,7 @@ module _ (s : Document) (path : List Part) (before : List Line) (value : Value) 
   abbrev is_mine : Reading → Line → Bool
   is_mine r l = is_own path r l.content
 
-  dropped : (i : ℕ) → IsLastLine is_mine start (lines s) i → HasLineAt (changed_or_same s (without_lines s i 1)).to s path (body_fact value.body) before
+  dropped : (i : ℕ) → IsLastLine is_mine start (lines s) i → HasLineAt (changed_or_same s (without_lines s i 1)).to bare path (body_fact value.body) before
   dropped i f =
       let few : i ≤ length s.ended =
       omega (arith, sym f.number, ap length f.was, length-append (map line_of s.ended) (s.last ∷ []), length-map s.ended line_of, length-append f.pre (f.line ∷ f.post)) in
@@ -200,17 +213,22 @@ module _ (s : Document) (path : List Part) (before : List Line) (value : Value) 
   abbrev unless_cleared : Option (Changed Document)
   unless_cleared = or_else (elim (last_line is_mine start (lines s)) [ None ↦ None | Some i ↦ without_lines s i 1 ]) otherwise
 
-  pub takes : HasLineAt (edited_document s (remove path)) s path (body_fact value.body) before
+  pub takes : HasLineAt (edited_document s (remove path)) bare path (body_fact value.body) before
   takes = by (in_document s (in_lines (clear_line path) start s.ended s.last)) cleared
     where
       drops : (o : Option ℕ) → last_line is_mine start (lines s) ≡ o → IsFound is_mine start (lines s) o
-          → HasLineAt (changed_or_same s (or_else (elim o [ None ↦ None | Some i ↦ without_lines s i 1 ]) otherwise)).to s path (body_fact value.body) before
+          → HasLineAt (changed_or_same s (or_else (elim o [ None ↦ None | Some i ↦ without_lines s i 1 ]) otherwise)).to bare path (body_fact value.body) before
       drops None e f = absurd (is_there e)
       drops (Some i) e f = dropped i f
 
-      by : (o : Option (Changed Document)) → EachTo (λ d. HasLineAt d s path (body_fact value.body) before) o → HasLineAt (changed_or_same s (or_else o unless_cleared)).to s path (body_fact value.body) before
+      by : (o : Option (Changed Document)) → EachTo (λ d. HasLineAt d bare path (body_fact value.body) before) o → HasLineAt (changed_or_same s (or_else o unless_cleared)).to bare path (body_fact value.body) before
       by (Some c) h = h
       by None h = drops (last_line is_mine start (lines s)) refl (found is_mine start (lines s))
 
 pub remove_takes_line : RemoveTakesLine
-remove_takes_line s path before value obeys h = takes s path before value obeys h
+remove_takes_line s path before value obeys h =
+    let there : IsValueLine s path before value =
+    record { line = h.line; after = h.after; name = h.name; here = h.here; content = h.content; place = h.place; one = h.one } in
+    let content : h.line.content ≡ keyval h.name (bare_value value) =
+    h.content ∙ ap (λ (es : Entries). keyval h.name (record { body = value.body; nested = es })) h.empty in
+    takes s path before value obeys there s (bare_statements s before h.after h.line h.name value h.here content h.one)

@@ -303,7 +303,7 @@ valued-lines r c (e ∷ es) last =
     )
 
 -- a document states as many values as it has
-valued-values : (s : Document) → valued (mentions_in s) ≡ length (syntax.values s)
+pub valued-values : (s : Document) → valued (mentions_in s) ≡ length (syntax.values s)
 valued-values s = valued-lines start (first_line s) s.ended s.last
 
 -- what a document says, where a value is in the middle

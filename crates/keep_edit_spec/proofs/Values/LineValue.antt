@@ -6,7 +6,8 @@
 -- (`one_set`). So what is known of `set` holds here too, and as those key parts have no values, the value's number is how
 -- many values the lines before have, in both documents (`line_number`).
 --
--- Theorems: `nested_value`; `line_value_number` and `new_line_value_number`: the number of the line's value.
+-- Theorems: `nested_value`; `replaced_value` where it is known which line has which value; `line_value_number` and
+-- `new_line_value_number`: the number of the line's value.
 use Rattle.std.proofs.Common.{◌≡◌, ℕ, ◌+◌, List, [], ◌∷◌, ◌++◌, map, refl, sym, ap, subst, ◌∙◌, append_assoc, arith, Option, Some, None}
 use Rattle.std.specs.Prelude.{⊤}
 use Rattle.std.specs.List.{filter_map}
@@ -253,6 +254,23 @@ module _ (s to : Document) (path : List Part) (rules : Rules (mentions_in s)) (h
 pub nested_value : (act : Act) (path : List Part) (s : Document) (c : Changed Document) → Rules (mentions_in s) → nested act path s ≡ Some c → IsLineValueChanged path s c.to
 nested_value act path s c rules e =
     value_changed s c.to path rules (the_to (λ s'. LinesChanged start path (lines s) (lines s')) (nested act path s) c e (document_changed act path s))
+
+-- A line with another value in its keyval, beside the same lines.
+pub replaced_value : (s to : Document) (pre post : List Line) (l l' : Line) (name : Name) (old now : Value) → Rules (mentions_in s)
+    → lines s ≡ pre ++ l ∷ post → l.content ≡ keyval name old → lines to ≡ pre ++ l' ∷ post → l'.content ≡ keyval name now
+    → HasOtherValue s to ((reading_after_lines start pre).body ++ step 0 (Some name)) now
+replaced_value s to pre post l l' name old now rules was content is content' =
+    let p : List Part = (reading_after_lines start pre).body ++ step 0 (Some name) in
+    let changed : LinesChanged start p (lines s) (lines to) = record {
+      pre = pre;
+      post = post;
+      old = l;
+      now = l';
+      was = was;
+      is = is;
+      content = record { name = name; old = old; now = now; more = []; was = content; is = content'; place = sym (append-nil p) };
+    } in
+    (in_place s to p rules changed).other
 
 -- ---- the number of a line's value
 
