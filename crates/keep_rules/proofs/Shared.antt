@@ -8,4 +8,4 @@ pub use Rattle.keep_rules.proofs.RoleStateLemmas.{one_place}
 pub use Rattle.keep_rules.proofs.StatementNestedLaws.{statement_is_nested}
 pub use Rattle.keep_rules.proofs.StatementToldLaws.{statement_is_told}
 pub use Rattle.keep_rules.proofs.ValueLaws.{in_wide, strict_value}
-pub use Rattle.keep_rules.proofs.ValueNestedLaws.{value_is_nested}
+pub use Rattle.keep_rules.proofs.ValueNestedLaws.{empty_has_no_child, value_is_nested}

@@ -7,7 +7,9 @@
 -- there (`inside_closed`, `inside_told`). As the run has no mention of a `[[..]]`, no array of tables is at the value's
 -- path or below it (`table_beside`). The rules are not needed for this.
 --
--- Theorem: `value_is_nested`.
+-- Where nothing is in the new value, the run is one mention, of the value's own path, so no node is one step below it.
+--
+-- Theorems: `value_is_nested`, and `empty_has_no_child`.
 use Rattle.std.proofs.Common.{◌≡◌, ℕ, ◌-◌, ◌<◌, Bool, true, false, cond, ◌&&◌, ◌||◌, List, [], ◌∷◌, ◌++◌, length, map, refl, sym, ap, ap₂, subst, ◌∙◌, ◌⊎◌, inl, inr, arith, append_assoc, append-nil, Option, Some, None}
 use Rattle.std.specs.Prelude.{filter, fold, slice_get}
 use Rattle.std.specs.List.{AllByRecursion, cons_option, filter_map, list_any}
@@ -18,6 +20,7 @@ use Rattle.std.proofs.lemmas.List.Elements.{filter-append, filter_map-append}
 use Rattle.std.proofs.lemmas.List.Folds.{list_all-append, list_any-append}
 use Rattle.keep_types.specs.declared.role.Role.{Role}
 use Rattle.keep_types.specs.declared.role.Role.TheVariants.{Element}
+use Rattle.keep_syntax.specs.Tree as tree
 use Rattle.keep_syntax.specs.Tree.{Document, Entries, Value}
 use Rattle.keep_path.specs.Path.{Part, index, key, last_part, same_part, same_path, strip}
 use Rattle.keep_path.proofs.Shared.{last_pushed, path_decides}
@@ -312,11 +315,41 @@ module _ (path : List Part) where
           let rest : List (List Part) = children_in t (map (below path) ms) in
           ap (λ (b : Bool). cond b ((path ++ m.path) ∷ rest) rest) (deeper m.path h.0.some) ∙ by ms h.1
 
+  -- nothing that is said beside the value's path is one step below it, nor is that path itself
+  none_child : (ms : List Mention) → AllByRecursion IsSaidBeside ms → children_in path ms ≡ []
+  none_child [] h = refl
+  none_child (m ∷ ms) h =
+      let rest : List (List Part) = children_in path ms in
+      ap (λ (b : Bool). cond b (m.path ∷ rest) rest) (by (snoc_view m.path)) ∙ none_child ms h.1
+    where
+      by : (m.path ≡ []) ⊎ ((q : List Part) × (x : Part) × (m.path ≡ q ++ x ∷ [])) → is_child path m.path ≡ false
+      by (inl e) = ap (is_child path) e ∙ no_child_root path
+      by (inr (q, x, e)) =
+          ap (is_child path) e ∙ child_push path q x
+          ∙ false_from_ne_true (same_path path q)
+          (λ same. h.0 (x ∷ []) (e ∙ ap (λ (l : List Part). l ++ x ∷ []) (sym ((path_decides path q).0 same))))
+
+  not_own_child : (p : List Part) → is_child p p ≡ false
+  not_own_child [] = refl
+  not_own_child (a ∷ p) = ap₂ (λ (b c : Bool). b && c) (same_self a) (not_own_child p)
+
   module _ (before after : List Mention) (apart_before : AllByRecursion IsSaidBeside before)
       (apart_after : AllByRecursion IsSaidBeside after) where
     -- all that is said
     abbrev told : Fact → Entries → List Mention
     told f es = whole before after f es
+
+    -- where nothing is in the value
+    no_child : (f : Fact) → children path (node_paths (told f tree.none)) ≡ []
+    no_child f =
+        let rest : List (List Part) = children_in path after in
+        let own : children_in path (run f tree.none ++ after) ≡ [] =
+        ap (λ (b : Bool). cond b (path ∷ rest) rest) (not_own_child path) ∙ none_child after apart_after in
+        children_said path (told f tree.none)
+        ∙ ap (fold paths_with [])
+        (ap (filter (is_child path)) (map-append path_of before (run f tree.none ++ after))
+        ∙ filter-append (is_child path) (map path_of before) (map path_of (run f tree.none ++ after))
+        ∙ ap₂ (λ (xs ys : List (List Part)). xs ++ ys) (none_child before apart_before) own)
 
     met_beside : (q : List Part) → IsBeside path q → (f g : Fact) (es new : Entries)
         → is_node q (told f es) ≡ is_node q (told g new)
@@ -646,6 +679,12 @@ module _ (d other : Document) (path : List Part) (v : Value) (h : HasOtherValue 
       (nested_again path before after apart_before apart_after h.fact (body_fact v.body) h.entries v.nested tables
       table_beside table_there last_there
       (subst (λ (ms : List Mention). AreNested ms tables) said_old nested)))
+
+  pub empty_has_no_child : v.nested ≡ tree.none → children path (node_paths (mentions_in other)) ≡ []
+  empty_has_no_child empty =
+      ap (λ (ms : List Mention). children path (node_paths ms))
+      (said_new ∙ ap (whole path before after (body_fact v.body)) empty)
+      ∙ no_child path before after apart_before apart_after (body_fact v.body)
 
 pub value_is_nested : ValueIsNested
 value_is_nested d other path v h obeys obeys_then nested = nested_there d other path v h nested

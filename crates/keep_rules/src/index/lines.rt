@@ -1,14 +1,24 @@
 //! The index where a line comes or goes: it changes in place.
-ghost use Rattle.std.specs.Prelude.{◌≡◌, ◌<◌, ◌≤◌, ◌∷◌, ◌++◌, [], ℕ, OnErr, OnOk, length};
+ghost use Rattle.std.specs.Prelude.{◌≡◌, ◌<◌, ◌≤◌, ◌∷◌, ◌++◌, [], ℕ, IfSome, OnErr, OnOk, length};
+ghost use Rattle.keep_types.specs.declared.node.Kind.{Kind};
+ghost use Rattle.keep_syntax.specs.Tree.{Value};
+ghost use Rattle.keep_index_store.specs.Below.{totals_in};
 ghost use Rattle.keep_index_store.specs.Renumbering.{numbers_of};
 ghost use Rattle.keep_meaning.specs.LinesMore as spec;
-ghost use Rattle.keep_path.specs.NodeInfos.{with_node, without_node};
+ghost use Rattle.keep_meaning.specs.Meaning.{body_fact};
+ghost use Rattle.keep_meaning.specs.Nodes.{fact_kind};
+ghost use Rattle.keep_meaning.specs.OtherValues.{nodes_in_value};
+ghost use Rattle.keep_path.specs.NodeInfos.{root_infos, with_node, without_node};
+ghost use Rattle.keep_path.specs.NodesBelow.{AreBelow, with_value};
 ghost use Rattle.keep_path.specs.Path.{key};
-ghost use Rattle.keep_rules.specs.LinePlaces.{IsPlaceOf};
+ghost use Rattle.keep_rules.specs.LinePlaces.{IsPlaceOf, one_more};
 ghost use Rattle.keep_rules.specs.Lookup.{path_numbered};
+ghost use Rattle.keep_rules.specs.ValueTexts.{IsTextOfValue};
 
+use super::values::nodes_of_value;
 use super::{Index, NodeId};
-use keep_index_store::{LineNumbers, NotInPlace, Tree};
+use crate::value::ValueText;
+use keep_index_store::{LineNumbers, NewValue, NotInPlace, Totals, Tree};
 use keep_types::{Kind, NodeInfo, Origin};
 
 /// Whether the node is first met at the line or after it, by the facts about it.
@@ -43,6 +53,16 @@ fn first_met_from(nodes: &Tree, line: LineNumbers) -> usize
     low
 }
 
+/// How many values and key parts a document has with one line more, of one key part and with nothing in its value.
+fn with_line(totals: Totals) -> Option<Totals>
+    ensures { IfSome result (λ more. totals_in more ≡ one_more (totals_in totals)) }
+{
+    Some(Totals {
+        values: totals.values.checked_add(1)?,
+        keys: totals.keys.checked_add(1)?,
+    })
+}
+
 impl Index {
     /// One line more defines a key of the table `parent`, decoded, with a value of this kind, in which nothing is
     /// nested. Its node comes before the first that is met after the line, so each from there on has the next number.
@@ -70,6 +90,44 @@ impl Index {
         self.nodes.insert_key(parent.0, text, line, kind, at)
     }
 
+    /// One line more defines a key of the table `parent`, decoded, with this value: its nodes come as `insert_line` and
+    /// `set_value` tell it. The document had `old` values and key parts in all, and now has `new`. It takes the memory
+    /// of the new nodes and of a key, and reads the value's text once more.
+    ///
+    /// # Errors
+    ///
+    /// Those of `insert_line` and `set_value`; then nothing has changed, and the index has to be built anew.
+    pub fn insert_value(
+        &mut self,
+        parent: NodeId,
+        text: &str,
+        line: LineNumbers,
+        value: &ValueText,
+        old: Totals,
+        new: Totals,
+    ) -> Result<(), NotInPlace>
+        requires { parent.0 < length self.old.paths }
+        ensures inserted { OnOk result ((at : ℕ) → IsPlaceOf (numbers_of line) self.old.infos at
+            → (v : Value) → IsTextOfValue value.now v → self.new ≡ with_value (with_node self.old at (numbers_of line)
+            (path_numbered self.old parent.0 ++ key text.now ∷ []) (fact_kind (body_fact v.body))) at 0
+            (one_more (totals_in old)) (totals_in new) (nodes_in_value v) (fact_kind (body_fact v.body))) }
+        ensures refused { OnErr result (self.new ≡ self.old) }
+    {
+        let Some(bare) = with_line(old) else {
+            return Err(NotInPlace);
+        };
+        let inside = nodes_of_value(self.nodes.allocator(), value)?;
+        let at = first_met_from(&self.nodes, line);
+        let kind = value.kind();
+        let given = NewValue {
+            inside,
+            kind,
+            old: bare,
+            new,
+        };
+        self.nodes.insert_value(parent.0, text, line, at, given)
+    }
+
     /// The line of a node goes: a keyval of one key part, with a value in which nothing is nested. Each node after it
     /// has the number before its own. `line` has the numbers of the line in the syntax, and the facts about all others
     /// have their numbers without it. It takes no memory.
@@ -84,5 +142,31 @@ impl Index {
         ensures refused { OnErr result (self.new ≡ self.old) }
     {
         self.nodes.remove_key(node.0, line)
+    }
+
+    /// The line of a node goes: a keyval of one key part, and all nodes in its value with it. The document had `old`
+    /// values and key parts in all, and now has `new`.
+    ///
+    /// # Errors
+    ///
+    /// Those of `remove_line`, and `NotInPlace` where the nodes in the value do not follow its own, or memory was
+    /// refused; then nothing has changed, and the index has to be built anew.
+    pub fn remove_value(
+        &mut self,
+        node: NodeId,
+        line: LineNumbers,
+        old: Totals,
+        new: Totals,
+    ) -> Result<(), NotInPlace>
+        requires { node.0 < length self.old.paths }
+        ensures removed { OnOk result ((gone : ℕ) (k : Kind) → AreBelow self.old.paths node.0 gone
+            → self.new ≡ without_node (with_value self.old node.0 gone (totals_in old) (one_more (totals_in new))
+            root_infos k) node.0 (numbers_of line)) }
+        ensures refused { OnErr result (self.new ≡ self.old) }
+    {
+        let Some(bare) = with_line(new) else {
+            return Err(NotInPlace);
+        };
+        self.nodes.remove_value(node.0, line, old, bare)
     }
 }

@@ -1,6 +1,7 @@
 //! The index where a value gives place to another: it changes in place.
-ghost use Rattle.std.specs.Prelude.{◌≡◌, ℕ, ◌<◌, OnErr, OnOk, length};
+ghost use Rattle.std.specs.Prelude.{◌≡◌, ℕ, ◌<◌, IfOk, OnErr, OnOk, length};
 ghost use Rattle.keep_index_store.specs.Below.{totals_in};
+ghost use Rattle.keep_index_store.specs.Tree.{node_infos};
 ghost use Rattle.keep_meaning.specs.Meaning.{body_fact};
 ghost use Rattle.keep_meaning.specs.Nodes.{fact_kind};
 ghost use Rattle.keep_meaning.specs.OtherValues.{nodes_in_value};
@@ -11,8 +12,28 @@ ghost use Rattle.keep_syntax.specs.Tree.{Value};
 use super::{Index, NodeId};
 use crate::read::value_tree;
 use crate::value::ValueText;
-use keep_index_store::{NotInPlace, Totals};
+use keep_index_store::{NotInPlace, Totals, Tree};
 use keep_syntax::{Limits, STANDARD_DEPTH, ValueSyntax};
+use std::alloc::Global;
+
+/// The nodes of a value, read of its own text. `NotInPlace` where memory was refused.
+pub(crate) fn nodes_of_value(alloc: Global, value: &ValueText) -> Result<Tree, NotInPlace>
+    ensures { IfOk result
+        (λ tree. (v : Value) → IsTextOfValue value.now v → node_infos tree ≡ nodes_in_value v) }
+{
+    let limits = Limits {
+        depth: STANDARD_DEPTH,
+        profile: value.profile(),
+    };
+    let text = value.as_str();
+    let Ok(syntax) = ValueSyntax::read(alloc, text, limits) else {
+        return Err(NotInPlace);
+    };
+    let Ok(tree) = value_tree(alloc, text, &syntax) else {
+        return Err(NotInPlace);
+    };
+    Ok(tree)
+}
 
 impl Index {
     /// Another value comes in the place of that of a node, which has a key: the nodes in the old one go, and those in
@@ -36,18 +57,7 @@ impl Index {
             (totals_in new) (nodes_in_value v) (fact_kind (body_fact v.body))) }
         ensures refused { OnErr result (self.new ≡ self.old) }
     {
-        let limits = Limits {
-            depth: STANDARD_DEPTH,
-            profile: value.profile(),
-        };
-        let alloc = self.nodes.allocator();
-        let text = value.as_str();
-        let Ok(syntax) = ValueSyntax::read(alloc, text, limits) else {
-            return Err(NotInPlace);
-        };
-        let Ok(inside) = value_tree(alloc, text, &syntax) else {
-            return Err(NotInPlace);
-        };
+        let inside = nodes_of_value(self.nodes.allocator(), value)?;
         let kind = value.kind();
         self.nodes.replace_below(node.0, inside, kind, old, new)
     }

@@ -1,5 +1,5 @@
--- The text that is read once more is that of the value, so the nodes that reading gives are those in the value.
-use Rattle.std.proofs.Common.{◌≡◌, ℕ, List, ◌∙◌, ap, arith, subst, sym}
+-- The nodes that take the place of the old ones are those of the value.
+use Rattle.std.proofs.Common.{◌≡◌, ℕ, ◌∙◌, ap, arith, subst, sym}
 use Rattle.indexmap.proofs.MapLemmas.{OnOk-map}
 use Rattle.keep_types.specs.declared.node.Kind.{Kind}
 use Rattle.keep_path.specs.NodeInfos.{NodeInfos}
@@ -9,10 +9,7 @@ use Rattle.keep_index_store.specs.Tree.{node_infos}
 use Rattle.keep_meaning.specs.Meaning.{body_fact}
 use Rattle.keep_meaning.specs.Nodes.{fact_kind}
 use Rattle.keep_meaning.specs.OtherValues.{nodes_in_value}
-use Rattle.keep_rules.specs.ReadDocuments.{WasReadAlone}
-use Rattle.keep_rules.specs.ValueTexts.{IsTextOfValue}
 use Rattle.keep_rules.proofs.QueryLemmas.{count_paths}
-use Rattle.keep_rules.proofs.ValueLaws.{read_again}
 use Rattle.keep_rules.proofs.index.Index.set_value.Goals as goal
 
 pub replace_below-requires : goal.replace_below-requires
@@ -23,10 +20,7 @@ returns-clause-set c =
     let before : NodeInfos = node_infos c.self.inside.nodes in
     let given : NodeInfos → ℕ → NodeInfos → Kind → NodeInfos = λ t gone. with_value t c.args.node.0 gone (totals_in c.args.old) (totals_in c.args.new) in
     OnOk-map c.replace_below.result _ _ (λ is v text gone are.
-    let of_text : IsTextOfValue c.as_str-text.result.now v = subst (λ (bytes : List ℕ). IsTextOfValue bytes v) (sym c.as_str-text.ensures.text) text in
-    let was : WasReadAlone c.as_str-text.result.now c.in-Ok.syntax v = read_again c.profile.result c.as_str-text.result.now c.in-Ok.syntax c.in-Ok.ensures.found v of_text in
-    let inside : node_infos c.in-Ok-value_tree.inside ≡ nodes_in_value v = c.in-Ok-value_tree.ensures.nodes v was in
     is gone (subst (λ (t : NodeInfos). AreBelow t.paths c.args.node.0 gone) (sym c.self.view_is) are)
-    ∙ ap (λ (t : NodeInfos). given before gone t c.kind-kind.result) inside
+    ∙ ap (λ (t : NodeInfos). given before gone t c.kind-kind.result) (c.in_ok-inside.ensures v text)
     ∙ ap (given before gone (nodes_in_value v)) (c.kind-kind.ensures v text)
     ∙ ap (λ (t : NodeInfos). given t gone (nodes_in_value v) (fact_kind (body_fact v.body))) c.self.view_is) c.replace_below.ensures.replaced
