@@ -61,8 +61,10 @@ IN_PLACE = {
     "set of an item": ("set", "path = 't{middle}.b[0]'\nvalue = '[{number}]'\n"),
     "rename": ("rename", "path = 't{middle}.{last}'\nkey = 'n{number}'\n"),
     "insert": ("insert", "path = 't{middle}.n{number}'\nvalue = '1'\n"),
+    "insert of a list": ("insert", "path = 't{middle}.n{number}'\nvalue = '[{number}, [1], {{ x = 2 }}]'\n"),
     "insert of an item": ("insert", "path = 't{middle}.b[0]'\nvalue = '{number}'\n"),
     "remove": ("remove", "path = 't{middle}.k{number}'\n"),
+    "remove of a list": ("remove", "path = 't{middle}.l{number}'\n"),
     "remove of an item": ("remove", "path = 't{middle}.c[0]'\n"),
     "table": ("table", "path = 't{middle}.s{number}'\n"),
     "element": ("element", "path = 'e'\n"),
@@ -263,7 +265,7 @@ def growths_of_edits(program, refuse, kind, edits, tables):
     last = lambda number: f"n{number - 1}" if number else "a"
     filled = (words.format(middle=tables // 2, number=number, last=last(number)) for number in range(edits))
     script = "".join(f"[[edit]]\nop = '{op}'\n{it}" for it in filled)
-    keys = "".join(f"k{number} = {number}\n" for number in range(KEYS))
+    keys = "".join(f"k{number} = {number}\nl{number} = [{number}, [1]]\n" for number in range(KEYS))
     keys += f"c = [{', '.join(str(number) for number in range(KEYS))}]\n"
     text = "".join(f"[t{number}]\na = 1\n{keys if number == tables // 2 else ''}b = [1, 2]\n" for number in range(tables))
     ran, growths = Asked(program, refuse, [b"apply", script.encode()], f"{text}[[e]]\n".encode()).ample()

@@ -65,6 +65,18 @@ pub(crate) fn change_index(
             kind,
         } => index.insert_line(parent, key, line, kind).is_ok(),
         IndexChange::RemovedLine { node, line } => index.remove_line(node, line).is_ok(),
+        IndexChange::AddedValue {
+            parent,
+            key,
+            line,
+            value,
+            totals,
+        } => index
+            .insert_value(parent, key, line, value, totals, totals_of(new.syntax))
+            .is_ok(),
+        IndexChange::RemovedValue { node, line, totals } => index
+            .remove_value(node, line, totals, totals_of(new.syntax))
+            .is_ok(),
         IndexChange::AppendedHeader {
             header,
             keys,

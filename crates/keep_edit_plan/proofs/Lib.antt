@@ -33,8 +33,11 @@ pub mod BracketPlaces
 pub mod KeysLaws
 pub mod InsertedLaws
 pub mod InsertInsideLaws
+pub mod PathNumberLaws
 pub mod LineChangeLaws
+pub mod LineValueLaws
 pub mod LineRemovalLaws
+pub mod LineValueRemovalLaws
 pub mod HeaderChangeLaws
 pub mod GivenLaws
 pub mod Shared

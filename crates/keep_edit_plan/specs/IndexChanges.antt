@@ -1,6 +1,7 @@
 -- What an edit changes of the index, where it need not be built anew.
 use Rattle.std.specs.Prelude.{◌≡◌, ◌<◌, [], ◌∷◌, ◌++◌, None, length}
 use Rattle.std.specs.Prelude.{ℕ}
+use Rattle.keep_types.specs.declared.node.Kind.{Kind as NodeKind}
 use Rattle.keep_syntax.specs.Tree.{Document, Value as TreeValue}
 use Rattle.keep_meaning.specs.Counts.{statements_in}
 use Rattle.keep_meaning.specs.Marks.{start, reading_after}
@@ -8,12 +9,12 @@ use Rattle.keep_meaning.specs.Meaning.{body_fact, mentions_in}
 use Rattle.keep_meaning.specs.Nodes.{fact_kind, node_number}
 use Rattle.keep_meaning.specs.OtherValues.{nodes_in_value, totals_of}
 use Rattle.keep_meaning.specs.StatementsMore.{AreNumbersAtEnd, said_next}
-use Rattle.keep_path.specs.NodeInfos.{NodeInfos, with_kind, with_node, with_path, without_node}
+use Rattle.keep_path.specs.NodeInfos.{NodeInfos, root_infos, with_kind, with_node, with_path, without_node}
 use Rattle.keep_path.specs.NodesBelow.{AreBelow, with_value}
 use Rattle.keep_path.specs.Path.{EndsInKey, beside, key}
 pub use Rattle.keep_index_store.specs.Below.{totals_in}
 use Rattle.keep_index_store.specs.Renumbering.{numbers_of}
-use Rattle.keep_rules.specs.LinePlaces.{IsPlaceOf, met_before}
+use Rattle.keep_rules.specs.LinePlaces.{IsPlaceOf, met_before, one_more}
 use Rattle.keep_rules.specs.Lookup.{path_numbered}
 use Rattle.keep_rules.specs.MentionInfos.{with_mentions}
 use Rattle.keep_rules.specs.Nested.{AreNested}
@@ -23,7 +24,7 @@ use Rattle.keep_edit_plan.specs.Headers.{key_texts, statement_of}
 use Rattle.keep_edit_plan.specs.Reading.{IsTextOfValue, telling_in}
 use Rattle.keep_edit_plan.specs.declared.plan.IndexChange.{IndexChange}
 use Rattle.keep_edit_plan.specs.declared.plan.IndexChange.TheVariants.{Kind, Key, Value, Inside, AddedLine, RemovedLine}
-use Rattle.keep_edit_plan.specs.declared.plan.IndexChange.TheVariants.{AppendedHeader}
+use Rattle.keep_edit_plan.specs.declared.plan.IndexChange.TheVariants.{AddedValue, RemovedValue, AppendedHeader}
 
 -- The node is there. Where another key is its path's last one, the path ends in a key, and no node is at the new one.
 -- No node is at the path of a new line's key, and the nodes that are met before the line come first. The numbers of a
@@ -39,6 +40,10 @@ CanChange t (AddedLine parent text line kind) =
     (parent.0 < length t.paths) × (node_number t.paths (path_numbered t parent.0 ++ key text.now ∷ []) ≡ None)
     × IsPlaceOf (numbers_of line) t.infos (met_before (numbers_of line) t.infos)
 CanChange t (RemovedLine node line) = node.0 < length t.paths
+CanChange t (AddedValue parent text line value old) =
+    (parent.0 < length t.paths) × (node_number t.paths (path_numbered t parent.0 ++ key text.now ∷ []) ≡ None)
+    × IsPlaceOf (numbers_of line) t.infos (met_before (numbers_of line) t.infos)
+CanChange t (RemovedValue node line old) = node.0 < length t.paths
 CanChange t (AppendedHeader header keys statement first) =
     (d : Document) × IsIndexOf d t × AreNumbersAtEnd d statement first
 
@@ -57,6 +62,16 @@ IsChanged t d (AddedLine parent text line kind) u =
     u ≡ with_node t (met_before (numbers_of line) t.infos) (numbers_of line)
     (path_numbered t parent.0 ++ key text.now ∷ []) kind
 IsChanged t d (RemovedLine node line) u = u ≡ without_node t node.0 (numbers_of line)
+IsChanged t d (AddedValue parent text line value old) u =
+    (v : TreeValue) → IsTextOfValue value.now v
+    → u ≡ with_value (with_node t (met_before (numbers_of line) t.infos) (numbers_of line)
+    (path_numbered t parent.0 ++ key text.now ∷ []) (fact_kind (body_fact v.body)))
+    (met_before (numbers_of line) t.infos) 0 (one_more (totals_in old)) (totals_of d) (nodes_in_value v)
+    (fact_kind (body_fact v.body))
+IsChanged t d (RemovedValue node line old) u =
+    (gone : ℕ) (k : NodeKind) → AreBelow t.paths node.0 gone
+    → u ≡ without_node (with_value t node.0 gone (totals_in old) (one_more (totals_of d)) root_infos k) node.0
+    (numbers_of line)
 IsChanged t d (AppendedHeader header keys statement first) u =
     (old : Document) → IsIndexOf old t → AreNumbersAtEnd old statement first
     → u ≡ with_mentions t (said_next old (statement_of header (key_texts keys.now)))

@@ -67,7 +67,7 @@ impl<'a> DocumentRef<'a> {
         &self,
         alloc: Global,
         path: &'p Path,
-        value: &ValueText,
+        value: &'p ValueText,
     ) -> Result<Plan<'p>, EditFault>
         ensures planned { (s : tree.Document) → IsTextOfTree self.now s → (v : tree.Value) → IsTextOfValue value.now v
             → EditPlanned s (insert path.now v) self.now result }

@@ -46,6 +46,22 @@ pub enum IndexChange<'a> {
         node: NodeId,
         line: LineNumbers,
     },
+    /// A line comes with these numbers: below a table there is one node more, by this key, and below it those of this
+    /// value; the document had so many values and key parts.
+    AddedValue {
+        parent: NodeId,
+        key: &'a str,
+        line: LineNumbers,
+        value: &'a ValueText,
+        totals: Totals,
+    },
+    /// The line with these numbers goes, and with it this node and all below it; the document had so many values and
+    /// key parts.
+    RemovedValue {
+        node: NodeId,
+        line: LineNumbers,
+        totals: Totals,
+    },
     /// A header comes as the last statement, with this number, and its first key part with that one.
     AppendedHeader {
         header: Header,

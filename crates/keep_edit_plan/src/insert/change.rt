@@ -10,16 +10,17 @@ ghost use Rattle.keep_edit_plan.specs.Reading.{IsTextOfTree, IsTextOfValue};
 use super::{Insertion, Spot};
 use crate::document::DocumentRef;
 use crate::plan::IndexChange;
+use crate::totals::totals_of;
 use keep_rules::{Path, Step, ValueText};
 
 impl<'a> DocumentRef<'a> {
-    /// What an insertion changes of the index, if that is another value of a line, or one line more, with one key and a
-    /// scalar. It takes no memory.
+    /// What an insertion changes of the index, if that is another value of a line, or one line more, with one key. It
+    /// takes no memory.
     pub(crate) fn insertion_change<'p>(
         &self,
         path: &'p Path,
         insertion: Insertion,
-        value: &ValueText,
+        value: &'p ValueText,
     ) -> Option<IndexChange<'p>>
         requires aimed { (s : tree.Document) × IsTextOfTree self.now s
             × ((v : tree.Value) × IsTextOfValue value.now v
@@ -40,12 +41,12 @@ impl<'a> DocumentRef<'a> {
         }
     }
 
-    /// What an insertion changes of the index, if that is one line more, with one key and a scalar. It takes no memory.
+    /// What an insertion changes of the index, if that is one line more, with one key. It takes no memory.
     fn line_change<'p>(
         &self,
         path: &'p Path,
         insertion: Insertion,
-        value: &ValueText,
+        value: &'p ValueText,
     ) -> Option<IndexChange<'p>>
         requires { (s : tree.Document) × IsTextOfTree self.now s × ((v : tree.Value) × IsTextOfValue value.now v
             × IsInsertionOf self.now.profile path.now v s (Ok insertion)) }
@@ -57,18 +58,31 @@ impl<'a> DocumentRef<'a> {
             return None;
         };
         let from = insertion.from;
-        if value.depth() > 0 || path.len().saturating_sub(from) != 1 {
+        if path.len().saturating_sub(from) != 1 {
             return None;
         }
         let Step::Key(key) = path.step(from)? else {
             return None;
         };
         let parent = self.index.find_first(path, from)?;
-        Some(IndexChange::AddedLine {
+        let key = key.as_str();
+        let line = self.line_numbers(header);
+        if value.depth() == 0 {
+            let kind = value.kind();
+            return Some(IndexChange::AddedLine {
+                parent,
+                key,
+                line,
+                kind,
+            });
+        }
+        let totals = totals_of(self.syntax);
+        Some(IndexChange::AddedValue {
             parent,
-            key: key.as_str(),
-            line: self.line_numbers(header),
-            kind: value.kind(),
+            key,
+            line,
+            value,
+            totals,
         })
     }
 }

@@ -10,12 +10,13 @@ ghost use Rattle.keep_edit_plan.specs.Removing.{IsRemovalFound};
 use super::Piece;
 use crate::document::DocumentRef;
 use crate::plan::IndexChange;
+use crate::totals::totals_of;
 use keep_rules::{LineNumbers, NodeId, Path};
 use keep_syntax::Owner;
 
 impl<'a> DocumentRef<'a> {
-    /// What a removal changes of the index, if that is another value of a line, or one line less, with one key and a
-    /// value below which there is no node. It takes no memory.
+    /// What a removal changes of the index, if that is another value of a line, or one line less, with one key. It
+    /// takes no memory.
     pub(crate) fn removal_change(
         &self,
         path: &Path,
@@ -37,8 +38,7 @@ impl<'a> DocumentRef<'a> {
         }
     }
 
-    /// What a removal changes of the index, if that is one line less, with one key and a value below which there is no
-    /// node. It takes no memory.
+    /// What a removal changes of the index, if that is one line less, with one key. It takes no memory.
     fn removed_line(&self, node: NodeId, piece: Piece) -> Option<IndexChange<'static>>
         requires { (s : tree.Document) × IsTextOfTree self.now s
             × ((path : List Part) × IsRemovalFound self.now.profile path s (Ok (node, piece))) }
@@ -53,7 +53,7 @@ impl<'a> DocumentRef<'a> {
         let Owner::Line(statement) = value.owner else {
             return None;
         };
-        if value.keys != 1 || self.index.child_count(node) > 0 {
+        if value.keys != 1 {
             return None;
         }
         let line = LineNumbers {
@@ -61,6 +61,10 @@ impl<'a> DocumentRef<'a> {
             value: number,
             key: value.first_key,
         };
-        Some(IndexChange::RemovedLine { node, line })
+        if self.index.child_count(node) == 0 {
+            return Some(IndexChange::RemovedLine { node, line });
+        }
+        let totals = totals_of(self.syntax);
+        Some(IndexChange::RemovedValue { node, line, totals })
     }
 }

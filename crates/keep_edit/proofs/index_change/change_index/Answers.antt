@@ -1,6 +1,13 @@
-use Rattle.std.proofs.Common.{sym, ◌∙◌}
+use Rattle.std.proofs.Common.{subst, sym, ◌∙◌}
+use Rattle.keep_edit_plan.specs.IndexChanges.{CanChange}
 use Rattle.keep_edit.proofs.InsideLaws.{from_ok}
 use Rattle.keep_edit.proofs.index_change.change_index.Goals as goal
+
+pub returns-in-AddedValue-clause-changed : goal.returns-in-AddedValue-clause-changed
+returns-in-AddedValue-clause-changed c = λ d was done.
+    let can = subst (CanChange c.args.index.now) c.in-AddedValue.is c.requires in
+    rw (c.in-AddedValue.is, sym (c.totals_of-in-AddedValue.ensures d was.is))
+    (λ v text. from_ok _ c.insert_value.result (sym c.is_ok-in-AddedValue.ensures.value ∙ done) c.insert_value.ensures.inserted _ can.2 v text)
 
 pub returns-in-Element-clause-changed : goal.returns-in-Element-clause-changed
 returns-in-Element-clause-changed c = λ d was done.
