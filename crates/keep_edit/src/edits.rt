@@ -81,7 +81,7 @@ impl Document {
     }
 
     /// Makes all edits in their order, each on the document after those before it; or none of them: after a refusal the
-    /// document is as before. They are made on a copy, which is read of the document's text once; then each
+    /// document is as before. More than one are made on a copy, which is read of the document's text once; then each
     /// edit reads the lines that it touches. An empty list takes no memory. The document's own allocator gives the
     /// memory.
     ///
@@ -102,8 +102,25 @@ impl Document {
         if edits.is_empty() {
             return Ok(());
         }
+        if edits.len() == 1 {
+            return self.apply_only(edits);
+        }
         *self = self.after_each(edits)?;
         Ok(())
+    }
+
+    /// Makes the only edit of a list. A refused edit changes nothing, so there is no copy.
+    fn apply_only(&mut self, edits: &[Edit]) -> Result<(), (usize, EditFault)>
+        requires { length edits.now ≡ 1 }
+        ensures done { (s : tree.Document) → IsTextOfTree self.old s → EachDone s edits.now self.old self.new result }
+        ensures read { IsAccepted self.new }
+        ensures refused { OnErr result (self.new ≡ self.old) }
+        ensures number { IfErr result (λ stop. stop.0 < length edits.now) }
+    {
+        match self.apply(&edits[0]) {
+            Ok(_) => Ok(()),
+            Err(fault) => Err((0, fault)),
+        }
     }
 
     /// The document after the edits in their order, made on a copy; or the first that is refused.
