@@ -8,7 +8,7 @@ from dataclasses import dataclass
 
 # A type, its items or a trait's for it, a trait, and a function.
 TYPE = re.compile(r"^(?:pub(?:\([a-z ]+\))? )?(?:struct|enum) (\w+)", re.M)
-IMPL = re.compile(r"impl(?:<[^>]*>)? (?:(?P<trait>\w+)(?:<.*>)? for )?(?P<type>\w+)")
+IMPL = re.compile(r"impl(?:<(?P<generics>[^>]*)>)? (?:(?P<trait>\w+(?:<.*>)?) for )?(?P<type>&?\w+)(?:<(?P<arguments>[^{]*)>)?")
 TRAIT = re.compile(r"(?:pub(?:\([a-z ]+\))? )?trait ")
 FN = re.compile(r"(?P<indent> *)(?:pub(?:\([a-z ]+\))? )?(?P<const>const )?(?:unsafe )?fn (?P<name>\w+)(?:<(?P<generics>[^>(]*)>)?")
 CYCLE = re.compile(r" *#\[cycle\((\w+)\)\]")
@@ -44,20 +44,35 @@ def types_in(texts):
 
 def functions_of(file, text, types):
     """The functions of a file with this text, where the crate's types are in these modules."""
-    lines, owner, trait, is_in_trait, found = text.split("\n"), None, None, False, []
+    lines, owner, trait, instance, is_in_trait, found = text.split("\n"), "", "", "", False, []
     # (another file may have a type of the same name)
     types = types | types_in({file: text})
     for number, line in enumerate(lines):
         if begins := IMPL.match(line):
-            owner, trait = begins["type"], begins["trait"]
+            owner, trait, instance = named(begins["type"]), named(begins["trait"] or ""), instance_of(begins)
         elif TRAIT.match(line):
             is_in_trait = True
         elif line == "}":
-            owner, trait, is_in_trait = None, None, False
+            owner, trait, instance, is_in_trait = "", "", "", False
         elif not is_in_trait and (begins := FN.match(line)):
-            module = types.get(owner, module_of(file)) if owner else module_of(file)
-            found.append(function_at(lines, number, begins, module, owner, trait))
+            is_of_the_type = owner and not trait and not instance
+            module = types.get(owner, module_of(file)) if is_of_the_type else module_of(file)
+            found.append(function_at(lines, number, begins, module, owner + instance, trait))
     return found
+
+
+def named(written):
+    """The name in a path of a type or a trait as it is written: `RefStr` for `&str`, `FromChoiceFault` for `From<ChoiceFault>`."""
+    words = re.findall(r"\w+", written.replace("&", "Ref "))
+    return "".join(it[0].upper() + it[1:] for it in words)
+
+
+def instance_of(begins):
+    """What the name of a type has behind it where its items are for some arguments alone, as `+T+T+Packed` for `PackedVec<T, T::Packed>`."""
+    generics = re.findall(r"\w+", re.sub(r":[^,]*", "", begins["generics"] or ""))
+    arguments = [it for it in re.split(r", *", begins["arguments"] or "") if it and not it.startswith("'")]
+    is_plain = begins["trait"] or all(it in generics for it in arguments)
+    return "" if is_plain else "".join(f"+{it.replace('::', '+')}" for it in arguments)
 
 
 def function_at(lines, number, begins, module, owner, trait):
@@ -65,7 +80,7 @@ def function_at(lines, number, begins, module, owner, trait):
     start = next(it for it in range(number, len(lines)) if lines[it].endswith(("{", "{}"))) + 1
     is_empty = lines[start - 1].endswith("{}")
     end = start if is_empty else next(it for it in range(start, len(lines)) if lines[it] == begins["indent"] + "}")
-    path = [*module, *([owner + (trait or "")] if owner else []), begins["name"]]
+    path = [*module, *([owner + trait] if owner else []), begins["name"]]
     cycle = CYCLE.fullmatch(lines[number - 1])
     proof = [*module, "+" + cycle[1]] if cycle else path
     is_plain = not (is_empty or trait or begins["const"] or cycle) and bool(LIFETIMES.fullmatch(begins["generics"] or ""))
