@@ -3,24 +3,27 @@
 -- A block's lanes are compared all at once: what a lane is set to is what the tests say of its byte (`lane_is`, by
 -- cases of five truth values), so the mask's bits are those of the bytes that end a run (`block_ends`). Where the mask
 -- is 0 the run goes through the block (`run_through`); else it ends at the lowest bit (`run_stops`). The classes of
--- bytes that the code tests are those of the grammar, which is computed for each of the 256 bytes (`upto`).
+-- bytes that the code tests are those of the grammar, which is computed for each of the 256 bytes (`upto`). Digits have
+-- a mask of their own (`block_non_digits`), and where it is 0 they go through the block (`digits_through`).
 --
--- Theorems: `block_ends`, `run_through`, `run_stops`, and `comment_class`, `basic_class` and `literal_class`.
-use Rattle.std.proofs.Common.{◌≡◌, ℕ, zero, suc, ◌+◌, ◌*◌, ◌%◌, ◌^◌, ◌<◌, ◌≤◌, Bool, true, false, not, cond, eqb, ltb, List, [], ◌∷◌, map, length, drop, replicate, bit_and, inl, inr, subst, refl, sym, ap, ap₂, ◌∙◌, arith, w8, Fits}
+-- Theorems: `block_ends`, `run_through`, `run_stops`, and `comment_class`, `basic_class` and `literal_class`; for digits
+-- `block_non_digits` and `digits_through`.
+use Rattle.std.proofs.Common.{◌≡◌, ℕ, zero, suc, ◌+◌, ◌*◌, ◌%◌, ◌^◌, ◌<◌, ◌≤◌, Bool, true, false, not, cond, eqb, ltb, List, [], ◌∷◌, map, length, drop, take, take-add, replicate, bit_and, inl, inr, subst, refl, sym, ap, ap₂, ◌∙◌, arith, w8, Fits}
 use Rattle.std.specs.Prelude.{◌&&◌, ◌||◌, ◌==◌, nat_le}
-use Rattle.std.specs.List.{prefix_len}
+use Rattle.std.specs.Char.{is_ascii_digit}
+use Rattle.std.specs.List.{list_all, prefix_len}
 use Rattle.std.proofs.lemmas.Bool.{and_parts, cases_Bool, cases_lt, eq-eqb, ne_eqb, eqb-true, eqb-false}
-use Rattle.std.proofs.lemmas.Bool.Decides.{leb_tells}
+use Rattle.std.proofs.lemmas.Bool.Decides.{leb_tells, nat_tests}
 use Rattle.std.proofs.lemmas.List.{length-map, length-drop, drop-drop}
-use Rattle.std.proofs.lemmas.List.Folds.{prefix_len-append}
+use Rattle.std.proofs.lemmas.List.Folds.{list_all-append, prefix_len-append}
 use Rattle.std.proofs.lemmas.List.Sums.{prefix_len-drop_all, prefix_len-drop_no, prefix_len-le-length, prefix_len_stops}
-use Rattle.std.proofs.lemmas.Simd.{zip2_splat, zip2-map, mask_l-mod, chunk-drop, length-chunk, leading_from_mask_l, trailing_mask_l}
+use Rattle.std.proofs.lemmas.Simd.{zip2_splat, zip2_splat_left, zip2-map, mask_l-mod, chunk-drop, length-chunk, leading_from_mask_l, trailing_mask_l}
 use lib.Bits.{bit_or}
 use lib.Lanes.{zip2, mask_l, top, chunk, Each1}
 use lib.Count.{count_trailing_zeros}
 use Rattle.keep_token.specs.Abnf.{between, is_comment}
 use Rattle.keep_token.specs.Strings.{is_basic, is_literal}
-use Rattle.keep_token.specs.Blocks.{ends_run, is_plain}
+use Rattle.keep_token.specs.Blocks.{ends_run, is_non_digit, is_plain}
 use Rattle.keep_token.proofs.ClassLaws.{same, same_is}
 
 -- ---- the mask of a block
@@ -115,6 +118,38 @@ block_ends also a b v long fits =
     let marks = ap₂ (zip2 bit_or) (zip2_splat equal v 16 a long) (zip2_splat equal v 16 b long) ∙ zip2-map bit_or (λ x. equal x a) (λ x. equal x b) v in
     let lanes = ap₂ (zip2 bit_or) control marks ∙ zip2-map bit_or (λ x. bit_and (bit_or (bit_and (below x 0x20) (other x 9)) (equal x 0x7F)) (other x also)) (λ x. bit_or (equal x a) (equal x b)) v in
     ap (λ (l : List ℕ). mask_l (map (top 7) l) % 2 ^ 64) lanes ∙ ap (λ (l : List Bool). mask_l l % 2 ^ 64) (each_lane also a b v fits) ∙ mask_l-mod (map (ends_run also a b) v) 64 (omega (arith, length-map v (ends_run also a b)))
+
+-- ---- the mask of a block's bytes that are no digits
+
+not_digit : (x : ℕ) → (ltb x 48 || ltb 57 x) ≡ is_non_digit x
+not_digit x = grind (arith, nat_tests)
+
+each_non_digit : (v : List ℕ) → map (top 7) (map (λ x. bit_or (below x 48) (below 57 x)) v) ≡ map is_non_digit v
+each_non_digit [] = refl
+each_non_digit (x ∷ xs) =
+    let here : top 7 (bit_or (below x 48) (below 57 x)) ≡ is_non_digit x = ap (top 7) (or_set (ltb x 48) (ltb 57 x)) ∙ top_set (ltb x 48 || ltb 57 x) ∙ not_digit x in
+    ap₂ (λ (c : Bool) (cs : List Bool). c ∷ cs) here (each_non_digit xs)
+
+pub block_non_digits : (v : List ℕ) → length v ≡ 16
+    → mask_l (map (top 7) (zip2 bit_or (zip2 below v (replicate 16 48)) (zip2 below (replicate 16 57) v))) % 2 ^ 64 ≡ mask_l (map is_non_digit v)
+block_non_digits v long =
+    let lanes = ap₂ (zip2 bit_or) (zip2_splat below v 16 48 long) (zip2_splat_left below 57 16 v long) ∙ zip2-map bit_or (λ x. below x 48) (below 57) v in
+    ap (λ (l : List ℕ). mask_l (map (top 7) l) % 2 ^ 64) lanes ∙ ap (λ (l : List Bool). mask_l l % 2 ^ 64) (each_non_digit v) ∙ mask_l-mod (map is_non_digit v) 64 (omega (arith, length-map v is_non_digit))
+
+-- where no bit is set, each byte is a digit
+no_bit : (b : Bool) (m : ℕ) → cond (not b) 1 0 + 2 * m ≡ 0 → (b ≡ true) × (m ≡ 0)
+no_bit true m e = (refl, omega arith)
+no_bit false m e = absurd (omega arith)
+
+all_digits : (xs : List ℕ) → mask_l (map is_non_digit xs) ≡ 0 → list_all is_ascii_digit xs ≡ true
+all_digits [] e = refl
+all_digits (x ∷ xs) e = let is = no_bit (is_ascii_digit x) _ e in rw is.0 (all_digits xs is.1)
+
+-- digits go through a block with no other byte
+pub digits_through : (d : List ℕ) (i n : ℕ) → list_all is_ascii_digit (take i d) ≡ true → mask_l (map is_non_digit (chunk i n d)) ≡ 0
+    → list_all is_ascii_digit (take (i + n) d) ≡ true
+digits_through d i n before none =
+    ap (list_all is_ascii_digit) (take-add i n d) ∙ list_all-append is_ascii_digit (take i d) (chunk i n d) ∙ (rw (before, all_digits (chunk i n d) none) refl)
 
 -- ---- a run, block by block
 

@@ -1,13 +1,14 @@
 //! How far a run of bytes goes, sixteen bytes at a time.
-ghost use Rattle.std.specs.Prelude.{◌≡◌, ◌+◌, ◌≤◌, drop, length, map};
-ghost use Rattle.std.specs.List.{prefix_len};
+ghost use Rattle.std.specs.Prelude.{◌≡◌, ◌+◌, ◌≤◌, true, drop, length, map, take};
+ghost use Rattle.std.specs.Char.{is_ascii_digit};
+ghost use Rattle.std.specs.List.{list_all, prefix_len};
 ghost use Rattle.std.specs.Simd.Lanes.{mask_l};
-ghost use Rattle.keep_token.specs.Blocks.{ends_run, is_plain};
+ghost use Rattle.keep_token.specs.Blocks.{ends_run, is_non_digit, is_plain};
 
 use std::simd::prelude::*;
 
 /// How many bytes are looked at together.
-const BLOCK: usize = 16;
+pub(crate) const BLOCK: usize = 16;
 
 /// A bit for each byte that ends a run: a control character but for the tab and `also`, or one of two marks.
 #[inline(always)]
@@ -37,4 +38,26 @@ pub(crate) fn run_in_blocks(bytes: &[u8], also: u8, a: u8, b: u8) -> usize
         at += BLOCK;
     }
     at
+}
+
+/// A bit for each byte that is no digit.
+#[inline(always)]
+fn non_digits(block: u8x16) -> u64
+    ensures { result ≡ mask_l (map is_non_digit block) }
+{
+    let others = block.simd_lt(u8x16::splat(b'0')) | block.simd_gt(u8x16::splat(b'9'));
+    others.to_bitmask()
+}
+
+/// How many digits come first, as far as whole blocks of digits go.
+#[inline(never)]
+pub(crate) fn digits_in_blocks(bytes: &[u8]) -> usize
+    ensures digits { list_all is_ascii_digit (take result bytes.now) ≡ true }
+    ensures within { result ≤ length bytes.now }
+{
+    let mut digits = 0;
+    while bytes.len() - digits >= BLOCK && non_digits(u8x16::from_slice(&bytes[digits..])) == 0 {
+        digits += BLOCK;
+    }
+    digits
 }

@@ -6,6 +6,7 @@ ghost use Rattle.std.specs.Char.{is_ascii_digit};
 ghost use Rattle.keep_token.specs.Numbers as numbers;
 ghost use Rattle.keep_token.specs.Words as words;
 
+use crate::blocks::{BLOCK, digits_in_blocks};
 use crate::bytes::{are_digits, is_e, is_sign};
 
 /// The number that digits of a base write, with an underscore at most between two of them, where it is below 2^64.
@@ -120,10 +121,23 @@ pub(crate) fn is_integer(bytes: &[u8]) -> bool
     integer_value(bytes).is_some()
 }
 
+/// The rest in which digits are still to be tested. Of digits in a row only the last can come before an underscore, so it
+/// begins at the last one that is found in whole blocks.
+#[inline(always)]
+fn rest_from_last_digit(bytes: &[u8]) -> &[u8]
+    ensures { numbers.is_digits is_ascii_digit result.now ≡ numbers.is_digits is_ascii_digit bytes.now }
+{
+    if bytes.len() < BLOCK {
+        return bytes;
+    }
+    let in_a_row = digits_in_blocks(bytes);
+    &bytes[in_a_row.saturating_sub(1)..]
+}
+
 fn is_digits(bytes: &[u8]) -> bool
     ensures { result ≡ numbers.is_digits is_ascii_digit bytes.now }
 {
-    let mut rest = bytes;
+    let mut rest = rest_from_last_digit(bytes);
     loop {
         match rest {
             [] => return false,
@@ -166,7 +180,8 @@ fn is_decimal(bytes: &[u8]) -> bool
     }
 }
 
-/// `float-exp-part`: zeros may lead.
+/// `float-exp-part`: zeros may lead. Not inlined, so that the test for an exponent's letter is: most numbers have none.
+#[inline(never)]
 fn is_signed_digits(bytes: &[u8]) -> bool
     ensures { result ≡ words.is_signed_digits bytes.now }
 {
