@@ -5,7 +5,7 @@
 -- known (`value_gives_nodes`), and how they are nested (`value_is_nested`).
 --
 -- Theorem: `value_changed`.
-use Rattle.std.proofs.Common.{◌≡◌, ℕ, zero, suc, ◌-◌, Bor, List, [], ◌∷◌, length, sym, ap, subst, ◌∙◌, arith, Option, Some, None, slice_get}
+use Rattle.std.proofs.Common.{◌≡◌, ℕ, suc, ◌-◌, Bor, List, [], ◌∷◌, length, sym, ap, subst, ◌∙◌, arith, Option, Some, None, slice_get}
 use Rattle.keep_syntax.specs.declared.syntax.Syntax.{Syntax}
 use Rattle.keep_syntax.specs.Tree.{Value, Document}
 use Rattle.keep_path.specs.NodeInfos.{NodeInfos}

@@ -1,7 +1,7 @@
 -- One statement more, after all others: what it says, and what the document then says.
 use Rattle.std.specs.Prelude.{◌≡◌, ℕ, List, [], ◌∷◌, ◌++◌}
 use Rattle.keep_syntax.specs.Tree.{Document}
-use Rattle.keep_meaning.specs.Marks.{Mention, Reading, Statement, reading_after, start, statement_mentions}
+use Rattle.keep_meaning.specs.Marks.{Reading, Statement, reading_after, start, statement_mentions}
 use Rattle.keep_meaning.specs.Counts.{Count, Numbered, count_from, no_count, numbered_mentions, statements_in}
 
 -- the second document has this statement more, as its last

@@ -1,9 +1,8 @@
 -- The facts about all nodes, where a value gives place to another: the nodes in it go, and those in the new one come.
-use Rattle.std.specs.Prelude.{◌≡◌, ◌≢◌, ℕ, suc, ◌+◌, ◌-◌, ◌<◌, ◌≤◌, ◌↔◌, nat_lt, if◌then◌else◌, List, [], ◌++◌, length}
+use Rattle.std.specs.Prelude.{◌≡◌, ◌≢◌, ℕ, suc, ◌+◌, ◌-◌, ◌<◌, ◌≤◌, nat_lt, if◌then◌else◌, List, [], ◌++◌, length}
 use Rattle.std.specs.Prelude.{take, drop, map, Some, None, slice_index_or}
 use Rattle.std.specs.Option.{option_map}
 use Rattle.keep_types.specs.declared.node.Kind.{Kind}
-use Rattle.keep_types.specs.declared.node.Origin.{Origin}
 use Rattle.keep_types.specs.declared.node.Origin.TheVariants as origin
 use Rattle.keep_types.specs.declared.node.NodeInfo.{NodeInfo}
 use Rattle.keep_path.specs.NodeInfos.{NodeInfos, no_info, renumbered_origin, with_kind}

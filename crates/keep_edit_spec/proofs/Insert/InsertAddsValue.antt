@@ -13,7 +13,7 @@ use Rattle.keep_syntax.specs.Tree.{Written, Name, Value, Line, Ended, Document, 
 use Rattle.keep_syntax.specs.WholeLines.{empty_line}
 use Rattle.keep_path.specs.Path.{Part, key}
 use Rattle.keep_meaning.specs.Marks.{marks, start}
-use Rattle.keep_meaning.specs.Meaning.{body_fact, line_of, lines, mentions_in, mentions_of_value, reading_after_lines, step}
+use Rattle.keep_meaning.specs.Meaning.{body_fact, line_of, lines, mentions_in, reading_after_lines, step}
 use Rattle.keep_meaning.specs.OtherValues.{HasOtherValue}
 use Rattle.keep_meaning.specs.Rules.{ObeysRules}
 use Rattle.keep_edit_spec.specs.Changed.{Changed}

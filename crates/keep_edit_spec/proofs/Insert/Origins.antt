@@ -14,7 +14,7 @@ use Rattle.keep_syntax.specs.Tree.{Written, Gap, Content, blank, keyval, header,
 use Rattle.keep_path.specs.Path.{Part, index, same_path}
 use Rattle.keep_types.specs.declared.node.Origin.{Origin}
 use Rattle.keep_types.specs.declared.node.Origin.TheVariants as origin
-use Rattle.keep_meaning.specs.Marks.{MentionKind, through, define, dotted, value, Mention, Reading, start, header_path, elements_of}
+use Rattle.keep_meaning.specs.Marks.{MentionKind, through, define, dotted, Mention, Reading, start, header_path, elements_of}
 use Rattle.keep_meaning.specs.Meaning.{keys_of, key_value, further_value, after_line, lines, mentions_in}
 use Rattle.keep_meaning.specs.Counts.{Count, Numbered, is_value, numbered_in}
 use Rattle.keep_meaning.specs.Nodes.{is_at, numbered_at, mention_of, last_number, statement_number, value_number, first_that_fits, mentioned_origin, is_define, is_begun, is_dotted, is_element, is_through}

@@ -19,7 +19,7 @@ use Rattle.keep_meaning.specs.Rules.{ObeysRules}
 use Rattle.keep_meaning.proofs.Shared.{lines_mentions-statements}
 use Rattle.keep_edit_spec.specs.Changed.{Changed, or_else}
 use Rattle.keep_edit_spec.specs.Edits.{changed_or_same, clear_line, edited_document, is_own, nested, remove, without_lines}
-use Rattle.keep_edit_spec.specs.KeyvalLines.{HasLineAt, IsLineOf, IsValueLine, RemoveTakesLine, bare_value}
+use Rattle.keep_edit_spec.specs.KeyvalLines.{HasLineAt, IsValueLine, RemoveTakesLine, bare_value}
 use Rattle.keep_edit_spec.specs.Lines.{begins, body_length, in_document, in_lines, last_line, with_page}
 use Rattle.keep_edit_spec.specs.Values.{removal}
 use Rattle.keep_edit_spec.proofs.Common.InValue.{beside_keyval}

@@ -6,9 +6,9 @@
 -- are the old document's, so the remove takes the line from it (`takes`).
 --
 -- Theorem: `remove_takes_value`.
-use Rattle.std.proofs.Common.{◌≡◌, ℕ, List, [], ◌∷◌, ◌++◌, map, refl, sym, ap, ap₂, subst, ◌∙◌, Some}
+use Rattle.std.proofs.Common.{◌≡◌, List, [], ◌∷◌, ◌++◌, map, refl, sym, ap, ap₂, subst, ◌∙◌, Some}
 use Rattle.std.proofs.lemmas.List.{append-nil}
-use Rattle.keep_syntax.specs.Tree.{Further, Name, Value, Line, Ended, Document, keyval}
+use Rattle.keep_syntax.specs.Tree.{Further, Value, Line, Ended, Document, keyval}
 use Rattle.keep_path.specs.Path.{Part, key, strip}
 use Rattle.keep_meaning.specs.Marks.{Mention, Reading, below, marks, start, value as kinds_value}
 use Rattle.keep_meaning.specs.Meaning.{body_fact, further_value, key_value, keyed_mentions, keyval_mentions, line_of, lines, lines_mentions}

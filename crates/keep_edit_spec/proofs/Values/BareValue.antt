@@ -4,7 +4,7 @@
 -- counts, which are those of the mentions that state a value and of the marks, go up by one (`line_counts`).
 --
 -- Theorem: `bare_line`.
-use Rattle.std.proofs.Common.{◌≡◌, ℕ, suc, List, [], ◌∷◌, ◌++◌, refl, sym, ap, ◌∙◌, append_assoc, arith}
+use Rattle.std.proofs.Common.{◌≡◌, suc, List, [], ◌∷◌, ◌++◌, refl, sym, ap, ◌∙◌, append_assoc, arith}
 use Rattle.keep_syntax.specs.Tree.{Line, Document}
 use Rattle.keep_path.specs.Path.{Part, key}
 use Rattle.keep_meaning.specs.Fact.{Fact}

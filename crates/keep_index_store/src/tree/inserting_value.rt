@@ -51,10 +51,9 @@ impl Tree {
         ensures root { holds_at self.new.trie 0 ≡ holds_at self.old.trie 0 }
         ensures refused { OnErr result (node_infos self.new ≡ node_infos self.old) }
     {
-        if self.nodes.len() < at
-            || !self.has_place(parent, text, at)
-            || self.renumber_later(line).is_none()
-        {
+        // The invariant of a tree is known to the proof from where a field of it is looked at.
+        let _nodes = &self.nodes;
+        if !self.has_place(parent, text, at) || self.renumber_later(line).is_none() {
             return Err(NotInPlace);
         }
         let facts = line_facts(line, value.kind);

@@ -1,4 +1,4 @@
-use Rattle.std.proofs.Common.{◌≡◌, ℕ, ◌-◌, List, length, slice_get, refl, sym, ap, subst, ◌∙◌, Option, Some, None}
+use Rattle.std.proofs.Common.{◌≡◌, ℕ, ◌-◌, List, length, slice_get, refl, sym, ap, ◌∙◌, Some, None}
 use Rattle.keep_path.specs.Path.{EndsInKey, Part, index, key}
 use Rattle.keep_path.specs.declared.step.Step.{Step}
 use Rattle.keep_path.specs.Step.{part_of}

@@ -1,4 +1,4 @@
-use Rattle.std.proofs.Common.{ℕ, List, ◌<◌, ◌≡◌, ◌∙◌, ◌+◌, ◌∷◌, ◌++◌, [], ap, arith, length, length-append, subst, sym}
+use Rattle.std.proofs.Common.{ℕ, List, ◌<◌, ◌≡◌, ◌∙◌, ◌∷◌, ◌++◌, [], ap, arith, length, length-append, subst, sym}
 use Rattle.keep_rules.specs.Lookup.{AreAncestors}
 use Rattle.keep_index_store.specs.Trie.{parent_at, path_at}
 use Rattle.keep_rules.proofs.ClimbLemmas.{ancestors_pushed}

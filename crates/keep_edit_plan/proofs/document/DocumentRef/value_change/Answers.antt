@@ -1,4 +1,4 @@
-use Rattle.std.proofs.Common.{◌≡◌, true, false, ◌≤◌, ◌<◌, arith, inl, inr, refl, ap, sym, ◌∙◌}
+use Rattle.std.proofs.Common.{◌≡◌, true, false, ◌≤◌, ◌<◌, arith, inl, inr, ap, sym, ◌∙◌}
 use Rattle.keep_syntax.specs.Tree.{value_depth}
 use Rattle.keep_meaning.specs.OtherValues.{totals_of}
 use Rattle.keep_edit_spec.specs.Edits.{set}

@@ -1,5 +1,5 @@
 -- The line's node comes where the search finds its place, and the nodes below it are those of the value.
-use Rattle.std.proofs.Common.{◌≡◌, ℕ, ◌∷◌, ◌++◌, [], ◌∙◌, ap, arith, subst, sym}
+use Rattle.std.proofs.Common.{ℕ, ◌∷◌, ◌++◌, [], ◌∙◌, ap, arith, subst, sym}
 use Rattle.indexmap.proofs.MapLemmas.{OnOk-map}
 use Rattle.keep_types.specs.declared.node.Kind.{Kind}
 use Rattle.keep_index_store.specs.Below.{totals_in}

@@ -1,5 +1,5 @@
 -- The nodes that take the place of the old ones are those of the value.
-use Rattle.std.proofs.Common.{◌≡◌, ℕ, ◌∙◌, ap, arith, subst, sym}
+use Rattle.std.proofs.Common.{ℕ, ◌∙◌, ap, arith, subst, sym}
 use Rattle.indexmap.proofs.MapLemmas.{OnOk-map}
 use Rattle.keep_types.specs.declared.node.Kind.{Kind}
 use Rattle.keep_path.specs.NodeInfos.{NodeInfos}
