@@ -71,6 +71,8 @@ IN_PLACE = {
 }
 KEYS = 24
 FEW = 40
+# How many tables a document has that is copied for a list of edits.
+COPIED = 200
 
 
 class Asked:
@@ -278,6 +280,14 @@ def in_place_failure(program, refuse, kind):
     return None if 0 < many < few + 10 * FEW else f"ten edits more take {few} growths beside 200 tables, {many} beside 2,000"
 
 
+def copy_failure(program, refuse):
+    """Of lists of edits: two edits are made on a copy of the document, which takes a growth for each table; an only one is not."""
+    text = b"".join(b"[t%d]\na = 1\nb = 2\n" % number for number in range(COPIED))
+    edits = [b"set", b"t0.a", b"2", b"set", b"t0.b", b"3"]
+    one, two = (Question(program, refuse, [b"edits", b"all again", text, *edits[: 3 * count]]).growths for count in (1, 2))
+    return None if one + COPIED < two else f"an only edit takes {one} growths, two take {two}"
+
+
 def main(keep_toml, keep_test_rows, refuse):
     count = Count()
     for kind in IN_PLACE:
@@ -289,6 +299,7 @@ def main(keep_toml, keep_test_rows, refuse):
             why = library_failure(keep_test_rows, refuse, plain(wanted), [plain(it) for it in cells])
             count.add(f"each growth refused: {where}: {name.decode()}", why)
         run_growths(count, keep_test_rows, refuse)
+        count.add("an only edit is made without a copy", copy_failure(keep_test_rows, refuse))
     return count.close("refused")
 
 
