@@ -6,7 +6,7 @@ replace those which the edit touches. But no clause says what a body does not do
 throws away what it read, meets every contract. So this is looked at: each name by which a text is read stands in the code of
 these crates where READ_BY says, once in each of these functions, and nowhere else. No edit is among them; `copied` reads the
 document's text for a list of edits, once; and where a value changes the index, its own text is read once more: that of a given
-value by `nodes_of_value`, that of a touched line's value by `line_value`.
+value by `nodes_of_value` or `set_value`, that of a touched line's value by `set_inside`.
 
 Comments, contracts and proofs are not looked at. The functions are found by the layout of `rt fmt` (bodies.py).
 """
@@ -27,7 +27,7 @@ INDEX = "keep_rules index::Index::"
 OF_VALUES = "keep_rules", "src/value.rt"
 READ_BY = {
     # what reads a text, in these crates and below them (`Index::read` goes along a syntax)
-    "read": [DOCUMENT + "of_text", INDEX + "build", INDEX + "rebuilt", "keep_rules index::values::nodes_of_value"],
+    "read": [DOCUMENT + "of_text", INDEX + "build", INDEX + "rebuilt", "keep_rules index::values::nodes_in_text"],
     "replace": ["keep_edit lines::put_lines"],
     "build": [DOCUMENT + "of_syntax"],
     "text_of": [DOCUMENT + "read_in", DOCUMENT + "read_owned_in"],
@@ -39,11 +39,13 @@ READ_BY = {
     # what reads a document
     "of_syntax": [DOCUMENT + "of_text"],
     "of_text": [DOCUMENT + "read_in", DOCUMENT + "read_owned_in", DOCUMENT + "copied"],
-    "read_in": [DOCUMENT + "read", "keep_edit index_change::line_value"],
+    "read_in": [DOCUMENT + "read"],
     "read_owned_in": [DOCUMENT + "read_owned"],
     "read_owned": [],
     # what reads a given value once more
-    "nodes_of_value": [INDEX + "set_value", INDEX + "insert_value"],
+    "nodes_in_text": ["keep_rules index::values::nodes_of_value", INDEX + "set_text"],
+    "nodes_of_value": [INDEX + "insert_value"],
+    "set_text": [INDEX + "set_value", "keep_edit index_change::set_inside"],
     # what reads it again, for a list of edits
     "copied": [DOCUMENT + "after_each"],
     "after_each": [DOCUMENT + "apply_all"],

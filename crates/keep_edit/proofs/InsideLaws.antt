@@ -1,7 +1,6 @@
 -- The value of a line, by its number in the syntax: its bytes alone are its text.
-use Rattle.std.proofs.Common.{◌≡◌, ℕ, List, sym, ap, subst, ◌∙◌, arith, Option, Some, slice_get, true}
-use Rattle.std.specs.Prelude.{IfOk, IfSome, OnOk, Result, Ok, Err, is_ok}
-use Rattle.std.specs.Result.{result_ok}
+use Rattle.std.proofs.Common.{◌≡◌, ℕ, List, sym, ap, subst, ◌∙◌, arith, Some, slice_get, true}
+use Rattle.std.specs.Prelude.{OnOk, Result, Ok, Err, is_ok}
 use Rattle.keep_types.specs.declared.leaf.Profile.{Profile}
 use Rattle.keep_types.specs.declared.syntax.ValueInfo.{ValueInfo}
 use Rattle.keep_syntax.specs.declared.syntax.Syntax.{Syntax}
@@ -29,14 +28,6 @@ line_value_read profile bytes syntax d was number v at info here part is =
       reads = record { valid = t.valid; spelled = spelled; shallow = omega (arith, t.shallow, was.read.reads.shallow) };
       obeys = t.obeys;
     })
-
-abbrev IfSome_of : {T : Type 0} → (T → Type 0) → Option T → Type 0
-IfSome_of Q o = IfSome o Q
-
--- it is known of the value that was read, if one was
-pub if_read : {T E : Type 0} (P Q : T → Type 0) (o : Option T) (r : Result T E) → o ≡ result_ok r → ((x : T) → P x → Q x) → IfOk r P → IfSome o Q
-if_read P Q o (Ok x) is all h = subst (IfSome_of Q) (sym is) (all x h)
-if_read P Q o (Err f) is all h = subst (IfSome_of Q) (sym is) tt
 
 -- what holds where a call succeeds
 pub from_ok : {T E : Type 0} (P : Type 0) (r : Result T E) → is_ok r ≡ true → OnOk r P → P

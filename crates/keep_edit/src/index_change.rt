@@ -10,14 +10,13 @@ ghost use Rattle.keep_edit_plan.specs.IndexChanges.{CanChange, IsChanged, totals
 ghost use Rattle.keep_edit.specs.Reading.{IsReadAs, IsTextOfValue};
 
 use keep_edit_plan::{Header, IndexChange, totals_of};
-use keep_rules::{Index, NodeId, Totals, ValueText};
+use keep_rules::{Index, NodeId, Totals};
 use keep_syntax::{Span, Syntax};
 use keep_token::Profile;
-use std::alloc::Global;
 
 /// A value that is a greater part of its text than one in so many is not read once more: to build the index anew costs
 /// no more.
-const GREATEST_PART: usize = 4;
+const GREATEST_PART: usize = 2;
 
 /// The text after an edit, and the syntax that was read of it.
 #[derive(Clone, Copy)]
@@ -29,12 +28,7 @@ pub(crate) struct NewText<'a> {
 
 /// Whether a change of an index was made where it is. If not, the index is as before: memory was refused, nodes can't
 /// come between the others or go from there, a value is most of its text, or a header says more than can be added.
-pub(crate) fn change_index(
-    alloc: Global,
-    index: &mut Index,
-    change: IndexChange<'_>,
-    new: NewText<'_>,
-) -> bool
+pub(crate) fn change_index(index: &mut Index, change: IndexChange<'_>, new: NewText<'_>) -> bool
     requires { CanChange index.old change }
     ensures changed { (d : tree.Document) → IsReadAs new.entry.profile new.entry.text.now new.entry.syntax.now d
         → result ≡ true → IsChanged index.old d change.entry index.new }
@@ -57,7 +51,7 @@ pub(crate) fn change_index(
             node,
             value,
             totals,
-        } => set_inside(alloc, index, node, value, totals, new),
+        } => set_inside(index, node, value, totals, new),
         IndexChange::AddedLine {
             parent,
             key,
@@ -91,14 +85,7 @@ pub(crate) fn change_index(
 
 /// Whether the nodes in the value of a line, which has that number, were made those of the new text. If not, the index
 /// is as before.
-fn set_inside(
-    alloc: Global,
-    index: &mut Index,
-    node: NodeId,
-    number: usize,
-    old: Totals,
-    new: NewText<'_>,
-) -> bool
+fn set_inside(index: &mut Index, node: NodeId, number: usize, old: Totals, new: NewText<'_>) -> bool
     requires { node.0 < length index.old.paths }
     ensures changed { (d : tree.Document) → IsReadAs new.entry.profile new.entry.text.now new.entry.syntax.now d
         → result ≡ true → (v : tree.Value) → IsLineValue d number v → (gone : ℕ) → AreBelow index.old.paths node.0 gone
@@ -106,19 +93,18 @@ fn set_inside(
         (fact_kind (body_fact v.body)) }
     ensures refused { result ≡ false → index.new ≡ index.old }
 {
-    let Some(value) = line_value(alloc, new, number) else {
+    let Some(part) = line_part(new, number) else {
         return false;
     };
     index
-        .set_value(node, &value, old, totals_of(new.syntax))
+        .set_text(node, part, new.profile, old, totals_of(new.syntax))
         .is_ok()
 }
 
-/// The value of a line that has that number, read once more of its own text. None where it is most of the whole text,
-/// and where memory was refused.
-fn line_value(alloc: Global, new: NewText<'_>, number: usize) -> Option<ValueText>
+/// The text of the value of a line, by its number. None where it is most of the whole text.
+fn line_part(new: NewText<'_>, number: usize) -> Option<&str>
     ensures { (d : tree.Document) → IsReadAs new.entry.profile new.entry.text.now new.entry.syntax.now d
-        → (v : tree.Value) → IsLineValue d number v → IfSome result (λ value. IsTextOfValue value v) }
+        → (v : tree.Value) → IsLineValue d number v → IfSome result (λ part. IsTextOfValue part.now v) }
 {
     if number >= new.syntax.value_count() {
         return None;
@@ -128,5 +114,5 @@ fn line_value(alloc: Global, new: NewText<'_>, number: usize) -> Option<ValueTex
     if part.len() > new.text.len() / GREATEST_PART {
         return None;
     }
-    ValueText::read_in(alloc, part, new.profile).ok()
+    Some(part)
 }

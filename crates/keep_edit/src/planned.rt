@@ -191,7 +191,7 @@ fn renew(
     ensures memory { IfErr result (λ f. f ≡ law.Memory) }
 {
     if let Some(change) = change {
-        if change_index(alloc, index, change, new) {
+        if change_index(index, change, new) {
             return Ok(());
         }
     }

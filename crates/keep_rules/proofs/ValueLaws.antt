@@ -7,7 +7,7 @@
 -- of a single leaf is a value of this leaf, and what the leaf means is what the value means (`scalar_read`,
 -- `scalar_means`).
 --
--- Theorems: `holds`: what is known of a value that was read; `no_value`: why there is none; `strict_value`.
+-- Theorems: `holds`: what is known of a value that was read; `kind_read`; `no_value`: why there is none; `strict_value`.
 use Rattle.std.proofs.Common.{◌≡◌, ℕ, ℤ, Bool, true, false, List, refl, sym, subst, ◌∙◌, ap, inl, inr, arith, slice_get, Some, None}
 use Rattle.std.specs.Prelude.{◌↔◌, IsTrue, codes}
 use Rattle.std.proofs.lemmas.List.{append-nil}
@@ -88,6 +88,14 @@ holds profile bytes syntax kind depth refused (v, reads, is) obeys info here kin
     let own : own_info v ≡ info = (let k : own_info v ≡ info = cc in k) in
     let named : kind ≡ fact_kind (body_fact v.body) = kind_is ∙ ap (λ (i : ValueInfo). leaf_kind i.leaf) (sym own) ∙ kind_of_body profile v.body reads.valid.body in
     record { value = v; read = in_wide profile bytes v read; is = named; deep = deep v is; strict = strict_is profile bytes v read refused }
+
+-- its kind is that of its first leaf
+pub kind_read : (bytes : List ℕ) (syntax : ValueSyntax) (v : Value) → WasReadAlone bytes syntax v → (info : ValueInfo) → slice_get (value_values_of syntax) 0 ≡ Some info
+    → leaf_kind info.leaf ≡ fact_kind (body_fact v.body)
+kind_read bytes syntax v was info here =
+    let same : Some (own_info v) ≡ Some info = ap (λ (l : List ValueInfo). slice_get l 0) (sym was.is.values) ∙ here in
+    let own : own_info v ≡ info = (let k : own_info v ≡ info = cc in k) in
+    ap (λ (i : ValueInfo). leaf_kind i.leaf) (sym own) ∙ kind_of_body was.profile v.body was.reads.valid.body
 
 -- ---- what is known of what was read
 

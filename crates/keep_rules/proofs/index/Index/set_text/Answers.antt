@@ -10,7 +10,7 @@ use Rattle.keep_meaning.specs.Meaning.{body_fact}
 use Rattle.keep_meaning.specs.Nodes.{fact_kind}
 use Rattle.keep_meaning.specs.OtherValues.{nodes_in_value}
 use Rattle.keep_rules.proofs.QueryLemmas.{count_paths}
-use Rattle.keep_rules.proofs.index.Index.set_value.Goals as goal
+use Rattle.keep_rules.proofs.index.Index.set_text.Goals as goal
 
 pub replace_below-requires : goal.replace_below-requires
 replace_below-requires c = omega (arith, c.requires, count_paths c.self.inside.nodes c.args.self.now c.self.invariant.0 c.self.view_is)
@@ -21,6 +21,6 @@ returns-clause-set c =
     let given : NodeInfos → ℕ → NodeInfos → Kind → NodeInfos = λ t gone. with_value t c.args.node.0 gone (totals_in c.args.old) (totals_in c.args.new) in
     OnOk-map c.replace_below.result _ _ (λ is v text gone are.
     is gone (subst (λ (t : NodeInfos). AreBelow t.paths c.args.node.0 gone) (sym c.self.view_is) are)
-    ∙ ap (λ (t : NodeInfos). given before gone t c.kind-kind.result) (c.in_ok-inside.ensures v text)
-    ∙ ap (given before gone (nodes_in_value v)) (c.kind-kind.ensures v text)
+    ∙ ap (λ (t : NodeInfos). given before gone t c.in_ok-inside.kind) (c.in_ok-inside.ensures.nodes v text)
+    ∙ ap (given before gone (nodes_in_value v)) (c.in_ok-inside.ensures.kind v text)
     ∙ ap (λ (t : NodeInfos). given t gone (nodes_in_value v) (fact_kind (body_fact v.body))) c.self.view_is) c.replace_below.ensures.replaced
