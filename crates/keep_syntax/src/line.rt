@@ -43,8 +43,8 @@ fn keyval(
     requires values { start.now.values ≡ length (spec.flat out.old).values }
     requires parts { start.now.parts ≡ length (spec.flat out.old).keys }
     requires depth { start.now.depth ≡ 0 }
-    requires begins { is_line_end (slice_index text.now start.now.at) ≡ false }
-    requires named { (slice_index text.now start.now.at == 0x5B) ≡ false }
+    requires begins { (is_line_end (slice_index text.now start.now.at) ≡ false)
+        × ((slice_index text.now start.now.at == 0x5B) ≡ false) }
     ensures { lines_spec.ContentRead limits.profile limits.depth text.now start.now (spec.flat out.old)
         (spec.flat out.new) result }
 {

@@ -7,7 +7,8 @@ use Rattle.keep_syntax.proofs.line.keyval.Goals as goal
 pub returns-in_err-begin : goal.returns-in_err-begin
 returns-in_err-begin c =
     let p = err_from_is_err_and c.from_residual.result c.from_residual.ensures.1 in
-    rw (p.1, p.2) (keyval_fails_name c.args.limits.profile c.args.limits.depth c.args.text.now c.args.start.now.at c.in_err-begin.field-0.0 c.requires.begins c.requires.named c.in_err-begin.ensures)
+    rw (p.1, p.2) (keyval_fails_name c.args.limits.profile c.args.limits.depth c.args.text.now
+    c.args.start.now.at c.in_err-begin.field-0.0 c.requires.begins.0 c.requires.begins.1 c.in_err-begin.ensures)
 
 pub overflow_sub-keys : goal.overflow_sub-keys
 overflow_sub-keys c =
@@ -27,9 +28,12 @@ value-requires-clause-parts c =
 pub returns-in_err-end : goal.returns-in_err-end
 returns-in_err-end c =
     let p = err_from_is_err_and c.from_residual-in_err-end.result c.from_residual-in_err-end.ensures.1 in
-    rw (p.1, p.2) (keyval_fails_value c.args.limits.profile c.args.limits.depth c.args.text.now c.args.start.now.at c.in_ok-begin.begin (flat c.args.out.now) (flat c.key_and_equals.new.out) c.in_err-end.field-0.0 c.requires.begins c.requires.named c.in_ok-begin.ensures c.in_err-end.ensures)
+    rw (p.1, p.2) (keyval_fails_value c.args.limits.profile c.args.limits.depth c.args.text.now
+    c.args.start.now.at c.in_ok-begin.begin (flat c.args.out.now) (flat c.key_and_equals.new.out)
+    c.in_err-end.field-0.0 c.requires.begins.0 c.requires.begins.1 c.in_ok-begin.ensures c.in_err-end.ensures)
 
 pub returns : goal.returns
 returns c =
     keyval_is c.args.limits.profile c.args.limits.depth c.args.text.now c.args.start.now c.in_ok-begin.begin c.in_ok-end.end c.key_count.result _ (flat c.args.out.now) (flat c.key_and_equals.new.out) (flat c.value.new.out)
-    c.requires.begins c.requires.named c.in_ok-begin.ensures c.requires.parts c.key_count.ensures refl c.in_ok-end.ensures
+    c.requires.begins.0 c.requires.begins.1 c.in_ok-begin.ensures c.requires.parts c.key_count.ensures
+    refl c.in_ok-end.ensures
