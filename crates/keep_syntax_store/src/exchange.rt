@@ -47,16 +47,15 @@ fn swap_runs_in<T>(items: &mut Vec<T>, from: usize, gone: usize, before: usize)
 
 /// The elements `from..to` of a vector and all of another change places. It takes no memory.
 pub fn exchange<T: Copy>(items: &mut Vec<T>, from: usize, to: usize, other: &mut Vec<T>)
-    requires order { from ≤ to }
-    requires within { to ≤ vec_len items.old }
-    requires room { vec_len items.old + vec_len other.old ≤ vec_capacity items.old }
-    requires room_for_gone { to - from ≤ vec_capacity other.old }
+    requires range { (from ≤ to) × (to ≤ vec_len items.old) }
+    requires room { (vec_len items.old + vec_len other.old ≤ vec_capacity items.old)
+        × (to - from ≤ vec_capacity other.old) }
     ensures items { items.new.items ≡ take from items.old.items ++ (other.old.items ++ drop to items.old.items) }
     ensures gone { other.new.items ≡ slice_range items.old.items from to }
-    ensures len { vec_len items.new + (to - from) ≡ vec_len items.old + vec_len other.old }
-    ensures len_gone { vec_len other.new ≡ to - from }
-    ensures capacity { vec_capacity items.old ≤ vec_capacity items.new }
-    ensures capacity_gone { vec_capacity other.old ≤ vec_capacity other.new }
+    ensures len { (vec_len items.new + (to - from) ≡ vec_len items.old + vec_len other.old)
+        × (vec_len other.new ≡ to - from) }
+    ensures capacity { (vec_capacity items.old ≤ vec_capacity items.new)
+        × (vec_capacity other.old ≤ vec_capacity other.new) }
 {
     let gone = to - from;
     let before = items.len();

@@ -23,8 +23,17 @@ returns g c =
           ∙ ap (λ ys. prefix ++ map f ys) (drop_prefix prefix back (from + c.len.result) n)
           ∙ append_assoc (take from xs) ns (map f back);
       run_is = c.exchange.ensures.gone;
-      len = omega (arith, c.shift_from.ensures.len, c.exchange.ensures.len);
-      run_len = c.exchange.ensures.len_gone;
-      room = omega (arith, c.shift_from.ensures.capacity, c.shift_from.ensures.len, c.exchange.ensures.capacity, c.exchange.ensures.len, c.exchange.ensures.len_gone, c.requires.room.room, c.requires.room.order);
-      room_for_run = omega (arith, c.exchange.ensures.capacity_gone, c.args.run.now.ok.1);
+      len = omega (arith, c.shift_from.ensures.len, c.exchange.ensures.len.0);
+      run_len = c.exchange.ensures.len.1;
+      room = omega (
+        arith,
+        c.shift_from.ensures.capacity,
+        c.shift_from.ensures.len,
+        c.exchange.ensures.capacity.0,
+        c.exchange.ensures.len.0,
+        c.exchange.ensures.len.1,
+        c.requires.room.room,
+        c.requires.room.order,
+      );
+      room_for_run = omega (arith, c.exchange.ensures.capacity.1, c.args.run.now.ok.1);
     }
