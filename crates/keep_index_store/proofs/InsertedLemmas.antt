@@ -129,7 +129,7 @@ module _ (nodes : List Node) (t : TrieInfos) (view : tree_of nodes ≡ t) (store
   there = subst (λ (x : TrieInfos). HasPlace x.trie parent text at) (sym view) place
 
   pub key_place : HasKeyPlace nodes t parent text
-  key_place = record { view = view; stored = stored; within = within; keyed = place.keyed; fresh = place.fresh }
+  key_place = record { view = view; stored = stored; above = (within, place.keyed); fresh = place.fresh }
 
   can : CanTake (trie_of mid) at
   can = movable (trie_of nodes) (trie_of mid) parent text facts.role holds (trie_grows nodes t parent text holds facts key_place) at there

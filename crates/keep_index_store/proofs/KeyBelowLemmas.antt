@@ -19,8 +19,7 @@ use Rattle.keep_index_store.proofs.TreeLemmas.{fresh_key, holds_seen, low}
 pub record HasKeyPlace (nodes : List Node) (t : TrieInfos) (parent : ℕ) (text : List ℕ) : Type 0 where
   pub view : tree_of nodes ≡ t
   pub stored : IsStored nodes
-  pub within : parent < length t.trie
-  pub keyed : holds_at t.trie parent ≡ by_key
+  pub above : (parent < length t.trie) × (holds_at t.trie parent ≡ by_key)
   pub fresh : Contains (paths_of t.trie) (path_at t.trie parent ++ key text ∷ []) → ⊥
 
 module _ (nodes : List Node) (t : TrieInfos) (parent : ℕ) (text : List ℕ) (holds : Holding) (facts : NodeFacts) (place : HasKeyPlace nodes t parent text) where
@@ -34,13 +33,13 @@ module _ (nodes : List Node) (t : TrieInfos) (parent : ℕ) (text : List ℕ) (h
   new = record { parent = parent; number = length (child_ids above); children = no_children holds; facts = facts }
 
   pub parent_low : parent < length nodes
-  parent_low = low nodes t place.view place.stored parent place.within
+  parent_low = low nodes t place.view place.stored parent place.above.0
 
   pub parent_keyed : holds_of above ≡ by_key
-  parent_keyed = holds_seen nodes t place.view place.stored parent place.within ∙ place.keyed
+  parent_keyed = holds_seen nodes t place.view place.stored parent place.above.0 ∙ place.above.1
 
   pub key_fresh : child_named above text ≡ None
-  key_fresh = fresh_key nodes t place.view place.stored parent place.within text place.keyed place.fresh
+  key_fresh = fresh_key nodes t place.view place.stored parent place.above.0 text place.above.1 place.fresh
 
   added : IsAdded nodes parent no_node kids new (key text)
   added = record {

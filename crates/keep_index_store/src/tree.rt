@@ -200,8 +200,7 @@ impl Tree {
         facts: NodeFacts,
         holds: Holds,
     ) -> Result<usize, AllocError>
-        requires within { parent < length self.old.trie }
-        requires keyed { holds_at self.old.trie parent ≡ by_key }
+        requires parent { (parent < length self.old.trie) × (holds_at self.old.trie parent ≡ by_key) }
         requires fresh { Contains (paths_of self.old.trie) (path_at self.old.trie parent ++ key text.now ∷ []) → ⊥ }
         ensures grows { OnOk result (Grows self.old.trie self.new.trie parent
             (path_at self.old.trie parent ++ key text.now ∷ []) (Some role) (holding holds)) }
@@ -290,8 +289,7 @@ impl Tree {
     /// below it changes too, and nothing else does. It takes memory for the key, and a map may grow as for one key
     /// more; if memory runs out, nothing is changed.
     pub fn set_key(&mut self, id: usize, text: &str) -> Result<(), AllocError>
-        requires within { id < length self.old.trie }
-        requires keyed { EndsInKey (path_at self.old.trie id) }
+        requires node { (id < length self.old.trie) × EndsInKey (path_at self.old.trie id) }
         requires fresh { Contains (paths_of self.old.trie) (beside (path_at self.old.trie id) text.now) → ⊥ }
         ensures moved { OnOk result (node_infos self.new ≡ with_path (node_infos self.old) (path_at self.old.trie id)
             (beside (path_at self.old.trie id) text.now)) }
