@@ -52,21 +52,19 @@ pub fn run<R: Read, W: Write>(
     input: &mut Counted<R>,
     output: &mut Counted<W>,
 ) -> Result<Done, RunFault>
-    requires input { IsFresh input.old }
-    requires output { IsFresh output.old }
-    ensures calls { calls_of input.new ≤ LONGEST_INPUT + 1 }
-    ensures taken { LosesAtMost (LONGEST_INPUT + 1) (R.remaining (inner_of input.old))
-        (R.remaining (inner_of input.new)) }
+    requires { IsFresh input.old × IsFresh output.old }
+    ensures asked { (calls_of input.new ≤ LONGEST_INPUT + 1)
+        × LosesAtMost (LONGEST_INPUT + 1) (R.remaining (inner_of input.old)) (R.remaining (inner_of input.new)) }
     ensures answers { MatchResult result
         (λ done. HasWritten command.now (R.remaining (inner_of input.old)) (W.contents (inner_of output.old))
         (W.contents (inner_of output.new)) done.written)
         (StopsRun command.now (R.remaining (inner_of input.old)) (W.contents (inner_of output.old))
         (W.contents (inner_of output.new))) }
-    ensures decided { IfErr result (λ fault. is_write fault ⊎ (calls_of output.new ≡ 0)) }
-    ensures silent { IfOk result (λ done. done.written ≡ 0 → calls_of output.new ≡ 0) }
+    ensures decided { IfErr result (λ fault. is_write fault ⊎ (calls_of output.new ≡ 0))
+        × IfOk result (λ done. done.written ≡ 0 → calls_of output.new ≡ 0) }
     ensures profile { HasOwnValues command.now → IfErr result (λ fault. IsProfileFault fault → ⊥) }
-    ensures input_failed { IsErrOf result RunFault.Read ↔ (has_failed input.new ≡ true) }
-    ensures output_failed { IsErrAnd result is_write ↔ (has_failed output.new ≡ true) }
+    ensures failed { (IsErrOf result RunFault.Read ↔ (has_failed input.new ≡ true))
+        × (IsErrAnd result is_write ↔ (has_failed output.new ≡ true)) }
 {
     let bytes = read_all(alloc, input)?;
     let mut answer = answer_to(alloc, command, bytes)?;

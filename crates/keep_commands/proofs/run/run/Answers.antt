@@ -8,11 +8,8 @@ pub returns-in_err-answer-clause-profile : goal.returns-in_err-answer-clause-pro
 returns-in_err-answer-clause-profile g c = λ own.
     passed_up c.from_residual-in_err-answer.result c.in_err-answer.field-0.0 c.from_residual-in_err-answer.ensures.1 (never_profile c.args.command.now c.in_ok-bytes.bytes.items c.in_err-answer.field-0.0 own c.in_err-answer.ensures)
 
-pub returns-in_err-answer-clause-calls : goal.returns-in_err-answer-clause-calls
-returns-in_err-answer-clause-calls g c = search rules
-
-pub returns-in_err-answer-clause-taken : goal.returns-in_err-answer-clause-taken
-returns-in_err-answer-clause-taken g c = search rules
+pub returns-in_err-answer-clause-asked : goal.returns-in_err-answer-clause-asked
+returns-in_err-answer-clause-asked g c = search rules
 
 pub returns-in_err-answer-clause-answers : goal.returns-in_err-answer-clause-answers
 returns-in_err-answer-clause-answers g c =
@@ -22,23 +19,14 @@ returns-in_err-answer-clause-answers g c =
 pub returns-in_err-answer-clause-decided : goal.returns-in_err-answer-clause-decided
 returns-in_err-answer-clause-decided g c = search rules
 
-pub returns-in_err-answer-clause-silent : goal.returns-in_err-answer-clause-silent
-returns-in_err-answer-clause-silent g c = search rules
-
-pub returns-in_err-answer-clause-input_failed : goal.returns-in_err-answer-clause-input_failed
-returns-in_err-answer-clause-input_failed g c = search rules
-
-pub returns-in_err-answer-clause-output_failed : goal.returns-in_err-answer-clause-output_failed
-returns-in_err-answer-clause-output_failed g c = search rules
+pub returns-in_err-answer-clause-failed : goal.returns-in_err-answer-clause-failed
+returns-in_err-answer-clause-failed g c = search rules
 
 pub write_answer-written-requires : goal.write_answer-written-requires
 write_answer-written-requires g c = search rules
 
-pub returns-clause-calls : goal.returns-clause-calls
-returns-clause-calls g c = search rules
-
-pub returns-clause-taken : goal.returns-clause-taken
-returns-clause-taken g c = search rules
+pub returns-clause-asked : goal.returns-clause-asked
+returns-clause-asked g c = search rules
 
 pub returns-clause-answers : goal.returns-clause-answers
 returns-clause-answers g c =
@@ -48,14 +36,8 @@ returns-clause-answers g c =
 pub returns-clause-decided : goal.returns-clause-decided
 returns-clause-decided g c = search rules
 
-pub returns-clause-silent : goal.returns-clause-silent
-returns-clause-silent g c = search rules
-
 pub returns-clause-profile : goal.returns-clause-profile
 returns-clause-profile g c = search rules
 
-pub returns-clause-input_failed : goal.returns-clause-input_failed
-returns-clause-input_failed g c = search rules
-
-pub returns-clause-output_failed : goal.returns-clause-output_failed
-returns-clause-output_failed g c = search rules
+pub returns-clause-failed : goal.returns-clause-failed
+returns-clause-failed g c = search rules
