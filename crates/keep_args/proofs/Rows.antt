@@ -26,5 +26,6 @@ pub rows_met : (m : ArgMatches) (name : Text) (rows : List Row) → Some name �
     → Some rows ≡ option_map (λ p. p.1) (subcommand_rows_of m) → subcommand_rows_of m ≡ Some (name, rows)
 rows_met m name rows a b = rows_at (out-ArgMatches m).subcommand name rows a b
 
-pub word_met : (f : Found) (id : Text) (found : Option Text) → found ≡ first_value f id → unwrap_or found [] ≡ word_in id (rows_of f)
+pub word_met : (f : Found) (id : Text) (found : Option Text) → found ≡ first_value f id
+    → unwrap_or found [] ≡ word_in id (rows_of f)
 word_met f id found e = ap (λ (o : Option Text). unwrap_or o []) (e ∙ first_value-rows f id)

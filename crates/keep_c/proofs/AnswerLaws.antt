@@ -8,11 +8,35 @@ use Rattle.keep_c.specs.Numbers.{no_fault, no_room}
 use Rattle.keep_c.specs.declared.fault.Fault.{Fault}
 use Rattle.keep_c.specs.declared.numbers.KeepTomlFault.{KeepTomlFault}
 
-module _ (answer : Result (String Global) Fault) (text : String Global) (is : answer ≡ Ok text) (old new : List ℕ) (size : ℕ) (numbers : KeepTomlFault) (sized : size ≡ length (string_bytes text)) where
+module _ (answer : Result (String Global) Fault) (text : String Global) (is : answer ≡ Ok text) (old new : List ℕ)
+    (size : ℕ) (numbers : KeepTomlFault) (sized : size ≡ length (string_bytes text)) where
   pub written : numbers ≡ no_fault → new ≡ string_bytes text ++ drop (length (string_bytes text)) old
-      → (ask : Ask) (words : List (List ℕ)) (input : ProfiledText) → Answers ask words input answer → IsAnswer ask words input old new size numbers 0
-  written none put ask words input h = inl (refl, none, (string_bytes text, subst (λ (r : Result (String Global) Fault). Answers ask words input r) is h, sized, rw sized put))
+      → (ask : Ask) (words : List (List ℕ)) (input : ProfiledText) → Answers ask words input answer
+      → IsAnswer ask words input old new size numbers 0
+  written none put ask words input h =
+      inl (
+        refl,
+        none,
+        (
+          string_bytes text,
+          subst (λ (r : Result (String Global) Fault). Answers ask words input r) is h,
+          sized,
+          rw sized put,
+        ),
+      )
 
   pub without_room : numbers ≡ no_room → (new ≡ old) × (length old < length (string_bytes text))
-      → (ask : Ask) (words : List (List ℕ)) (input : ProfiledText) → Answers ask words input answer → IsAnswer ask words input old new size numbers 3
-  without_room full (kept, less) ask words input h = inr (inl (refl, full, (string_bytes text, subst (λ (r : Result (String Global) Fault). Answers ask words input r) is h, sized, rw sized less, kept)))
+      → (ask : Ask) (words : List (List ℕ)) (input : ProfiledText) → Answers ask words input answer
+      → IsAnswer ask words input old new size numbers 3
+  without_room full (kept, less) ask words input h =
+      inr (inl (
+        refl,
+        full,
+        (
+          string_bytes text,
+          subst (λ (r : Result (String Global) Fault). Answers ask words input r) is h,
+          sized,
+          rw sized less,
+          kept,
+        ),
+      ))

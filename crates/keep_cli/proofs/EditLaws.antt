@@ -22,7 +22,8 @@ one_or_two op.Element = (omega arith, omega arith)
 
 -- so many words are the words of the operation
 pub words_are : (o : Op) (words : List (List ℕ)) (first second : List ℕ) → length words ≡ length (edit_words o)
-    → first ≡ unwrap_or (slice_get words 0) [] → second ≡ unwrap_or (slice_get words 1) [] → words_for o first second ≡ words
+    → first ≡ unwrap_or (slice_get words 0) [] → second ≡ unwrap_or (slice_get words 1) []
+    → words_for o first second ≡ words
 words_are o [] first second many is_first is_second = absurd (omega (arith, many, (one_or_two o).0))
 words_are o (a ∷ []) first second many is_first is_second = rw (sym many, is_first) refl
 words_are o (a ∷ b ∷ []) first second many is_first is_second = rw (sym many, is_first, is_second) refl
@@ -35,7 +36,8 @@ given_strict word value same accepted = subst (λ (t : List ℕ). IsAcceptedValu
 
 pub strict_edit : (o : Op) (words : List (List ℕ)) (e : Edit) → Makes Strict o words e → IsStrictEdit e
 strict_edit op.Set (path ∷ word ∷ []) (edit.Set p value) (at, (same, accepted)) = given_strict word value same accepted
-strict_edit op.Insert (path ∷ word ∷ []) (edit.Insert p value) (at, (same, accepted)) = given_strict word value same accepted
+strict_edit op.Insert (path ∷ word ∷ []) (edit.Insert p value) (at, (same, accepted)) =
+    given_strict word value same accepted
 strict_edit op.Rename (path ∷ word ∷ []) (edit.Rename p name) made = tt
 strict_edit op.Remove (path ∷ []) (edit.Remove p) made = tt
 strict_edit op.Table (word ∷ []) (edit.Table keys) made = tt

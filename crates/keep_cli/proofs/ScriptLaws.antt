@@ -1,5 +1,6 @@
 -- The edits of a script, element by element.
-use Rattle.std.proofs.Common.{◌≡◌, ◌+◌, ◌∙◌, ◌⊎◌, ℕ, suc, List, [], ◌∷◌, ◌++◌, length, Option, None, Some, ◌<◌, codes, string_bytes, refl, sym, ap, subst, inl, inr, arith, Vec, Global}
+use Rattle.std.proofs.Common.{◌≡◌, ◌+◌, ◌∙◌, ◌⊎◌, ℕ, suc, List, [], ◌∷◌, ◌++◌, length, Option, None, Some, ◌<◌, codes}
+use Rattle.std.proofs.Common.{string_bytes, refl, sym, ap, subst, inl, inr, arith, Vec, Global}
 use Rattle.std.specs.Prelude.{Result, Ok, Err, IfOk, IsErrAnd, MatchResult}
 use Rattle.std.proofs.Math.Nat.{add-zero}
 use Rattle.keep_types.specs.declared.leaf.Profile.{Profile}
@@ -16,16 +17,22 @@ use Rattle.keep_args.specs.declared.subcommand.Word.TheVariants as word
 use Rattle.keep_args.specs.Table.{edit_words}
 use Rattle.keep_commands.specs.OwnValues.{AreStrict}
 use Rattle.keep_cli.specs.declared.script.Texts.{Texts}
-use Rattle.keep_cli.specs.Script.{AreEntries, HasWords, IsEntry, IsNoEntry, IsScript, IsScriptFault, IsTreeFault, element_count}
+use Rattle.keep_cli.specs.Script.{AreEntries, HasWords, IsEntry, IsNoEntry, IsScript, IsScriptFault, IsTreeFault}
+use Rattle.keep_cli.specs.Script.{element_count}
 use Rattle.keep_cli.specs.Script.{given, word_key}
 use Rattle.keep_cli.specs.Scripting.{AreTexts, AreTextsOf, IsFaultAt, StatesEdits, third_key}
 use Rattle.keep_cli.proofs.EditLaws.{strict_edit}
 
 -- one element more tells one edit more
-entries_more : (profile : Profile) (s : Document) (n : ℕ) (es : List Edit) (e : Edit) → AreEntries profile s n es → IsEntry profile s (n + length es) e → AreEntries profile s n (es ++ e ∷ [])
+entries_more : (profile : Profile) (s : Document) (n : ℕ) (es : List Edit) (e : Edit) → AreEntries profile s n es
+    → IsEntry profile s (n + length es) e → AreEntries profile s n (es ++ e ∷ [])
 entries_more profile s n [] e are is = (subst (λ (m : ℕ). IsEntry profile s m e) (add-zero n) is, tt)
-entries_more profile s n (x ∷ xs) e are is =
-    (are.0, entries_more profile s (suc n) xs e are.1 (subst (λ (m : ℕ). IsEntry profile s m e) (let many : n + suc (length xs) ≡ suc n + length xs = omega arith in many) is))
+entries_more profile s n (x ∷ xs) e are is = (
+  are.0,
+  entries_more profile s (suc n) xs e are.1
+      (subst (λ (m : ℕ). IsEntry profile s m e)
+      (let many : n + suc (length xs) ≡ suc n + length xs = omega arith in many) is),
+)
 
 one_longer : (es : List Edit) (e : Edit) → length (es ++ e ∷ []) ≡ length es + 1
 one_longer [] e = refl
@@ -34,14 +41,29 @@ one_longer (x ∷ xs) e = omega (arith, one_longer xs e)
 pub many_after : (n : ℕ) (es new : List Edit) (e : Edit) → new ≡ es ++ e ∷ [] → length es ≡ n → length new ≡ n + 1
 many_after n es new e is many = ap (λ (xs : List Edit). length xs) is ∙ one_longer es e ∙ ap (λ m. m + 1) many
 
-pub entries_after : (profile : Profile) (s : Document) (n : ℕ) (es new : List Edit) (e : Edit) → new ≡ es ++ e ∷ [] → length es ≡ n → AreEntries profile s 0 es → IsEntry profile s n e → AreEntries profile s 0 new
+pub entries_after : (profile : Profile) (s : Document) (n : ℕ) (es new : List Edit) (e : Edit) → new ≡ es ++ e ∷ []
+    → length es ≡ n → AreEntries profile s 0 es → IsEntry profile s n e → AreEntries profile s 0 new
 entries_after profile s n es new e is many are here =
-    subst (λ (xs : List Edit). AreEntries profile s 0 xs) (sym is) (entries_more profile s 0 es e are (subst (λ (m : ℕ). IsEntry profile s m e) (let so : n ≡ 0 + length es = omega (arith, many) in so) here))
+    subst (λ (xs : List Edit). AreEntries profile s 0 xs) (sym is)
+    (entries_more profile s 0 es e are
+    (subst (λ (m : ℕ). IsEntry profile s m e) (let so : n ≡ 0 + length es = omega (arith, many) in so) here))
 
 -- the first element that states no edit
-first_fault : (profile : Profile) (s : Document) (count n : ℕ) (es : List Edit) (f : UseFault) → element_count s ≡ Some count → n < count → length es ≡ n → AreEntries profile s 0 es → IsFaultAt profile s n f → IsTreeFault profile s f
-first_fault profile s count n es (fault.Entry m why) is lt many are (same, none) =
-    (count, is, omega (arith, lt, same), record { before = es; many = many ∙ sym same; entries = are; fault = subst (λ (i : ℕ). IsNoEntry profile s i why) (sym same) none })
+first_fault : (profile : Profile) (s : Document) (count n : ℕ) (es : List Edit) (f : UseFault)
+    → element_count s ≡ Some count → n < count → length es ≡ n → AreEntries profile s 0 es → IsFaultAt profile s n f
+    → IsTreeFault profile s f
+first_fault profile s count n es (fault.Entry m why) is lt many are (same, none) = (
+  count,
+  is,
+  omega (arith, lt, same),
+  record {
+    before = es;
+    many = many
+        ∙ sym same;
+    entries = are;
+    fault = subst (λ (i : ℕ). IsNoEntry profile s i why) (sym same) none;
+  },
+)
 first_fault profile s count n es fault.Shape is lt many are h = absurd h
 first_fault profile s count n es (fault.Words e) is lt many are h = absurd h
 first_fault profile s count n es (fault.Path at) is lt many are h = absurd h
@@ -49,21 +71,29 @@ first_fault profile s count n es (fault.Value f) is lt many are h = absurd h
 first_fault profile s count n es (fault.Script f) is lt many are h = absurd h
 first_fault profile s count n es fault.Memory is lt many are h = absurd h
 
-stopped : (profile : Profile) (s : Document) (count n : ℕ) (es : List Edit) (f : UseFault) → element_count s ≡ Some count → n < count → length es ≡ n → AreEntries profile s 0 es → (f ≡ fault.Memory) ⊎ IsFaultAt profile s n f
+stopped : (profile : Profile) (s : Document) (count n : ℕ) (es : List Edit) (f : UseFault)
+    → element_count s ≡ Some count → n < count → length es ≡ n → AreEntries profile s 0 es
+    → (f ≡ fault.Memory) ⊎ IsFaultAt profile s n f
     → (f ≡ fault.Memory) ⊎ IsTreeFault profile s f
 stopped profile s count n es f is lt many are (inl memory) = inl memory
 stopped profile s count n es f is lt many are (inr h) = inr (first_fault profile s count n es f is lt many are h)
 
 -- what `?` passes up
-pub stops : (profile : Profile) (s : Document) (count n : ℕ) (es : List Edit) (f : UseFault) (r : Result (Vec Edit Global) UseFault) → IsErrAnd r (λ e. e ≡ f) → element_count s ≡ Some count → n < count → length es ≡ n → AreEntries profile s 0 es
-    → (f ≡ fault.Memory) ⊎ IsFaultAt profile s n f → MatchResult r (λ edits. StatesEdits profile s edits.items) (λ e. (e ≡ fault.Memory) ⊎ IsTreeFault profile s e)
+pub stops : (profile : Profile) (s : Document) (count n : ℕ) (es : List Edit) (f : UseFault)
+    (r : Result (Vec Edit Global) UseFault) → IsErrAnd r (λ e. e ≡ f) → element_count s ≡ Some count → n < count
+    → length es ≡ n → AreEntries profile s 0 es
+    → (f ≡ fault.Memory) ⊎ IsFaultAt profile s n f
+    → MatchResult r (λ edits. StatesEdits profile s edits.items) (λ e. (e ≡ fault.Memory) ⊎ IsTreeFault profile s e)
 stops profile s count n es f (Ok edits) same is lt many are h = absurd same
-stops profile s count n es f (Err e) same is lt many are h = subst (λ (x : UseFault). (x ≡ fault.Memory) ⊎ IsTreeFault profile s x) (sym same) (stopped profile s count n es f is lt many are h)
+stops profile s count n es f (Err e) same is lt many are h =
+    subst (λ (x : UseFault). (x ≡ fault.Memory) ⊎ IsTreeFault profile s x) (sym same)
+    (stopped profile s count n es f is lt many are h)
 
 -- ---- one element
 
 -- two words are at `path` and the third key
-two_texts : (s : Document) (n : ℕ) (second : Word) (found : Option Texts) → AreTexts s n (Some (word_key second)) found → AreTextsOf s n (word.Path ∷ second ∷ []) found
+two_texts : (s : Document) (n : ℕ) (second : Word) (found : Option Texts) → AreTexts s n (Some (word_key second)) found
+    → AreTextsOf s n (word.Path ∷ second ∷ []) found
 two_texts s n second (Some texts) (many, path, third) = (many, (path, (third, tt)))
 two_texts s n second None none = no
   where
@@ -74,8 +104,10 @@ two_texts s n second None none = no
     no (a ∷ b ∷ c ∷ more) (many, given) = given.1.1
 
 -- one word is at `path`
-one_text : (s : Document) (n : ℕ) (first : Word) (found : Option Texts) → word_key first ≡ codes "path" → AreTexts s n None found → AreTextsOf s n (first ∷ []) found
-one_text s n first (Some texts) at (many, path) = (many, (subst (λ (k : List ℕ). given s n k ≡ Some (string_bytes texts.path)) (sym at) path, tt))
+one_text : (s : Document) (n : ℕ) (first : Word) (found : Option Texts) → word_key first ≡ codes "path"
+    → AreTexts s n None found → AreTextsOf s n (first ∷ []) found
+one_text s n first (Some texts) at (many, path) =
+    (many, (subst (λ (k : List ℕ). given s n k ≡ Some (string_bytes texts.path)) (sym at) path, tt))
 one_text s n first None at none = no
   where
     no : (words : List (List ℕ)) → HasWords s n (first ∷ []) words → ⊥
@@ -83,7 +115,8 @@ one_text s n first None at none = no
     no (a ∷ []) (many, is) = none a [] (many, subst (λ (k : List ℕ). given s n k ≡ Some a) at is.0)
     no (a ∷ b ∷ more) (many, is) = is.1
 
-texts_are : (s : Document) (n : ℕ) (o : Op) (found : Option Texts) → AreTexts s n (third_key (edit_words o)) found → AreTextsOf s n (edit_words o) found
+texts_are : (s : Document) (n : ℕ) (o : Op) (found : Option Texts) → AreTexts s n (third_key (edit_words o)) found
+    → AreTextsOf s n (edit_words o) found
 texts_are s n op.Set found h = two_texts s n word.Value found h
 texts_are s n op.Insert found h = two_texts s n word.Value found h
 texts_are s n op.Rename found h = two_texts s n word.Key found h
@@ -91,13 +124,15 @@ texts_are s n op.Remove found h = one_text s n word.Path found refl h
 texts_are s n op.Table found h = one_text s n word.Keys found refl h
 texts_are s n op.Element found h = one_text s n word.Keys found refl h
 
-pub texts_ok : {E : Type 0} (s : Document) (n : ℕ) (o : Op) (r : Result (Option Texts) E) → IfOk r (AreTexts s n (third_key (edit_words o))) → IfOk r (AreTextsOf s n (edit_words o))
+pub texts_ok : {E : Type 0} (s : Document) (n : ℕ) (o : Op) (r : Result (Option Texts) E)
+    → IfOk r (AreTexts s n (third_key (edit_words o))) → IfOk r (AreTextsOf s n (edit_words o))
 texts_ok s n o (Ok found) h = texts_are s n o found h
 texts_ok s n o (Err e) h = h
 
 -- ---- the whole
 
-no_tree : (profile : Profile) (bytes : List ℕ) (s : Document) (f : UseFault) → IsTextOfTree (text_in Strict bytes) s → IsTreeFault profile s f → IsScriptFault profile bytes f
+no_tree : (profile : Profile) (bytes : List ℕ) (s : Document) (f : UseFault) → IsTextOfTree (text_in Strict bytes) s
+    → IsTreeFault profile s f → IsScriptFault profile bytes f
 no_tree profile bytes s fault.Shape read h = (s, read, h)
 no_tree profile bytes s (fault.Entry n why) read h = (s, read, h)
 no_tree profile bytes s (fault.Words e) read h = absurd h
@@ -106,23 +141,31 @@ no_tree profile bytes s (fault.Value f) read h = absurd h
 no_tree profile bytes s (fault.Script f) read h = absurd h
 no_tree profile bytes s fault.Memory read h = absurd h
 
-of_tree : (profile : Profile) (bytes : List ℕ) (s : Document) (r : Result (Vec Edit Global) UseFault) → IsTextOfTree (text_in Strict bytes) s
+of_tree : (profile : Profile) (bytes : List ℕ) (s : Document) (r : Result (Vec Edit Global) UseFault)
+    → IsTextOfTree (text_in Strict bytes) s
     → MatchResult r (λ edits. StatesEdits profile s edits.items) (λ f. (f ≡ fault.Memory) ⊎ IsTreeFault profile s f)
-    → MatchResult r (λ edits. IsScript profile bytes edits.items) (λ f. (f ≡ fault.Memory) ⊎ IsScriptFault profile bytes f)
-of_tree profile bytes s (Ok edits) read stated = record { tree = s; read = read; count = stated.count; entries = stated.entries }
+    → MatchResult r (λ edits. IsScript profile bytes edits.items)
+    (λ f. (f ≡ fault.Memory) ⊎ IsScriptFault profile bytes f)
+of_tree profile bytes s (Ok edits) read stated =
+    record { tree = s; read = read; count = stated.count; entries = stated.entries }
 of_tree profile bytes s (Err f) read (inl memory) = inl memory
 of_tree profile bytes s (Err f) read (inr fault) = inr (no_tree profile bytes s f read fault)
 
-pub script_stated : (profile : Profile) (bytes : List ℕ) (d : ProfiledText) (r : Result (Vec Edit Global) UseFault) → d ≡ text_in Strict bytes → IsAccepted d
-    → ((s : Document) → IsTextOfTree d s → MatchResult r (λ edits. StatesEdits profile s edits.items) (λ f. (f ≡ fault.Memory) ⊎ IsTreeFault profile s f))
-    → MatchResult r (λ edits. IsScript profile bytes edits.items) (λ f. (f ≡ fault.Memory) ⊎ IsScriptFault profile bytes f)
-script_stated profile bytes d r same (s, h) k = of_tree profile bytes s r (subst (λ (t : ProfiledText). IsTextOfTree t s) same h) (k s h)
+pub script_stated : (profile : Profile) (bytes : List ℕ) (d : ProfiledText) (r : Result (Vec Edit Global) UseFault)
+    → d ≡ text_in Strict bytes → IsAccepted d
+    → ((s : Document) → IsTextOfTree d s
+    → MatchResult r (λ edits. StatesEdits profile s edits.items) (λ f. (f ≡ fault.Memory) ⊎ IsTreeFault profile s f))
+    → MatchResult r (λ edits. IsScript profile bytes edits.items)
+    (λ f. (f ≡ fault.Memory) ⊎ IsScriptFault profile bytes f)
+script_stated profile bytes d r same (s, h) k =
+    of_tree profile bytes s r (subst (λ (t : ProfiledText). IsTextOfTree t s) same h) (k s h)
 
 -- ---- the profile of the values
 
 strict_entries : (s : Document) (n : ℕ) (es : List Edit) → AreEntries Strict s n es → AreStrict es
 strict_entries s n [] are = tt
-strict_entries s n (e ∷ es) ((o, is, (words, has, made)), more) = (strict_edit o words e made, strict_entries s (suc n) es more)
+strict_entries s n (e ∷ es) ((o, is, (words, has, made)), more) =
+    (strict_edit o words e made, strict_entries s (suc n) es more)
 
 pub strict_script : (bytes : List ℕ) (edits : List Edit) → IsScript Strict bytes edits → AreStrict edits
 strict_script bytes edits script = strict_entries script.tree 0 edits script.entries

@@ -14,19 +14,25 @@ use Rattle.keep_edit.specs.Children.{child_count_of}
 use Rattle.keep_edit.specs.Reading.{ProfiledText, IsTextOfTree, Holds}
 use Rattle.keep_edit_plan.proofs.Shared.{stated_is, no_node, a_node}
 
-module _ (d : ProfiledText) (syntax : Syntax) (index : NodeInfos) (path : List Part) (s : Document) (holds : Holds d syntax index) (read : IsTextOfTree d s) (o : Option NodeId)
+module _ (d : ProfiledText) (syntax : Syntax) (index : NodeInfos) (path : List Part) (s : Document)
+    (holds : Holds d syntax index) (read : IsTextOfTree d s) (o : Option NodeId)
     (found : number_of o ≡ node_number index.paths path) where
   paths_are : index.paths ≡ node_paths (mentions_in s)
   paths_are = ap (λ (t : NodeInfos). t.paths) (stated_is d syntax index s holds read) ∙ paths-nodes_in s
 
   pub no_children : o ≡ None → None ≡ child_count_of path s
   no_children none =
-      let unnamed : is_node path (mentions_in s) ≡ false = no_node path (mentions_in s) (ap (λ (ps : List (List Part)). node_number ps path) (sym paths_are) ∙ sym found ∙ ap number_of none) in
+      let unnamed : is_node path (mentions_in s) ≡ false =
+      no_node path (mentions_in s) (ap (λ (ps : List (List Part)). node_number ps path) (sym paths_are) ∙ sym found
+      ∙ ap number_of none) in
       rw unnamed refl
 
-  pub all_children : (id : NodeId) (n : ℕ) → o ≡ Some id → n ≡ length (children_numbered index id.0) → Some n ≡ child_count_of path s
+  pub all_children : (id : NodeId) (n : ℕ) → o ≡ Some id → n ≡ length (children_numbered index id.0)
+      → Some n ≡ child_count_of path s
   all_children id n one counted =
       let number : node_number index.paths path ≡ Some id.0 = sym found ∙ ap number_of one in
-      let named : is_node path (mentions_in s) ≡ true = a_node path (mentions_in s) id.0 (ap (λ (ps : List (List Part)). node_number ps path) (sym paths_are) ∙ number) in
+      let named : is_node path (mentions_in s) ≡ true =
+      a_node path (mentions_in s) id.0 (ap (λ (ps : List (List Part)). node_number ps path) (sym paths_are) ∙ number) in
       let there : path_numbered index id.0 ≡ path = (number_is index.paths path id.0 number).1 in
-      rw named (ap Some (counted ∙ ap₂ (λ (p : List Part) (ps : List (List Part)). length (children p ps)) there paths_are))
+      rw named (ap Some (counted
+      ∙ ap₂ (λ (p : List Part) (ps : List (List Part)). length (children p ps)) there paths_are))

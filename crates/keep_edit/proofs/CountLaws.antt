@@ -17,19 +17,27 @@ use Rattle.keep_edit_plan.proofs.Shared.{stated_is, tokens_are}
 abbrev counted : ℕ → ℕ → Counts
 counted m n = record { tokens = m; nodes = n }
 
-pub counts_are : (t : ProfiledText) (syntax : Syntax) (index : NodeInfos) (s : Document) (m n : ℕ) → Holds t syntax index → IsTextOfTree t s
+pub counts_are : (t : ProfiledText) (syntax : Syntax) (index : NodeInfos) (s : Document) (m n : ℕ)
+    → Holds t syntax index → IsTextOfTree t s
     → m ≡ length (tokens_of syntax t.text) → n ≡ length index.paths → counted m n ≡ counts_of s
 counts_are t syntax index s m n h read e f =
     let tokens_many : m ≡ length (tokens s) = e ∙ ap length (tokens_are t syntax index s h read) in
-    let nodes_many : n ≡ length (nodes_in s) = f ∙ ap (λ (x : NodeInfos). length x.paths) (stated_is t syntax index s h read) ∙ length-map (nodes_in s) node_path in
+    let nodes_many : n ≡ length (nodes_in s) =
+    f ∙ ap (λ (x : NodeInfos). length x.paths) (stated_is t syntax index s h read)
+    ∙ length-map (nodes_in s) node_path in
     ap (λ (x : ℕ). counted x n) tokens_many ∙ ap (counted (length (tokens s))) nodes_many
 
 -- ---- how many they are
 
-pub counts_few : (t : ProfiledText) (syntax : Syntax) (index : NodeInfos) (m n : ℕ) → Holds t syntax index → m ≡ length (tokens_of syntax t.text) → n ≡ length index.paths
-    → (m ≤ length t.text + 1) × (n ≤ length t.text + 1)
+pub counts_few : (t : ProfiledText) (syntax : Syntax) (index : NodeInfos) (m n : ℕ) → Holds t syntax index
+    → m ≡ length (tokens_of syntax t.text) → n ≡ length index.paths → (m ≤ length t.text + 1) × (n ≤ length t.text + 1)
 counts_few t syntax index m n h e f =
     let same : counted m n ≡ counts_of h.tree = counts_are t syntax index h.tree m n h h.read e f in (
       omega (arith, ap (λ (c : Counts). c.tokens) same, tokens_few t.profile limit t.text h.tree h.read.reads),
-      omega (arith, ap (λ (c : Counts). c.nodes) same, nodes_few t.profile h.tree h.read.reads.valid, ap length h.read.reads.spelled),
+      omega (
+        arith,
+        ap (λ (c : Counts). c.nodes) same,
+        nodes_few t.profile h.tree h.read.reads.valid,
+        ap length h.read.reads.spelled,
+      ),
     )

@@ -15,15 +15,20 @@ use Rattle.keep_edit.specs.Reading.{IsReadAs, IsTextOfValue}
 one_info : (a b : ValueInfo) → Some a ≡ Some b → a ≡ b
 one_info a b e = cc
 
-pub line_value_read : (profile : Profile) (bytes : List ℕ) (syntax : Syntax) (d : Document) → IsReadAs profile bytes syntax d → (number : ℕ) (v : Value) → IsLineValue d number v
-    → (info : ValueInfo) → slice_get (values_of syntax) number ≡ Some info → (part : List ℕ) → part ≡ text_at bytes info.span → IsTextOfValue part v
+pub line_value_read : (profile : Profile) (bytes : List ℕ) (syntax : Syntax) (d : Document)
+    → IsReadAs profile bytes syntax d → (number : ℕ) (v : Value) → IsLineValue d number v
+    → (info : ValueInfo) → slice_get (values_of syntax) number ≡ Some info → (part : List ℕ)
+    → part ≡ text_at bytes info.span → IsTextOfValue part v
 line_value_read profile bytes syntax d was number v at info here part is =
     let t : IsLineValueText profile d number v =
     subst (λ (n : ℕ). IsLineValueText profile d n v) at.counted
-    (line_value_text profile d was.read.reads.valid was.read.obeys at.before at.after at.line at.name v at.here at.content) in
-    let same : info ≡ t.info = one_info info t.info (sym here ∙ ap (λ (vs : List ValueInfo). slice_get vs number) was.is.values ∙ t.here) in
+    (line_value_text profile d was.read.reads.valid was.read.obeys at.before at.after at.line at.name v at.here
+    at.content) in
+    let same : info ≡ t.info =
+    one_info info t.info (sym here ∙ ap (λ (vs : List ValueInfo). slice_get vs number) was.is.values ∙ t.here) in
     let spelled : part ≡ value_text v =
-    is ∙ ap (λ (i : ValueInfo). text_at bytes i.span) same ∙ ap (λ (b : List ℕ). text_at b t.info.span) was.read.reads.spelled ∙ t.spelled in
+    is ∙ ap (λ (i : ValueInfo). text_at bytes i.span) same
+    ∙ ap (λ (b : List ℕ). text_at b t.info.span) was.read.reads.spelled ∙ t.spelled in
     in_wide profile part v (record {
       reads = record { valid = t.valid; spelled = spelled; shallow = omega (arith, t.shallow, was.read.reads.shallow) };
       obeys = t.obeys;

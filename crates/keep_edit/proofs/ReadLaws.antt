@@ -15,37 +15,54 @@ use Rattle.keep_rules.specs.ReadDocuments.{WasRead, IsIndexOf, IsRefusal}
 use Rattle.keep_path.specs.NodeInfos.{NodeInfos}
 use Rattle.keep_edit.specs.Reading.{limit, text_in, IsRefused, IsSyntaxIn, IsTextOfTree, ReportsNoText, Holds}
 
-pub was_read : {profile : Profile} {bytes : List ℕ} {syntax : Syntax} {d : Document} → Reads profile limit bytes d → IsSyntaxOf syntax d → WasRead bytes syntax d
+pub was_read : {profile : Profile} {bytes : List ℕ} {syntax : Syntax} {d : Document} → Reads profile limit bytes d
+    → IsSyntaxOf syntax d → WasRead bytes syntax d
 was_read {profile} reads is = record { profile = profile; limit = limit; reads = reads; is = is }
 
 -- the syntax is that of the one tree that the text has
-pub read_once : {profile : Profile} {bytes : List ℕ} {syntax : Syntax} {s : Document} → IsSyntaxIn (text_in profile bytes) syntax → IsTextOfTree (text_in profile bytes) s → WasRead bytes syntax s
+pub read_once : {profile : Profile} {bytes : List ℕ} {syntax : Syntax} {s : Document}
+    → IsSyntaxIn (text_in profile bytes) syntax → IsTextOfTree (text_in profile bytes) s → WasRead bytes syntax s
 read_once {profile} {bytes} {syntax} {s} h read =
-    let same : h.tree ≡ s = one_document profile h.tree s h.reads.valid read.reads.valid (sym h.reads.spelled ∙ read.reads.spelled) in
+    let same : h.tree ≡ s =
+    one_document profile h.tree s h.reads.valid read.reads.valid (sym h.reads.spelled ∙ read.reads.spelled) in
     was_read read.reads (subst (λ (d : Document). IsSyntaxOf syntax d) same h.is)
 
 -- what is read
-pub holds : (profile : Profile) (bytes : List ℕ) (syntax : Syntax) (index : NodeInfos) → IsUtf8 bytes → IsSyntaxIn (text_in profile bytes) syntax
+pub holds : (profile : Profile) (bytes : List ℕ) (syntax : Syntax) (index : NodeInfos) → IsUtf8 bytes
+    → IsSyntaxIn (text_in profile bytes) syntax
     → ((d : Document) → WasRead bytes syntax d → IsIndexOf d index) → Holds (text_in profile bytes) syntax index
 holds profile bytes syntax index utf8 h built =
     let i = built h.tree (was_read h.reads h.is) in
-    record { tree = h.tree; read = record { utf8 = utf8; reads = h.reads; obeys = i.obeys }; is = h.is; of_text = h.of_text; stated = i.facts; nested = i.nested }
+    record {
+      tree = h.tree;
+      read = record { utf8 = utf8; reads = h.reads; obeys = i.obeys };
+      is = h.is;
+      of_text = h.of_text;
+      stated = i.facts;
+      nested = i.nested;
+    }
 
 -- ---- why not
 
-pub not_utf8 : (profile : Profile) (bytes : List ℕ) (at : ℕ) → ¬ (IsUtf8 bytes) → IsValidUpTo bytes at → IsRefused (text_in profile bytes) (fault.Utf8 at)
+pub not_utf8 : (profile : Profile) (bytes : List ℕ) (at : ℕ) → ¬ (IsUtf8 bytes) → IsValidUpTo bytes at
+    → IsRefused (text_in profile bytes) (fault.Utf8 at)
 not_utf8 profile bytes at not prefix = inr (not, sym (utf8_valid_len-IsValidUpTo bytes at prefix))
 
-pub reports_no_text : {T : Type 0} (bytes : List ℕ) (at : ℕ) → IsValidUpTo bytes at → ReportsNoText {T = T} bytes (Err (fault.Utf8 at))
-reports_no_text bytes at prefix not = ap (λ (n : ℕ). Err (fault.Utf8 n)) (sym (utf8_valid_len-IsValidUpTo bytes at prefix))
+pub reports_no_text : {T : Type 0} (bytes : List ℕ) (at : ℕ) → IsValidUpTo bytes at
+    → ReportsNoText {T = T} bytes (Err (fault.Utf8 at))
+reports_no_text bytes at prefix not =
+    ap (λ (n : ℕ). Err (fault.Utf8 n)) (sym (utf8_valid_len-IsValidUpTo bytes at prefix))
 
-by_rules : (profile : Profile) (bytes : List ℕ) (d : Document) (e : ReadFault) → IsUtf8 bytes → Reads profile limit bytes d → IsRefusal d e → IsRefused (text_in profile bytes) e
+by_rules : (profile : Profile) (bytes : List ℕ) (d : Document) (e : ReadFault) → IsUtf8 bytes
+    → Reads profile limit bytes d → IsRefusal d e → IsRefused (text_in profile bytes) e
 by_rules profile bytes d (fault.Define at why) utf8 reads h = inr (utf8, (d, reads, h))
 by_rules profile bytes d fault.Memory utf8 reads h = inl refl
 by_rules profile bytes d (fault.Syntax at what) utf8 reads h = absurd h
 by_rules profile bytes d (fault.TooDeep at) utf8 reads h = absurd h
 by_rules profile bytes d (fault.Utf8 at) utf8 reads h = absurd h
 
-pub no_index : (profile : Profile) (bytes : List ℕ) (syntax : Syntax) (e : ReadFault) → IsUtf8 bytes → IsSyntaxIn (text_in profile bytes) syntax → ((d : Document) → WasRead bytes syntax d → IsRefusal d e)
+pub no_index : (profile : Profile) (bytes : List ℕ) (syntax : Syntax) (e : ReadFault) → IsUtf8 bytes
+    → IsSyntaxIn (text_in profile bytes) syntax → ((d : Document) → WasRead bytes syntax d → IsRefusal d e)
     → IsRefused (text_in profile bytes) e
-no_index profile bytes syntax e utf8 i h = by_rules profile bytes i.tree e utf8 i.reads (h i.tree (was_read i.reads i.is))
+no_index profile bytes syntax e utf8 i h =
+    by_rules profile bytes i.tree e utf8 i.reads (h i.tree (was_read i.reads i.is))

@@ -1,5 +1,6 @@
 -- Appending headers: what is written, and the law that comes after it.
-use Rattle.std.proofs.Common.{◌≡◌, ℕ, suc, Bool, ◌+◌, ◌-◌, ◌<◌, ◌≤◌, false, ◌==◌, List, [], ◌∷◌, ◌++◌, length, take, slice_get, refl, sym, ap, ◌∙◌, append_assoc, arith, Option, Some, None}
+use Rattle.std.proofs.Common.{◌≡◌, ℕ, suc, Bool, ◌+◌, ◌-◌, ◌<◌, ◌≤◌, false, ◌==◌, List, [], ◌∷◌, ◌++◌, length, take}
+use Rattle.std.proofs.Common.{slice_get, refl, sym, ap, ◌∙◌, append_assoc, arith, Option, Some, None}
 use Rattle.std.specs.Prelude.{String, string_bytes, codes, slice_index_or}
 use Rattle.std.specs.Global.{Global}
 use Rattle.std.specs.List.{flat_map}
@@ -19,7 +20,8 @@ last_byte [] = refl
 last_byte (c ∷ []) = refl
 last_byte (c ∷ d ∷ cs) =
     let n : length (c ∷ d ∷ cs) - 1 ≡ suc (length (d ∷ cs) - 1) = omega arith in
-    let later : is_line_feed (slice_get (c ∷ d ∷ cs) (length (c ∷ d ∷ cs) - 1)) ≡ is_line_feed (slice_get (d ∷ cs) (length (d ∷ cs) - 1)) = ap (λ k. is_line_feed (slice_get (c ∷ d ∷ cs) k)) n in
+    let later : is_line_feed (slice_get (c ∷ d ∷ cs) (length (c ∷ d ∷ cs) - 1))
+    ≡ is_line_feed (slice_get (d ∷ cs) (length (d ∷ cs) - 1)) = ap (λ k. is_line_feed (slice_get (c ∷ d ∷ cs) k)) n in
     later ∙ last_byte (d ∷ cs)
 
 pub by_last : (t : List ℕ) (o : Option ℕ) → o ≡ slice_get t (length t - 1) → is_line_feed o ≡ ends_in_newline t
@@ -35,8 +37,10 @@ further_key k = codes "." ++ encoded_key k
 abbrev pub keys_so_far : List (String Global) → ℕ → List ℕ
 keys_so_far further i = flat_map further_key (key_texts (take i further))
 
-pub one_key_more : (further : List (String Global)) (i : ℕ) (x : String Global) (before : List ℕ) → i < length further → x ≡ slice_index_or further i x
-    → ((before ++ keys_so_far further i) ++ codes ".") ++ encoded_key (string_bytes x) ≡ before ++ keys_so_far further (i + 1)
+pub one_key_more : (further : List (String Global)) (i : ℕ) (x : String Global) (before : List ℕ) → i < length further
+    → x ≡ slice_index_or further i x
+    → ((before ++ keys_so_far further i) ++ codes ".") ++ encoded_key (string_bytes x) ≡ before
+    ++ keys_so_far further (i + 1)
 one_key_more further i x before less is =
     append_assoc (before ++ keys_so_far further i) (codes ".") (encoded_key (string_bytes x))
     ∙ append_assoc before (keys_so_far further i) (further_key (string_bytes x))
@@ -47,8 +51,12 @@ one_key_more further i x before less is =
         ap (λ (keys : List (String Global)). flat_map further_key (key_texts keys)) (take_more further i x less)
         ∙ ap (flat_map further_key) (map-append string_bytes (take i further) (slice_index_or further i x ∷ []))
         ∙ flat_map-append further_key (key_texts (take i further)) (string_bytes (slice_index_or further i x) ∷ [])
-        ∙ ap (λ (t : List ℕ). keys_so_far further i ++ t) (append-nil (further_key (string_bytes (slice_index_or further i x))) ∙ ap (λ (y : String Global). further_key (string_bytes y)) (sym is))
+        ∙ ap (λ (t : List ℕ). keys_so_far further i ++ t)
+        (append-nil (further_key (string_bytes (slice_index_or further i x)))
+        ∙ ap (λ (y : String Global). further_key (string_bytes y)) (sym is))
 
-pub all_written : (keys further : List (String Global)) (first : String Global) (i : ℕ) → keys ≡ first ∷ further → length further ≤ i → encoded_key (string_bytes first) ++ keys_so_far further i ≡ keys_text (key_texts keys)
+pub all_written : (keys further : List (String Global)) (first : String Global) (i : ℕ) → keys ≡ first ∷ further
+    → length further ≤ i → encoded_key (string_bytes first) ++ keys_so_far further i ≡ keys_text (key_texts keys)
 all_written keys further first i e past =
-    ap (λ (more : List (String Global)). encoded_key (string_bytes first) ++ flat_map further_key (key_texts more)) (take_all i further past) ∙ sym (ap (λ (x : List (String Global)). keys_text (key_texts x)) e)
+    ap (λ (more : List (String Global)). encoded_key (string_bytes first) ++ flat_map further_key (key_texts more))
+    (take_all i further past) ∙ sym (ap (λ (x : List (String Global)). keys_text (key_texts x)) e)

@@ -1,7 +1,8 @@
 -- Where `insert` writes in brackets, by the spot that is found for it.
 --
 -- Theorems: `item_placed`, `braces_placed`.
-use Rattle.std.proofs.Common.{◌≡◌, ℕ, suc, true, List, [], ◌∷◌, ◌++◌, length, drop, take, slice_get, refl, sym, ap, subst, ◌∙◌, Some, None, inl, inr}
+use Rattle.std.proofs.Common.{◌≡◌, ℕ, suc, true, List, [], ◌∷◌, ◌++◌, length, drop, take, slice_get, refl, sym, ap}
+use Rattle.std.proofs.Common.{subst, ◌∙◌, Some, None, inl, inr}
 use Rattle.std.specs.Prelude.{IsUtf8, ⊤}
 use Rattle.std.specs.List.{AllByRecursion}
 use Rattle.std.specs.Option.{option_map, option_and_then}
@@ -21,10 +22,12 @@ use Rattle.keep_edit_spec.specs.Insertion.{before_item, after_entry, in_empty, l
 use Rattle.keep_edit_spec.specs.Laws.{IsGivenValue}
 use Rattle.keep_edit_spec.specs.Look.{holder, item_number, keys_in, without_last}
 use Rattle.keep_edit_spec.specs.Refusals.{refusal}
-use Rattle.keep_edit_spec.proofs.Shared.{IsLowPlace, IsValueOf, value_of_number, IsItemLaw, item_law, IsPutAfter, IsInlineLaw, inline_placed, dots_placed, IsDottedNode, dotted_node}
+use Rattle.keep_edit_spec.proofs.Shared.{IsLowPlace, IsValueOf, value_of_number, IsItemLaw, item_law, IsPutAfter}
+use Rattle.keep_edit_spec.proofs.Shared.{IsInlineLaw, inline_placed, dots_placed, IsDottedNode, dotted_node}
 use Rattle.keep_edit_plan.specs.Reading.{limit, ProfiledText, IsTextOfTree}
 use Rattle.keep_edit_plan.specs.Answers.{value_number_of}
-use Rattle.keep_edit_plan.specs.Inserting.{origin_of, is_dotted_origin, IsBase, IsItemSpot, IsKeyvalSpot, last_keyval_of, spot_place}
+use Rattle.keep_edit_plan.specs.Inserting.{origin_of, is_dotted_origin, IsBase, IsItemSpot, IsKeyvalSpot}
+use Rattle.keep_edit_plan.specs.Inserting.{last_keyval_of, spot_place}
 use Rattle.keep_edit_plan.specs.declared.insert.Insertion.{Insertion}
 use Rattle.keep_edit_plan.specs.declared.insert.Spot.{Spot}
 use Rattle.keep_edit_plan.specs.declared.insert.Spot.TheVariants as spot
@@ -49,11 +52,15 @@ drop_all [] = refl
 drop_all (p ∷ path) = drop_all path
 
 -- a spot at the value of a number
-at_number : (path : List Part) (s : Document) (v : Value) (i : Insertion) (w : ℕ) (info : ValueInfo) (where_put : ValueInfo → changed.Place) → slice_get (syntax.values s) w ≡ Some info
-    → spot_place s path v i ≡ option_map where_put (slice_get (syntax.values s) w) → IsLowPlace s (insert path v) (where_put info) → IsLowSpot path s v i
-at_number path s v i w info where_put here is low = record { place = where_put info; is = is ∙ ap (option_map where_put) here; low = low }
+at_number : (path : List Part) (s : Document) (v : Value) (i : Insertion) (w : ℕ) (info : ValueInfo)
+    (where_put : ValueInfo → changed.Place) → slice_get (syntax.values s) w ≡ Some info
+    → spot_place s path v i ≡ option_map where_put (slice_get (syntax.values s) w)
+    → IsLowPlace s (insert path v) (where_put info) → IsLowSpot path s v i
+at_number path s v i w info where_put here is low =
+    record { place = where_put info; is = is ∙ ap (option_map where_put) here; low = low }
 
-module _ (d : ProfiledText) (path : List Part) (s : Document) (v : Value) (read : IsTextOfTree d s) (given : IsGivenValue Wide v) (allowed : refusal d.profile limit s (insert path v) ≡ None) where
+module _ (d : ProfiledText) (path : List Part) (s : Document) (v : Value) (read : IsTextOfTree d s)
+    (given : IsGivenValue Wide v) (allowed : refusal d.profile limit s (insert path v) ≡ None) where
   -- ---- items
 
   module _ (n : ℕ) (at : item_number path (mentions_in s) ≡ Some n) (from : ℕ) (whole : from ≡ length path) where
@@ -67,22 +74,29 @@ module _ (d : ProfiledText) (path : List Part) (s : Document) (v : Value) (read 
     pub item_placed : (at : Spot) → IsItemSpot path n s at → IsLowSpot path s v (record { spot = at; from = from })
     item_placed (spot.BeforeItem w) h =
         let (info, of) = value_of_number d.profile path s w read.reads.valid read.obeys h in
-        at_number path s v (record { spot = spot.BeforeItem w; from = from }) w info (λ (x : ValueInfo). before_item x v) of.info refl (law.before w info h of.info)
+        at_number path s v (record { spot = spot.BeforeItem w; from = from }) w info
+        (λ (x : ValueInfo). before_item x v) of.info refl (law.before w info h of.info)
     item_placed (spot.AfterEntry w) (m, more, count, number) =
-        let (info, of) = value_of_number d.profile (without_last path ++ index m ∷ []) s w read.reads.valid read.obeys number in
-        at_number path s v (record { spot = spot.AfterEntry w; from = from }) w info (λ (x : ValueInfo). after_entry x (keys_in (drop from path)) v) of.info refl
-        (subst (λ (l : List (List ℕ)). IsLowPlace s (insert path v) (after_entry info l v)) (sym no_keys) (law.after m w info more count number of.info))
+        let (info, of) =
+        value_of_number d.profile (without_last path ++ index m ∷ []) s w read.reads.valid read.obeys number in
+        at_number path s v (record { spot = spot.AfterEntry w; from = from }) w info
+        (λ (x : ValueInfo). after_entry x (keys_in (drop from path)) v) of.info refl
+        (subst (λ (l : List (List ℕ)). IsLowPlace s (insert path v) (after_entry info l v)) (sym no_keys)
+        (law.after m w info more count number of.info))
     item_placed (spot.InEmpty w) (zero_n, count, number) =
         let (info, of) = value_of_number d.profile (without_last path) s w read.reads.valid read.obeys number in
-        at_number path s v (record { spot = spot.InEmpty w; from = from }) w info (λ (x : ValueInfo). in_empty x (keys_in (drop from path)) v) of.info refl
-        (subst (λ (l : List (List ℕ)). IsLowPlace s (insert path v) (in_empty info l v)) (sym no_keys) (law.empty w info count number of.info))
+        at_number path s v (record { spot = spot.InEmpty w; from = from }) w info
+        (λ (x : ValueInfo). in_empty x (keys_in (drop from path)) v) of.info refl
+        (subst (λ (l : List (List ℕ)). IsLowPlace s (insert path v) (in_empty info l v)) (sym no_keys)
+        (law.empty w info count number of.info))
     item_placed (spot.AfterBody o) h = absurd h
     item_placed (spot.AfterLine w) h = absurd h
     item_placed (spot.NewSection w) h = absurd h
 
   -- ---- keyvals in braces
 
-  module _ (utf8 : AllByRecursion IsUtf8 (keys_in path)) (no_item : item_number path (mentions_in s) ≡ None) (from : ℕ) where
+  module _ (utf8 : AllByRecursion IsUtf8 (keys_in path)) (no_item : item_number path (mentions_in s) ≡ None)
+      (from : ℕ) where
     abbrev a : List Part
     a = holder path (mentions_in s)
 
@@ -93,27 +107,40 @@ module _ (d : ProfiledText) (path : List Part) (s : Document) (v : Value) (read 
     keys_from m = keys_in (drop m path)
 
     -- after a value, with the keys from the base on
-    pub after_placed : (w : ℕ) → IsPutAfter path s v (keys_in (drop from path)) w → IsLowSpot path s v (record { spot = spot.AfterEntry w; from = from })
-    after_placed w h = at_number path s v (record { spot = spot.AfterEntry w; from = from }) w h.info (λ (x : ValueInfo). after_entry x (keys_from from) v) h.here refl h.placed
+    pub after_placed : (w : ℕ) → IsPutAfter path s v (keys_in (drop from path)) w
+        → IsLowSpot path s v (record { spot = spot.AfterEntry w; from = from })
+    after_placed w h =
+        at_number path s v (record { spot = spot.AfterEntry w; from = from }) w h.info
+        (λ (x : ValueInfo). after_entry x (keys_from from) v) h.here refl h.placed
 
     -- of an inline table
-    module _ (b : ℕ) (of_value : origin_of (holder path (mentions_in s)) s ≡ origin.Value b) (base : from ≡ length (holder path (mentions_in s))) where
+    module _ (b : ℕ) (of_value : origin_of (holder path (mentions_in s)) s ≡ origin.Value b)
+        (base : from ≡ length (holder path (mentions_in s))) where
       found : (info : ValueInfo) × IsValueOf d.profile (holder path (mentions_in s)) s b info
       found = value_of_number d.profile a s b read.reads.valid read.obeys (number_of a b of_value)
 
       inline_law : IsInlineLaw path s v b found.0
-      inline_law = inline_placed d.profile limit s path v (editable d s read) given utf8 no_item allowed b found.0 (number_of a b of_value) found.1.info
+      inline_law =
+          inline_placed d.profile limit s path v (editable d s read) given utf8 no_item allowed b found.0
+          (number_of a b of_value) found.1.info
 
       last_is : last_keyval_of b s ≡ last_keyval (suc b) found.0.depth (drop (suc b) (syntax.values s))
-      last_is = ap (option_and_then (λ (x : ValueInfo). last_keyval (suc b) x.depth (drop (suc b) (syntax.values s)))) found.1.info
+      last_is =
+          ap (option_and_then (λ (x : ValueInfo). last_keyval (suc b) x.depth (drop (suc b) (syntax.values s))))
+          found.1.info
 
       pub empty_placed : last_keyval_of b s ≡ None → IsLowSpot path s v (record { spot = spot.InEmpty b; from = from })
       empty_placed e =
-          at_number path s v (record { spot = spot.InEmpty b; from = from }) b found.0 (λ (x : ValueInfo). in_empty x (keys_from from) v) found.1.info refl
-          (subst (λ (m : ℕ). IsLowPlace s (insert path v) (in_empty found.0 (keys_from m) v)) (sym base) (inline_law.empty (sym last_is ∙ e)))
+          at_number path s v (record { spot = spot.InEmpty b; from = from }) b found.0
+          (λ (x : ValueInfo). in_empty x (keys_from from) v) found.1.info refl
+          (subst (λ (m : ℕ). IsLowPlace s (insert path v) (in_empty found.0 (keys_from m) v)) (sym base)
+          (inline_law.empty (sym last_is ∙ e)))
 
-      pub last_placed : (w : ℕ) → last_keyval_of b s ≡ Some w → IsLowSpot path s v (record { spot = spot.AfterEntry w; from = from })
-      last_placed w e = after_placed w (subst (λ (m : ℕ). IsPutAfter path s v (keys_from m) w) (sym base) (inline_law.after w (sym last_is ∙ e)))
+      pub last_placed : (w : ℕ) → last_keyval_of b s ≡ Some w
+          → IsLowSpot path s v (record { spot = spot.AfterEntry w; from = from })
+      last_placed w e =
+          after_placed w (subst (λ (m : ℕ). IsPutAfter path s v (keys_from m) w) (sym base)
+          (inline_law.after w (sym last_is ∙ e)))
 
     dotted_is : (p : Origin) → is_dotted_origin p ≡ true → (w : ℕ) × (p ≡ origin.Dotted w)
     dotted_is (origin.Dotted w) e = (w, refl)
@@ -125,17 +152,23 @@ module _ (d : ProfiledText) (path : List Part) (s : Document) (v : Value) (read 
     dotted_is origin.Tables e = absurd cc
 
     -- of a table that dots continue to
-    pub dotted_placed : (b w : ℕ) → origin_of (holder path (mentions_in s)) s ≡ origin.Dotted w → IsBase (holder path (mentions_in s)) s from → origin_of (take from (holder path (mentions_in s))) s ≡ origin.Value b
+    pub dotted_placed : (b w : ℕ) → origin_of (holder path (mentions_in s)) s ≡ origin.Dotted w
+        → IsBase (holder path (mentions_in s)) s from
+        → origin_of (take from (holder path (mentions_in s))) s ≡ origin.Value b
         → IsLowSpot path s v (record { spot = spot.AfterEntry w; from = from })
     dotted_placed b w dotted base of_value =
         let node : IsDottedNode a s w = dotted_node a s w dotted in
-        after_placed w (dots_placed d.profile limit s path v (editable d s read) given utf8 no_item allowed from b w base.within (number_of (take from a) b of_value)
-        (λ n more few. let (m, e) = dotted_is (origin_of (take n a) s) (base.dots n more few) in (dotted_node (take n a) s m e).value) node.value node.number)
+        after_placed w (dots_placed d.profile limit s path v (editable d s read) given utf8 no_item allowed from b w
+        base.within (number_of (take from a) b of_value)
+        (λ n more few. let (m, e) = dotted_is (origin_of (take n a) s) (base.dots n more few) in
+        (dotted_node (take n a) s m e).value) node.value node.number)
 
-    pub braces_placed : (at : Spot) → IsInBrackets at → IsKeyvalSpot (holder path (mentions_in s)) s from at → IsLowSpot path s v (record { spot = at; from = from })
+    pub braces_placed : (at : Spot) → IsInBrackets at → IsKeyvalSpot (holder path (mentions_in s)) s from at
+        → IsLowSpot path s v (record { spot = at; from = from })
     braces_placed (spot.InEmpty b) in_brackets (of_value, base, e) = empty_placed b of_value base e
     braces_placed (spot.AfterEntry w) in_brackets (inl (b, of_value, base, e)) = last_placed b of_value base w e
-    braces_placed (spot.AfterEntry w) in_brackets (inr (b, dotted, base, of_value)) = dotted_placed b w dotted base of_value
+    braces_placed (spot.AfterEntry w) in_brackets (inr (b, dotted, base, of_value)) =
+        dotted_placed b w dotted base of_value
     braces_placed (spot.BeforeItem w) in_brackets h = absurd h
     braces_placed (spot.AfterBody o) in_brackets h = absurd in_brackets
     braces_placed (spot.AfterLine w) in_brackets h = absurd in_brackets

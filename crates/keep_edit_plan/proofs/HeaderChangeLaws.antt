@@ -6,7 +6,8 @@
 -- each has a byte of the new text, of which two machine words count the old and what is written (`few_parts`).
 --
 -- Theorem: `header_changed`.
-use Rattle.std.proofs.Common.{◌≡◌, ℕ, ◌+◌, ◌^◌, ◌<◌, ◌≤◌, Bor, List, [], ◌∷◌, ◌++◌, length, take, drop, sym, ap, subst, ◌∙◌, arith, Option, None, Some, Ok}
+use Rattle.std.proofs.Common.{◌≡◌, ℕ, ◌+◌, ◌^◌, ◌<◌, ◌≤◌, Bor, List, [], ◌∷◌, ◌++◌, length, take, drop, sym, ap, subst}
+use Rattle.std.proofs.Common.{◌∙◌, arith, Option, None, Some, Ok}
 use Rattle.std.specs.Prelude.{String}
 use Rattle.std.specs.Global.{Global}
 use Rattle.std.specs.List.{cons_option}
@@ -24,7 +25,8 @@ use Rattle.keep_meaning.specs.Marks.{Mention, mark_of, marks, start}
 use Rattle.keep_meaning.specs.Meaning.{mentions_in}
 use Rattle.keep_meaning.specs.Rules.{Mark}
 use Rattle.keep_meaning.specs.StatementsMore.{AreNumbersAtEnd, HasStatementMore}
-use Rattle.keep_meaning.proofs.Shared.{count_from-keys, count_from-statements, marked-parts, mentions_few, mentions_in-statements, statements-count}
+use Rattle.keep_meaning.proofs.Shared.{count_from-keys, count_from-statements, marked-parts, mentions_few}
+use Rattle.keep_meaning.proofs.Shared.{mentions_in-statements, statements-count}
 use Rattle.keep_rules.specs.ReadDocuments.{IsIndexOf}
 use Rattle.keep_rules.specs.StatementsTold.{IsHeader}
 use Rattle.keep_rules.proofs.Shared.{statement_is_nested, statement_is_told}
@@ -44,20 +46,30 @@ use Rattle.keep_edit_plan.proofs.AnswerLaws.{index_of, stated_is, tree_is}
 use Rattle.keep_edit_plan.proofs.AppendDone.{end_span, keys_utf8, law_of}
 
 -- the numbers of a header at the end are how many statements and key parts there are
-numbers_at_end : (s : Document) (statement key : ℕ) → statement ≡ length (statements s) → key ≡ length (parts s) → AreNumbersAtEnd s statement key
+numbers_at_end : (s : Document) (statement key : ℕ) → statement ≡ length (statements s) → key ≡ length (parts s)
+    → AreNumbersAtEnd s statement key
 numbers_at_end s statement key e f = record {
   statements = omega (arith, e, count_from-statements no_count start (statements_in s), statements-count s);
-  keys = omega (arith, f, count_from-keys no_count start (statements_in s), ap (λ (ms : List Mention). length (marks ms)) (mentions_in-statements s), marked-parts s);
+  keys = omega (
+    arith,
+    f,
+    count_from-keys no_count start (statements_in s),
+    ap (λ (ms : List Mention). length (marks ms)) (mentions_in-statements s),
+    marked-parts s,
+  );
 }
 
 its_header : (header : Header) (keys : List (List ℕ)) → IsHeader (statement_of header keys)
 its_header Table keys = tt
 its_header Element keys = tt
 
-its_statement : (d : ProfiledText) (s : Document) (header : Header) (keys : List (String Global)) → refusal_in d s (edit_of header (key_texts keys)) ≡ None
+its_statement : (d : ProfiledText) (s : Document) (header : Header) (keys : List (String Global))
+    → refusal_in d s (edit_of header (key_texts keys)) ≡ None
     → HasStatementMore s (statement_of header (key_texts keys)) (edited_document s (edit_of header (key_texts keys)))
-its_statement d s Table keys allowed = append_table_adds_statement d.profile limit s (key_texts keys) (keys_utf8 keys) allowed
-its_statement d s Element keys allowed = append_element_adds_statement d.profile limit s (key_texts keys) (keys_utf8 keys) allowed
+its_statement d s Table keys allowed =
+    append_table_adds_statement d.profile limit s (key_texts keys) (keys_utf8 keys) allowed
+its_statement d s Element keys allowed =
+    append_element_adds_statement d.profile limit s (key_texts keys) (keys_utf8 keys) allowed
 
 -- ---- a document has no more key parts than bytes
 
@@ -69,13 +81,15 @@ marks_few : (ms : List Mention) → length (marks ms) ≤ length ms
 marks_few [] = omega arith
 marks_few (m ∷ ms) = omega (arith, one_more (mark_of m) (marks ms), marks_few ms)
 
-few_parts : (profile : Profile) (depth : ℕ) (bytes : List ℕ) (s : Document) → Reads profile depth bytes s → length (parts s) ≤ length bytes
+few_parts : (profile : Profile) (depth : ℕ) (bytes : List ℕ) (s : Document) → Reads profile depth bytes s
+    → length (parts s) ≤ length bytes
 few_parts profile depth bytes s reads =
     omega (arith, marked-parts s, marks_few (mentions_in s), mentions_few s, leaves_count profile depth bytes s reads)
 
 -- ---- the edit
 
-module _ (d : ProfiledText) (syntax : Syntax) (index : NodeInfos) (s : Document) (holds : Holds d syntax index) (read : IsTextOfTree d s) (header : Header) (keys : Bor (List (String Global))) (given : List ℕ)
+module _ (d : ProfiledText) (syntax : Syntax) (index : NodeInfos) (s : Document) (holds : Holds d syntax index)
+    (read : IsTextOfTree d s) (header : Header) (keys : Bor (List (String Global))) (given : List ℕ)
     (at : IsDoneAt s (edit_of header (key_texts keys.now)) d given (Ok (end_span d))) where
   abbrev new : Document
   new = edited_document s (edit_of header (key_texts keys.now))
@@ -101,18 +115,26 @@ module _ (d : ProfiledText) (syntax : Syntax) (index : NodeInfos) (s : Document)
         length-drop n (text s),
       )
 
-  pub header_changed : length d.text + length given < 2 ^ 64 → (statement key : ℕ) → statement ≡ length (statements_of syntax) → key ≡ length (parts_of syntax)
+  pub header_changed : length d.text + length given < 2 ^ 64 → (statement key : ℕ)
+      → statement ≡ length (statements_of syntax) → key ≡ length (parts_of syntax)
       → IsIndexChange s new (change.AppendedHeader header keys statement key)
   header_changed few statement key counted numbered =
       let is : IsSyntaxOf syntax s = subst (IsSyntaxOf syntax) (tree_is d syntax index s holds read) holds.is in
-      let old : IsIndexOf s (telling_in s) = subst (IsIndexOf s) (stated_is d syntax index s holds read) (index_of d syntax index s holds read) in
+      let old : IsIndexOf s (telling_in s) =
+      subst (IsIndexOf s) (stated_is d syntax index s holds read) (index_of d syntax index s holds read) in
       let numbers : AreNumbersAtEnd s statement key =
       numbers_at_end s statement key (counted ∙ ap length is.statements) (numbered ∙ ap length is.parts) in
       let low : length (parts new) < 2 ^ 64 =
-      omega (arith, few, new_size, few_parts d.profile limit (put (text s) (place s (edit_of header (key_texts keys.now)))) new law.reads) in
+      omega (
+        arith,
+        few,
+        new_size,
+        few_parts d.profile limit (put (text s) (place s (edit_of header (key_texts keys.now)))) new law.reads,
+      ) in
       let its : IsHeader (statement_of header (key_texts keys.now)) = its_header header (key_texts keys.now) in
       record {
         can = (s, old, numbers);
-        told = λ u is. is s old numbers ∙ sym (statement_is_told s new (statement_of header (key_texts keys.now)) its more low);
+        told = λ u is. is s old numbers
+            ∙ sym (statement_is_told s new (statement_of header (key_texts keys.now)) its more low);
         nested = statement_is_nested s new (statement_of header (key_texts keys.now)) its more law.obeys old.nested;
       }

@@ -29,7 +29,9 @@ use Rattle.keep_edit_plan.proofs.FoundLaws.{origin_of_value}
 use Rattle.keep_edit_plan.proofs.InsertedLaws.{insert_law}
 use Rattle.keep_edit_plan.proofs.InsideLaws.{inside_by_law}
 
-module _ (d : ProfiledText) (syntax : Syntax) (index : NodeInfos) (path : List Part) (s : Document) (v : Value) (bytes : List ℕ) (i : Insertion) (holds : Holds d syntax index) (read : IsTextOfTree d s) (value : IsTextOfValue bytes v)
+module _ (d : ProfiledText) (syntax : Syntax) (index : NodeInfos) (path : List Part) (s : Document) (v : Value)
+    (bytes : List ℕ) (i : Insertion) (holds : Holds d syntax index) (read : IsTextOfTree d s)
+    (value : IsTextOfValue bytes v)
     (there : IsInsertionOf d.profile path v s (Ok i)) (utf8 : AreUtf8 path) (in_brackets : IsInBrackets i.spot) where
   abbrev a : List Part
   a = holder path (mentions_in s)
@@ -41,15 +43,21 @@ module _ (d : ProfiledText) (syntax : Syntax) (index : NodeInfos) (path : List P
   ]
 
   -- at or below a value
-  braced : item_number path (mentions_in s) ≡ None → (at dots : List Part) (b : ℕ) → a ≡ at ++ dots → origin_of at s ≡ origin.Value b → IsInside path s (insert path v)
+  braced : item_number path (mentions_in s) ≡ None → (at dots : List Part) (b : ℕ) → a ≡ at ++ dots
+      → origin_of at s ≡ origin.Value b → IsInside path s (insert path v)
   braced none at dots b whole of_value =
-      inside_by_law d path s (insert path v) (insert_law d syntax index path s v bytes i holds read value there utf8) (put_named name_with (length (drop (length a) path)) v)
-      (braced_nested s path v at dots b read.obeys none whole (origin_of_value (numbered_at at (numbered_in s)) b of_value))
+      inside_by_law d path s (insert path v) (insert_law d syntax index path s v bytes i holds read value there utf8)
+      (put_named name_with (length (drop (length a) path)) v)
+      (braced_nested s path v at dots b read.obeys none whole
+      (origin_of_value (numbered_at at (numbered_in s)) b of_value))
 
-  keyval_inside : item_number path (mentions_in s) ≡ None → (at : Spot) → IsInBrackets at → IsKeyvalSpot a s i.from at → IsInside path s (insert path v)
+  keyval_inside : item_number path (mentions_in s) ≡ None → (at : Spot) → IsInBrackets at → IsKeyvalSpot a s i.from at
+      → IsInside path s (insert path v)
   keyval_inside none (spot.InEmpty b) brackets (of_value, base, e) = braced none a [] b (sym (append-nil a)) of_value
-  keyval_inside none (spot.AfterEntry w) brackets (inl (b, of_value, base, e)) = braced none a [] b (sym (append-nil a)) of_value
-  keyval_inside none (spot.AfterEntry w) brackets (inr (b, dotted, base, of_value)) = braced none (take i.from a) (drop i.from a) b (sym (take-append-drop i.from a)) of_value
+  keyval_inside none (spot.AfterEntry w) brackets (inl (b, of_value, base, e)) =
+      braced none a [] b (sym (append-nil a)) of_value
+  keyval_inside none (spot.AfterEntry w) brackets (inr (b, dotted, base, of_value)) =
+      braced none (take i.from a) (drop i.from a) b (sym (take-append-drop i.from a)) of_value
   keyval_inside none (spot.BeforeItem w) brackets h = absurd h
   keyval_inside none (spot.AfterBody o) brackets h = absurd brackets
   keyval_inside none (spot.AfterLine w) brackets h = absurd brackets
@@ -60,5 +68,7 @@ module _ (d : ProfiledText) (syntax : Syntax) (index : NodeInfos) (path : List P
     where
       by : (o : Option ℕ) → item_number path (mentions_in s) ≡ o → SpotBy o → IsInside path s (insert path v)
       by (Some n) item h =
-          inside_by_law d path s (insert path v) (insert_law d syntax index path s v bytes i holds read value there utf8) (put_item v) (item_nested s path v n item)
+          inside_by_law d path s (insert path v)
+          (insert_law d syntax index path s v bytes i holds read value there utf8) (put_item v)
+          (item_nested s path v n item)
       by None none h = keyval_inside none i.spot in_brackets h

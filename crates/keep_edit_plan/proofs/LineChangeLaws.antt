@@ -1,11 +1,13 @@
 -- An insert of one key at the end of a body gives the index one node more: that of the line.
 --
--- A document with one line more has it after the statements that are counted for its numbers. So its node comes where the
+-- A document with one line more has it after the statements that are counted for its numbers. So its node comes where
+-- the
 -- facts say that the first node is met after the line (`line_added`), and the nodes are nested as the headers say.
 -- The law of the edit says that the new document is such a one, if nothing is in the value.
 --
 -- Theorem: `line_changed`.
-use Rattle.std.proofs.Common.{◌≡◌, ℕ, zero, suc, ◌-◌, ◌<◌, ◌≤◌, Bor, false, List, [], ◌∷◌, ◌++◌, length, take, drop, slice_get, sym, ap, subst, ◌∙◌, arith, Option, Some, None, Ok}
+use Rattle.std.proofs.Common.{◌≡◌, ℕ, zero, suc, ◌-◌, ◌<◌, ◌≤◌, Bor, false, List, [], ◌∷◌, ◌++◌, length, take, drop}
+use Rattle.std.proofs.Common.{slice_get, sym, ap, subst, ◌∙◌, arith, Option, Some, None, Ok}
 use Rattle.std.proofs.lemmas.List.{take-append-drop}
 use Rattle.keep_types.specs.declared.node.Kind.{Kind}
 use Rattle.keep_syntax.specs.declared.syntax.Syntax.{Syntax}
@@ -47,8 +49,10 @@ use Rattle.keep_edit_plan.proofs.KindLaws.{no_entries}
 abbrev pub place_in : Document → LineNumbers → ℕ
 place_in s numbers = met_before (numbers_of numbers) (infos_in s)
 
--- The second document has one line more, of this path, which is that of a key below a table: what is known of its nodes.
-pub record IsLineAdded (s more : Document) (path : List Part) (kind : Kind) (parent : NodeId) (text : List ℕ) (numbers : LineNumbers) : Type 0 where
+-- The second document has one line more, of this path, which is that of a key below a table: what is known of its
+-- nodes.
+pub record IsLineAdded (s more : Document) (path : List Part) (kind : Kind) (parent : NodeId) (text : List ℕ)
+    (numbers : LineNumbers) : Type 0 where
   pub low : parent.0 < length (telling_in s).paths
   pub path_is : path_numbered (telling_in s) parent.0 ++ key text ∷ [] ≡ path
   pub fresh : node_number (telling_in s).paths path ≡ None
@@ -61,23 +65,28 @@ pub record IsLineAdded (s more : Document) (path : List Part) (kind : Kind) (par
 -- so the index can change, with the node and with more
 abbrev pub CanAdd : Document → NodeId → List ℕ → LineNumbers → Type 0
 CanAdd s parent text numbers =
-    (parent.0 < length (telling_in s).paths) × (node_number (telling_in s).paths (path_numbered (telling_in s) parent.0 ++ key text ∷ []) ≡ None)
+    (parent.0 < length (telling_in s).paths)
+    × (node_number (telling_in s).paths (path_numbered (telling_in s) parent.0 ++ key text ∷ []) ≡ None)
     × IsPlaceOf (numbers_of numbers) (infos_in s) (place_in s numbers)
 
-pub can_add : {s more : Document} {path : List Part} {kind : Kind} {parent : NodeId} {text : List ℕ} {numbers : LineNumbers}
+pub can_add : {s more : Document} {path : List Part} {kind : Kind} {parent : NodeId} {text : List ℕ}
+    {numbers : LineNumbers}
     → IsLineAdded s more path kind parent text numbers → CanAdd s parent text numbers
 can_add {s} h = (h.low, ap (node_number (telling_in s).paths) h.path_is ∙ h.fresh, h.place)
 
 -- the last step
-one_left : (path : List Part) (n : ℕ) (p : Part) → slice_get path n ≡ Some p → length path - n ≡ 1 → drop n path ≡ p ∷ []
+one_left : (path : List Part) (n : ℕ) (p : Part) → slice_get path n ≡ Some p → length path - n ≡ 1
+    → drop n path ≡ p ∷ []
 one_left [] n p e few = absurd cc
 one_left (x ∷ []) zero p e few = let same : x ≡ p = cc in ap (λ (q : Part). q ∷ []) same
 one_left (x ∷ y ∷ path) zero p e few = absurd (omega (arith, few))
 one_left (x ∷ path) (suc n) p e few = one_left path n p e (omega (arith, few))
 
-module _ (d : ProfiledText) (syntax : Syntax) (index : NodeInfos) (path : List Part) (s : Document) (v : Value) (bytes : List ℕ) (i : Insertion)
+module _ (d : ProfiledText) (syntax : Syntax) (index : NodeInfos) (path : List Part) (s : Document) (v : Value)
+    (bytes : List ℕ) (i : Insertion)
     (holds : Holds d syntax index) (read : IsTextOfTree d s) (value : IsTextOfValue bytes v)
-    (there : IsInsertionOf d.profile path v s (Ok i)) (utf8 : AreUtf8 path) (header : Option ℕ) (after_body : i.spot ≡ AfterBody header) where
+    (there : IsInsertionOf d.profile path v s (Ok i)) (utf8 : AreUtf8 path) (header : Option ℕ)
+    (after_body : i.spot ≡ AfterBody header) where
   abbrev a : List Part
   a = holder path (mentions_in s)
 
@@ -88,24 +97,31 @@ module _ (d : ProfiledText) (syntax : Syntax) (index : NodeInfos) (path : List P
   old_index = telling_in s
 
   spot : (item_number path (mentions_in s) ≡ None) × IsKeyvalSpot a s i.from (AfterBody header)
-  spot = keyval_only d syntax index path s v bytes i holds read value there utf8 (AfterBody header) after_body (λ n h. absurd h)
+  spot = keyval_only d syntax index path s v bytes i holds read value there utf8 (AfterBody header) after_body
+      (λ n h. absurd h)
 
   pub body_spot : IsKeyvalSpot a s i.from (AfterBody header)
   body_spot = spot.1
 
   prefix : take i.from path ≡ a
-  prefix = ap (λ (n : ℕ). take n path) (by header body_spot) ∙ holder_prefix d.profile limit s path v read.reads.valid spot.0 there.0
+  prefix =
+      ap (λ (n : ℕ). take n path) (by header body_spot)
+      ∙ holder_prefix d.profile limit s path v read.reads.valid spot.0 there.0
     where
       by : (o : Option ℕ) → IsKeyvalSpot a s i.from (AfterBody o) → i.from ≡ length a
       by None h = h.1 ∙ sym (ap (λ (p : List Part). length p) h.0)
       by (Some n) h = h.1
 
   nested : AreNested (mentions_in s) (reading_after start (statements_in s)).tables
-  nested = subst (λ (u : Document). AreNested (mentions_in u) (reading_after start (statements_in u)).tables) (tree_is d syntax index s holds read) holds.nested
+  nested =
+      subst (λ (u : Document). AreNested (mentions_in u) (reading_after start (statements_in u)).tables)
+      (tree_is d syntax index s holds read) holds.nested
 
   -- the step after the holder is the last, a key
-  module _ (text : Bor (List ℕ)) (step : slice_get path i.from ≡ Some (key text.now)) (few : length path - i.from ≡ 1) (parent : NodeId)
-      (found : node_number index.paths (take i.from path) ≡ Some parent.0) (numbers : LineNumbers) (are : AreNumbersAfter a s numbers) where
+  module _ (text : Bor (List ℕ)) (step : slice_get path i.from ≡ Some (key text.now)) (few : length path - i.from ≡ 1)
+      (parent : NodeId)
+      (found : node_number index.paths (take i.from path) ≡ Some parent.0) (numbers : LineNumbers)
+      (are : AreNumbersAfter a s numbers) where
     pub whole : path ≡ a ++ key text.now ∷ []
     whole =
         sym (take-append-drop i.from path) ∙ ap (λ (p : List Part). p ++ drop i.from path) prefix
@@ -128,27 +144,32 @@ module _ (d : ProfiledText) (syntax : Syntax) (index : NodeInfos) (path : List P
       is_place : IsPlaceOf (numbers_of numbers) (infos_in s) (nodes_after line.before)
       is_place =
           let (within, parts) = line_is_found s more line read.obeys in
-          subst (λ (n : node_infos.LineNumbers). IsPlaceOf n (infos_in s) (nodes_after line.before)) numbers_are (record { within = within; parts = parts })
+          subst (λ (n : node_infos.LineNumbers). IsPlaceOf n (infos_in s) (nodes_after line.before)) numbers_are
+          (record { within = within; parts = parts })
 
       at : nodes_after line.before ≡ place
       at = place_is (numbers_of numbers) (infos_in s) (nodes_after line.before) is_place
 
       told : with_node old_index place (numbers_of numbers) path (fact_kind (body_fact v.body)) ≡ telling_in more
       told = sym (line_adds_node s more line fresh
-          ∙ ap (λ (n : ℕ). with_node old_index n (numbers_after line.before) (path_after line.before line.text) (fact_kind line.fact)) at
-          ∙ ap (λ (n : node_infos.LineNumbers). with_node old_index place n (path_after line.before line.text) (fact_kind line.fact)) numbers_are
+          ∙ ap (λ (n : ℕ).
+          with_node old_index n (numbers_after line.before) (path_after line.before line.text) (fact_kind line.fact)) at
+          ∙ ap (λ (n : node_infos.LineNumbers).
+          with_node old_index place n (path_after line.before line.text) (fact_kind line.fact)) numbers_are
           ∙ ap (λ (p : List Part). with_node old_index place (numbers_of numbers) p (fact_kind line.fact)) added.place
           ∙ ap (with_node old_index place (numbers_of numbers) path) (ap fact_kind added.gives))
 
       pub line_added : IsLineAdded s more path (fact_kind (body_fact v.body)) parent text.now numbers
       line_added =
           let here : node_number old_index.paths (take i.from path) ≡ Some parent.0 =
-          ap (λ (t : NodeInfos). node_number t.paths (take i.from path)) (sym (stated_is d syntax index s holds read)) ∙ found in
+          ap (λ (t : NodeInfos). node_number t.paths (take i.from path)) (sym (stated_is d syntax index s holds read))
+          ∙ found in
           let (low, parent_is) = number_is old_index.paths (take i.from path) parent.0 here in
           record {
             low = low;
             path_is = ap (λ (p : List Part). p ++ key text.now ∷ []) (parent_is ∙ prefix) ∙ sym whole;
-            fresh = ap (λ (ps : List (List Part)). node_number ps path) (paths-nodes_in s) ∙ no_number path (mentions_in s) added.fresh;
+            fresh = ap (λ (ps : List (List Part)). node_number ps path) (paths-nodes_in s)
+                ∙ no_number path (mentions_in s) added.fresh;
             within = subst (λ (n : ℕ). n ≤ length old_index.paths) at (few_before s more line);
             place = subst (IsPlaceOf (numbers_of numbers) (infos_in s)) at is_place;
             told = told;
@@ -157,7 +178,8 @@ module _ (d : ProfiledText) (syntax : Syntax) (index : NodeInfos) (path : List P
           }
 
     -- where nothing is in the value, the new document is such a one
-    pub line_changed : value_depth v ≤ 0 → (kind : Kind) → kind ≡ fact_kind (body_fact v.body) → IsIndexChange s new (change.AddedLine parent text numbers kind)
+    pub line_changed : value_depth v ≤ 0 → (kind : Kind) → kind ≡ fact_kind (body_fact v.body)
+        → IsIndexChange s new (change.AddedLine parent text numbers kind)
     line_changed flat kind kind_is =
         let added : IsLineAdded s new path (fact_kind (body_fact v.body)) parent text.now numbers =
         line_added new
@@ -166,8 +188,11 @@ module _ (d : ProfiledText) (syntax : Syntax) (index : NodeInfos) (path : List P
         record {
           can = can_add added;
           told = λ u is. is
-              ∙ ap (with_node old_index (place_in s numbers) (numbers_of numbers) (path_numbered old_index parent.0 ++ key text.now ∷ [])) kind_is
-              ∙ ap (λ (p : List Part). with_node old_index (place_in s numbers) (numbers_of numbers) p (fact_kind (body_fact v.body))) added.path_is
+              ∙ ap (with_node old_index (place_in s numbers) (numbers_of numbers)
+              (path_numbered old_index parent.0 ++ key text.now ∷ [])) kind_is
+              ∙ ap (λ (p : List Part).
+              with_node old_index (place_in s numbers) (numbers_of numbers) p (fact_kind (body_fact v.body)))
+              added.path_is
               ∙ added.told;
           nested = added.nested;
         }

@@ -3,11 +3,13 @@
 --
 -- The law of the edit says that the old document has one line more, after the statements that are counted for its
 -- numbers (`line_of_value`, `line_numbers`). So its node is the one that is met after those that they tell of, and a
--- path has one number (`line_less`). The nodes that are left are nested as the headers say, since none of them was below
+-- path has one number (`line_less`). The nodes that are left are nested as the headers say, since none of them was
+-- below
 -- the line's (`nested_less`).
 --
 -- Theorem: `line_removed`.
-use Rattle.std.proofs.Common.{◌≡◌, ℕ, ◌<◌, ◌≤◌, false, List, [], length, get_or, map, sym, ap, subst, ◌∙◌, arith, None, Some, slice_get}
+use Rattle.std.proofs.Common.{◌≡◌, ℕ, ◌<◌, ◌≤◌, false, List, [], length, get_or, map, sym, ap, subst, ◌∙◌, arith, None}
+use Rattle.std.proofs.Common.{Some, slice_get}
 use Rattle.std.specs.List.{filter_map, insert as put}
 use Rattle.std.proofs.lemmas.List.Edits.{get_or-insert_at, length-insert}
 use Rattle.keep_types.specs.declared.syntax.Owner.TheVariants as owner
@@ -43,9 +45,12 @@ use Rattle.keep_edit_plan.proofs.KindLaws.{nothing_below}
 use Rattle.keep_edit_plan.proofs.PathNumberLaws.{number_at, paths_differ}
 use Rattle.keep_edit_plan.proofs.RemoveCut.{IsLineOfValue, line_arm, removal_law}
 
-module _ (d : ProfiledText) (syntax : Syntax) (index : NodeInfos) (path : List Part) (s : Document) (holds : Holds d syntax index) (read : IsTextOfTree d s)
-    (id : NodeId) (its_number : IsNodeOf path s id) (allowed : refusal d.profile limit s (remove path) ≡ None) (number : ℕ)
-    (found : value_number_of path s ≡ Some number) (info : ValueInfo) (stored : slice_get (values_of syntax) number ≡ Some info)
+module _ (d : ProfiledText) (syntax : Syntax) (index : NodeInfos) (path : List Part) (s : Document)
+    (holds : Holds d syntax index) (read : IsTextOfTree d s)
+    (id : NodeId) (its_number : IsNodeOf path s id) (allowed : refusal d.profile limit s (remove path) ≡ None)
+    (number : ℕ)
+    (found : value_number_of path s ≡ Some number) (info : ValueInfo)
+    (stored : slice_get (values_of syntax) number ≡ Some info)
     (line : ℕ) (owned : info.owner ≡ owner.Line line) (one : info.keys ≡ 1) where
   abbrev new : Document
   new = edited_document s (remove path)
@@ -66,7 +71,9 @@ module _ (d : ProfiledText) (syntax : Syntax) (index : NodeInfos) (path : List P
   here = ap (λ (ps : List (List Part)). node_number ps path) (paths-nodes_in s) ∙ its_number
 
   pub nested : AreNested (mentions_in s) (reading_after start (statements_in s)).tables
-  nested = subst (λ (u : Document). AreNested (mentions_in u) (reading_after start (statements_in u)).tables) (tree_is d syntax index s holds read) holds.nested
+  nested =
+      subst (λ (u : Document). AreNested (mentions_in u) (reading_after start (statements_in u)).tables)
+      (tree_is d syntax index s holds read) holds.nested
 
   numbers_are : numbers_after (filter_map line_statement (map line_of of.pre)) ≡ numbers_of numbers
   numbers_are =
@@ -77,7 +84,8 @@ module _ (d : ProfiledText) (syntax : Syntax) (index : NodeInfos) (path : List P
 
   -- a document that has the line more than the new one, with nothing below its node
   module _ (more : Document) (taken : HasLineAt new more path (body_fact held.body) (map line_of of.pre))
-      (there : node_number (telling_in more).paths path ≡ Some id.0) (alone : children path (node_paths (mentions_in more)) ≡ []) where
+      (there : node_number (telling_in more).paths path ≡ Some id.0)
+      (alone : children path (node_paths (mentions_in more)) ≡ []) where
     abbrev its_line : HasLineMore new more
     its_line = taken.line
 
@@ -91,9 +99,11 @@ module _ (d : ProfiledText) (syntax : Syntax) (index : NodeInfos) (path : List P
         let k : ℕ = nodes_after its_line.before in
         let p : List Part = path_after its_line.before its_line.text in
         let low : k ≤ length (telling_in new).paths = few_before new more its_line in
-        let many : ps ≡ put (telling_in new).paths k p = ap (λ (t : NodeInfos). t.paths) (line_adds_node new more its_line fresh) in
+        let many : ps ≡ put (telling_in new).paths k p =
+        ap (λ (t : NodeInfos). t.paths) (line_adds_node new more its_line fresh) in
         let stands : get_or ps k [] ≡ path =
-        ap (λ (l : List (List Part)). get_or l k []) many ∙ get_or-insert_at (telling_in new).paths k p [] low ∙ taken.place in
+        ap (λ (l : List (List Part)). get_or l k []) many ∙ get_or-insert_at (telling_in new).paths k p [] low
+        ∙ taken.place in
         let within : k < length ps = omega (arith, low, ap length many, length-insert (telling_in new).paths k p low) in
         let both : Some k ≡ Some id.0 = sym (number_at ps (paths_differ more) k path within stands) ∙ there in
         cc
@@ -110,11 +120,14 @@ module _ (d : ProfiledText) (syntax : Syntax) (index : NodeInfos) (path : List P
         (ap (λ (p : List Part). children p (node_paths (mentions_in more))) taken.place ∙ alone)
 
   -- where no node is below the value, the old document is such a one
-  pub line_removed : (count : ℕ) → count ≡ length (children_numbered index id.0) → count ≤ 0 → IsIndexChange s new (change.RemovedLine id numbers)
+  pub line_removed : (count : ℕ) → count ≡ length (children_numbered index id.0) → count ≤ 0
+      → IsIndexChange s new (change.RemovedLine id numbers)
   line_removed count counted few =
-      let alone : children path (node_paths (mentions_in s)) ≡ [] = nothing_below d syntax index path s holds read id its_number count counted few in
+      let alone : children path (node_paths (mentions_in s)) ≡ [] =
+      nothing_below d syntax index path s holds read id its_number count counted few in
       let taken : HasLineAt new s path (body_fact held.body) (map line_of of.pre) =
-      remove_takes_line s path (map line_of of.pre) held read.obeys (line_of_value path s of.pre of.rest of.was of.found one_key alone) in
+      remove_takes_line s path (map line_of of.pre) held read.obeys
+      (line_of_value path s of.pre of.rest of.was of.found one_key alone) in
       record {
         can = (number_is (telling_in s).paths path id.0 here).0;
         told = λ u is. is ∙ line_less s taken here alone;

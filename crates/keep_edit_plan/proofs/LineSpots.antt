@@ -1,8 +1,11 @@
--- Where lines are put in, the place of `insert` is that of the spot, and it lies between characters. What the code requires of the
--- spot holds: its header is one of the statements, its keyval's line has an end, and the steps that are written are keys.
+-- Where lines are put in, the place of `insert` is that of the spot, and it lies between characters. What the code
+-- requires of the
+-- spot holds: its header is one of the statements, its keyval's line has an end, and the steps that are written are
+-- keys.
 --
 -- Theorems: `body_ready`, `line_ready`, `section_ready`.
-use Rattle.std.proofs.Common.{◌≡◌, ℕ, ◌<◌, ◌≤◌, true, false, List, ◌∷◌, length, take, drop, slice_get, refl, sym, ap, subst, ◌∙◌, arith, Option, Some, None, inl, inr}
+use Rattle.std.proofs.Common.{◌≡◌, ℕ, ◌<◌, ◌≤◌, true, false, List, ◌∷◌, length, take, drop, slice_get, refl, sym, ap}
+use Rattle.std.proofs.Common.{subst, ◌∙◌, arith, Option, Some, None, inl, inr}
 use Rattle.std.specs.Prelude.{IsCharBoundary}
 use Rattle.std.specs.List.{list_any}
 use Rattle.std.specs.Option.{option_map, option_and_then}
@@ -19,7 +22,9 @@ use Rattle.keep_edit_spec.specs.Changed as changed
 use Rattle.keep_edit_spec.specs.Edits.{insert, place}
 use Rattle.keep_edit_spec.specs.Look.{holder, is_index, item_number, keys_in}
 use Rattle.keep_edit_spec.specs.Refusals.{refusal}
-use Rattle.keep_edit_spec.proofs.Shared.{rules_of_document, IsLowPlace, IsBaseAt, IsDottedPlaced, IsThroughHeader, element_placed, header_placed, headed_within, holder_prefix, plain_rest, root_placed, through_header, through_placed, dotted_placed}
+use Rattle.keep_edit_spec.proofs.Shared.{rules_of_document, IsLowPlace, IsBaseAt, IsDottedPlaced, IsThroughHeader}
+use Rattle.keep_edit_spec.proofs.Shared.{element_placed, header_placed, headed_within, holder_prefix, plain_rest}
+use Rattle.keep_edit_spec.proofs.Shared.{root_placed, through_header, through_placed, dotted_placed}
 use Rattle.keep_edit_plan.specs.Reading.{limit, ProfiledText, IsTextOfTree}
 use Rattle.keep_edit_plan.specs.Inserting.{IsBase, IsKeyvalSpot, is_dotted_origin, line_end_of, new_line_at, origin_of}
 use Rattle.keep_edit_plan.specs.PutLines.{body_end_of, keyval_end_of, new_section_at}
@@ -36,7 +41,8 @@ pub record IsPutAt (path : List Part) (v : Value) (s : Document) (from at : ℕ)
   pub boundary : IsCharBoundary (text s) at
   pub keys : list_any is_index (drop from path) ≡ false
 
-put_at : (path : List Part) (v : Value) (s : Document) (from at : ℕ) (p : changed.Place) → p.start ≡ at → IsLowPlace s (insert path v) p → list_any is_index (drop from path) ≡ false → IsPutAt path v s from at p
+put_at : (path : List Part) (v : Value) (s : Document) (from at : ℕ) (p : changed.Place) → p.start ≡ at
+    → IsLowPlace s (insert path v) p → list_any is_index (drop from path) ≡ false → IsPutAt path v s from at p
 put_at path v s from at p start h keys = record {
   placed = h.placed;
   within = omega (arith, start, h.within);
@@ -47,7 +53,8 @@ put_at path v s from at p start h keys = record {
 -- after the body of the root, or of a header
 pub record IsBodyReady (path : List Part) (v : Value) (s : Document) (from : ℕ) (header : Option ℕ) : Type 0 where
   pub within : (h : ℕ) → header ≡ Some h → h < length (syntax.statements s)
-  pub put : IsPutAt path v s from (body_end_of s header) (new_line_at s (body_end_of s header) (keys_in (drop from path)) v)
+  pub put : IsPutAt path v s from (body_end_of s header)
+      (new_line_at s (body_end_of s header) (keys_in (drop from path)) v)
 
 -- after the line of a keyval
 pub record IsLineReady (path : List Part) (v : Value) (s : Document) (from value : ℕ) : Type 0 where
@@ -61,7 +68,8 @@ pub record IsSectionReady (path : List Part) (v : Value) (s : Document) (from he
   pub first : List ℕ
   pub more : List (List ℕ)
   pub table : keys_in (take from path) ≡ first ∷ more
-  pub put : IsPutAt path v s from (body_end_of s (Some header)) (new_section_at s (body_end_of s (Some header)) (keys_in (take from path)) (keys_in (drop from path)) v)
+  pub put : IsPutAt path v s from (body_end_of s (Some header))
+      (new_section_at s (body_end_of s (Some header)) (keys_in (take from path)) (keys_in (drop from path)) v)
 
 not_dotted : (p : Origin) (n : ℕ) → is_dotted_origin p ≡ false → p ≡ origin.Dotted n → ⊥
 not_dotted p n h e = let k : is_dotted_origin p ≡ true = ap is_dotted_origin e in absurd cc
@@ -73,26 +81,37 @@ base_at a s from h = record {
   dots = λ n less more. dotted_of (origin_of (take n a) s) (h.dots n less more);
 }
 
-module _ (d : ProfiledText) (path : List Part) (v : Value) (s : Document) (read : IsTextOfTree d s) (allowed : refusal d.profile limit s (insert path v) ≡ None) (no_item : item_number path (mentions_in s) ≡ None) where
+module _ (d : ProfiledText) (path : List Part) (v : Value) (s : Document) (read : IsTextOfTree d s)
+    (allowed : refusal d.profile limit s (insert path v) ≡ None)
+    (no_item : item_number path (mentions_in s) ≡ None) where
   abbrev a : List Part
   a = holder path (mentions_in s)
 
   plain_at : (from : ℕ) → from ≡ length a → list_any is_index (drop from path) ≡ false
-  plain_at from e = ap (λ (n : ℕ). list_any is_index (drop n path)) e ∙ plain_rest d.profile limit s path v read.reads.valid no_item allowed
+  plain_at from e =
+      ap (λ (n : ℕ). list_any is_index (drop n path)) e
+      ∙ plain_rest d.profile limit s path v read.reads.valid no_item allowed
 
   -- the place with the keys from that number on
-  line_put : (from at : ℕ) → from ≡ length a → IsLowPlace s (insert path v) (new_line_at s at (keys_in (drop (length a) path)) v) → IsPutAt path v s from at (new_line_at s at (keys_in (drop from path)) v)
+  line_put : (from at : ℕ) → from ≡ length a
+      → IsLowPlace s (insert path v) (new_line_at s at (keys_in (drop (length a) path)) v)
+      → IsPutAt path v s from at (new_line_at s at (keys_in (drop from path)) v)
   line_put from at e h =
       put_at path v s from at (new_line_at s at (keys_in (drop from path)) v) refl
-      (subst (λ (n : ℕ). IsLowPlace s (insert path v) (new_line_at s at (keys_in (drop n path)) v)) (sym e) h) (plain_at from e)
+      (subst (λ (n : ℕ). IsLowPlace s (insert path v) (new_line_at s at (keys_in (drop n path)) v)) (sym e) h)
+      (plain_at from e)
 
-  pub body_ready : (from : ℕ) (header : Option ℕ) → IsKeyvalSpot a s from (AfterBody header) → IsBodyReady path v s from header
+  pub body_ready : (from : ℕ) (header : Option ℕ) → IsKeyvalSpot a s from (AfterBody header)
+      → IsBodyReady path v s from header
   body_ready from None h = record {
     within = λ n e. absurd cc;
-    put = line_put from (body_end_of s None) (h.1 ∙ sym (ap (λ (l : List Part). length l) h.0)) (root_placed d.profile limit s path v read.reads.valid no_item allowed h.0);
+    put = line_put from (body_end_of s None) (h.1 ∙ sym (ap (λ (l : List Part). length l) h.0))
+        (root_placed d.profile limit s path v read.reads.valid no_item allowed h.0);
   }
   body_ready from (Some n) h = record {
-    within = λ m e. let same : n ≡ m = cc in subst (λ (k : ℕ). k < length (syntax.statements s)) same (headed_within a s n h.0);
+    within =
+        λ m e. let same : n ≡ m =
+        cc in subst (λ (k : ℕ). k < length (syntax.statements s)) same (headed_within a s n h.0);
     put = line_put from (body_end_of s (Some n)) h.1 (elim h.0 [
       | inl e ↦ header_placed d.profile limit s path v read.reads.valid no_item allowed n e
       | inr e ↦ element_placed d.profile limit s path v read.reads.valid no_item allowed n e
@@ -101,11 +120,15 @@ module _ (d : ProfiledText) (path : List Part) (v : Value) (s : Document) (read 
 
   pub line_ready : (from value : ℕ) → IsKeyvalSpot a s from (AfterLine value) → IsLineReady path v s from value
   line_ready from value h =
-      let p : IsDottedPlaced s path v from value = dotted_placed d.profile limit s path v read.reads.valid (rules_of_document s read.obeys) no_item allowed from value h.0 (base_at a s from h.1) h.2 in
+      let p : IsDottedPlaced s path v from value =
+      dotted_placed d.profile limit s path v read.reads.valid (rules_of_document s read.obeys) no_item allowed from
+      value h.0 (base_at a s from h.1) h.2 in
       record {
         at = p.statement.line.end;
-        ends = ap (option_and_then (line_end_of (syntax.statements s))) p.here ∙ by_owner p.own.owner p.line p.owned ∙ ap (option_map (λ (t : Statement). t.line.end)) p.there;
-        put = put_at path v s from p.statement.line.end (new_line_at s p.statement.line.end (keys_in (drop from path)) v) refl p.placed p.keys;
+        ends = ap (option_and_then (line_end_of (syntax.statements s))) p.here ∙ by_owner p.own.owner p.line p.owned
+            ∙ ap (option_map (λ (t : Statement). t.line.end)) p.there;
+        put = put_at path v s from p.statement.line.end
+            (new_line_at s p.statement.line.end (keys_in (drop from path)) v) refl p.placed p.keys;
       }
     where
       by_owner : (o : Owner) (n : ℕ) → o ≡ owner.Line n → elim o [
@@ -119,7 +142,8 @@ module _ (d : ProfiledText) (path : List Part) (v : Value) (s : Document) (read 
         | owner.Item n ↦ None
       ]) e
 
-  pub section_ready : (from header : ℕ) → IsKeyvalSpot a s from (NewSection header) → IsSectionReady path v s from header
+  pub section_ready : (from header : ℕ) → IsKeyvalSpot a s from (NewSection header)
+      → IsSectionReady path v s from header
   section_ready from header h =
       let t : IsThroughHeader a s header = through_header a s header h.0 in
       let at : ℕ = body_end_of s (Some header) in
@@ -130,6 +154,8 @@ module _ (d : ProfiledText) (path : List Part) (v : Value) (s : Document) (read 
         more = t.more;
         table = ap (λ (n : ℕ). keys_in (take n path)) h.1 ∙ ap keys_in prefix ∙ t.keys;
         put = put_at path v s from at (new_section_at s at (keys_in (take from path)) (keys_in (drop from path)) v) refl
-            (subst (λ (n : ℕ). IsLowPlace s (insert path v) (new_section_at s at (keys_in (take n path)) (keys_in (drop n path)) v)) (sym h.1) (through_placed d.profile limit s path v read.reads.valid no_item allowed header h.0))
+            (subst (λ (n : ℕ).
+            IsLowPlace s (insert path v) (new_section_at s at (keys_in (take n path)) (keys_in (drop n path)) v))
+            (sym h.1) (through_placed d.profile limit s path v read.reads.valid no_item allowed header h.0))
             (plain_at from h.1);
       }

@@ -1,13 +1,18 @@
--- An insert of one key at the end of a body, with anything in its value, gives the index the node of the line, and below it
+-- An insert of one key at the end of a body, with anything in its value, gives the index the node of the line, and
+-- below it
 -- those in the value.
 --
--- The law of the edit gives a document between the old and the new one, which has the line with nothing in its value. What is
--- known of its nodes is known of any document with a line more (`line_added`), and from it to the new one there is another
--- value (`value_gives_nodes`). The line's node has the number under which it was put (`number_at`), and no node is below it,
+-- The law of the edit gives a document between the old and the new one, which has the line with nothing in its value.
+-- What is
+-- known of its nodes is known of any document with a line more (`line_added`), and from it to the new one there is
+-- another
+-- value (`value_gives_nodes`). The line's node has the number under which it was put (`number_at`), and no node is
+-- below it,
 -- since below a path without a node there is none (`nothing_gone`).
 --
 -- Theorem: `line_value_added`.
-use Rattle.std.proofs.Common.{◌≡◌, ℕ, zero, suc, ◌+◌, ◌-◌, Bor, List, [], ◌++◌, length, get_or, take, slice_get, refl, sym, ap, ap₂, ◌∙◌, arith, Option, Some, None, Ok}
+use Rattle.std.proofs.Common.{◌≡◌, ℕ, zero, suc, ◌+◌, ◌-◌, Bor, List, [], ◌++◌, length, get_or, take, slice_get, refl}
+use Rattle.std.proofs.Common.{sym, ap, ap₂, ◌∙◌, arith, Option, Some, None, Ok}
 use Rattle.std.specs.List.{insert as put}
 use Rattle.std.proofs.lemmas.List.Edits.{get_or-insert_above, get_or-insert_at, length-insert}
 use Rattle.keep_types.specs.declared.leaf.Profile.TheVariants.{Wide}
@@ -47,8 +52,10 @@ use Rattle.keep_edit_plan.proofs.PathNumberLaws.{has_number, number_at, paths_di
 
 -- ---- another value for a line that has nothing in it
 
-module _ (s bare new : Document) (path : List Part) (v : Value) (parent : NodeId) (text : List ℕ) (numbers : LineNumbers)
-    (added : IsLineAdded s bare path (fact_kind (body_fact v.body)) parent text numbers) (other : HasOtherValue bare new path v) where
+module _ (s bare new : Document) (path : List Part) (v : Value) (parent : NodeId) (text : List ℕ)
+    (numbers : LineNumbers)
+    (added : IsLineAdded s bare path (fact_kind (body_fact v.body)) parent text numbers)
+    (other : HasOtherValue bare new path v) where
   abbrev old_paths : List (List Part)
   old_paths = (telling_in s).paths
 
@@ -65,62 +72,86 @@ module _ (s bare new : Document) (path : List Part) (v : Value) (parent : NodeId
   one_longer = ap length paths_are ∙ length-insert old_paths place path added.within
 
   stands : get_or (telling_in bare).paths place [] ≡ path
-  stands = ap (λ (ps : List (List Part)). get_or ps place []) paths_are ∙ get_or-insert_at old_paths place path [] added.within
+  stands =
+      ap (λ (ps : List (List Part)). get_or ps place []) paths_are
+      ∙ get_or-insert_at old_paths place path [] added.within
 
   -- below a path that had no node there was none
   no_longer : (more : List Part) → node_number old_paths (path ++ more) ≡ None
   no_longer more =
       ap (λ (ps : List (List Part)). node_number ps (path ++ more)) (paths-nodes_in s)
-      ∙ added.was.closed path more (ap (λ (ps : List (List Part)). node_number ps path) (sym (paths-nodes_in s)) ∙ added.fresh)
+      ∙ added.was.closed path more (ap (λ (ps : List (List Part)). node_number ps path) (sym (paths-nodes_in s))
+      ∙ added.fresh)
 
   nothing_gone : (gone : ℕ) → AreBelow (telling_in bare).paths place gone → gone ≡ 0
   nothing_gone zero below = refl
   nothing_gone (suc n) below =
       let (more, some, is) = below.below (place + 1) (omega arith) (omega arith) in
       let was : get_or old_paths place [] ≡ path ++ more =
-      sym (ap (λ (ps : List (List Part)). get_or ps (place + 1) []) paths_are ∙ get_or-insert_above old_paths place path [] place (omega arith) added.within)
+      sym (ap (λ (ps : List (List Part)). get_or ps (place + 1) []) paths_are
+      ∙ get_or-insert_above old_paths place path [] place (omega arith) added.within)
       ∙ is ∙ ap (λ (p : List Part). p ++ more) stands in
       absurd (has_number old_paths place (path ++ more) (omega (arith, below.within, one_longer)) was (no_longer more))
 
-  pub value_added : with_value (with_node (telling_in s) place (numbers_of numbers) path kind) place 0 (totals_of bare) (totals_of new) (nodes_in_value v) kind
+  pub value_added : with_value (with_node (telling_in s) place (numbers_of numbers) path kind) place 0 (totals_of bare)
+      (totals_of new) (nodes_in_value v) kind
       ≡ telling_in new
   value_added =
       let here : node_number (telling_in bare).paths path ≡ Some place =
-      number_at (telling_in bare).paths (paths_differ bare) place path (omega (arith, one_longer, added.within)) stands in
+      number_at (telling_in bare).paths (paths_differ bare) place path (omega (arith, one_longer, added.within))
+      stands in
       let (gone, below, is) = value_gives_nodes bare new path v other place here in
       sym (is
-      ∙ ap (λ (n : ℕ). with_value (telling_in bare) place n (totals_of bare) (totals_of new) (nodes_in_value v) kind) (nothing_gone gone below)
-      ∙ ap (λ (t : NodeInfos). with_value t place 0 (totals_of bare) (totals_of new) (nodes_in_value v) kind) (sym added.told))
+      ∙ ap (λ (n : ℕ). with_value (telling_in bare) place n (totals_of bare) (totals_of new) (nodes_in_value v) kind)
+      (nothing_gone gone below)
+      ∙ ap (λ (t : NodeInfos). with_value t place 0 (totals_of bare) (totals_of new) (nodes_in_value v) kind)
+      (sym added.told))
 
 -- ---- the insert
 
-module _ (law : InsertAddsValue) (d : ProfiledText) (syntax : Syntax) (index : NodeInfos) (path : List Part) (s : Document) (v : Value) (given : Bor (List ℕ))
+module _ (law : InsertAddsValue) (d : ProfiledText) (syntax : Syntax) (index : NodeInfos) (path : List Part)
+    (s : Document) (v : Value) (given : Bor (List ℕ))
     (i : Insertion) (holds : Holds d syntax index) (read : IsTextOfTree d s) (value : IsTextOfValue given.now v)
-    (there : IsInsertionOf d.profile path v s (Ok i)) (utf8 : AreUtf8 path) (header : Option ℕ) (after_body : i.spot ≡ AfterBody header)
-    (text : Bor (List ℕ)) (step : slice_get path i.from ≡ Some (key text.now)) (few : length path - i.from ≡ 1) (parent : NodeId)
+    (there : IsInsertionOf d.profile path v s (Ok i)) (utf8 : AreUtf8 path) (header : Option ℕ)
+    (after_body : i.spot ≡ AfterBody header)
+    (text : Bor (List ℕ)) (step : slice_get path i.from ≡ Some (key text.now)) (few : length path - i.from ≡ 1)
+    (parent : NodeId)
     (found : node_number index.paths (take i.from path) ≡ Some parent.0) (numbers : LineNumbers)
-    (are : AreNumbersAfter (holder path (mentions_in s)) s numbers) (old : shift.Totals) (many : totals_in old ≡ totals_of s) where
+    (are : AreNumbersAfter (holder path (mentions_in s)) s numbers) (old : shift.Totals)
+    (many : totals_in old ≡ totals_of s) where
   abbrev new : Document
   new = edited_document s (insert path v)
 
   pub line_value_added : IsIndexChange s new (change.AddedValue parent text numbers given old)
   line_value_added =
       let of_value : IsGivenValue Wide v = record { valid = value.reads.valid; obeys = value.obeys } in
-      let one = whole d syntax index path s v given.now i holds read value there utf8 header after_body text step few parent found numbers are in
-      let (bare, is_bare, other) = law d.profile limit s path text.now v are.line (editable d s read) of_value (keys_utf8 path utf8) there.0 one are.ends in
+      let one =
+      whole d syntax index path s v given.now i holds read value there utf8 header after_body text step few parent found
+      numbers are in
+      let (bare, is_bare, other) =
+      law d.profile limit s path text.now v are.line (editable d s read) of_value (keys_utf8 path utf8) there.0 one
+      are.ends in
       let added : IsLineAdded s bare path (fact_kind (body_fact v.body)) parent text.now numbers =
-      line_added d syntax index path s v given.now i holds read value there utf8 header after_body text step few parent found numbers are bare is_bare.line in
+      line_added d syntax index path s v given.now i holds read value there utf8 header after_body text step few parent
+      found numbers are bare is_bare.line in
       let both : ℕ → ℕ → Totals = λ a b. record { values = a; keys = b } in
-      let totals : one_more (totals_in old) ≡ totals_of bare = ap one_more many ∙ sym (ap₂ both is_bare.values is_bare.keys) in
+      let totals : one_more (totals_in old) ≡ totals_of bare =
+      ap one_more many ∙ sym (ap₂ both is_bare.values is_bare.keys) in
       record {
         can = can_add added;
         told = λ u is. is v value
-            ∙ ap (λ (p : List Part). with_value (with_node (telling_in s) (place_in s numbers) (numbers_of numbers) p (fact_kind (body_fact v.body)))
-            (place_in s numbers) 0 (one_more (totals_in old)) (totals_of new) (nodes_in_value v) (fact_kind (body_fact v.body))) added.path_is
-            ∙ ap (λ (t : Totals). with_value (with_node (telling_in s) (place_in s numbers) (numbers_of numbers) path (fact_kind (body_fact v.body)))
+            ∙ ap (λ (p : List Part).
+            with_value (with_node (telling_in s) (place_in s numbers) (numbers_of numbers) p
+            (fact_kind (body_fact v.body)))
+            (place_in s numbers) 0 (one_more (totals_in old)) (totals_of new) (nodes_in_value v)
+            (fact_kind (body_fact v.body))) added.path_is
+            ∙ ap (λ (t : Totals).
+            with_value (with_node (telling_in s) (place_in s numbers) (numbers_of numbers) path
+            (fact_kind (body_fact v.body)))
             (place_in s numbers) 0 t (totals_of new) (nodes_in_value v) (fact_kind (body_fact v.body))) totals
             ∙ value_added s bare new path v parent text.now numbers added other;
         nested =
             value_is_nested bare new path v other is_bare.obeys
-            (insert_lawful d.profile limit s path v (editable d s read) of_value (keys_utf8 path utf8) there.0).obeys added.nested;
+            (insert_lawful d.profile limit s path v (editable d s read) of_value (keys_utf8 path utf8) there.0).obeys
+            added.nested;
       }

@@ -1,11 +1,15 @@
 -- A remove of a keyval's line, of one key part, takes from the index the nodes in its value, and then that of the line.
 --
--- The law of the edit gives a document between the old and the new one, which has the line with nothing in its value. From the
--- old one to it there is another value, in which there are no nodes (`value_gives_nodes`), so the line's node keeps its number
--- (`number_kept`), and no node is below it (`empty_has_no_child`). From it to the new one there is a line less (`line_less`).
+-- The law of the edit gives a document between the old and the new one, which has the line with nothing in its value.
+-- From the
+-- old one to it there is another value, in which there are no nodes (`value_gives_nodes`), so the line's node keeps its
+-- number
+-- (`number_kept`), and no node is below it (`empty_has_no_child`). From it to the new one there is a line less
+-- (`line_less`).
 --
 -- Theorem: `line_value_removed`.
-use Rattle.std.proofs.Common.{◌≡◌, ℕ, suc, ◌+◌, List, [], ◌++◌, length, get_or, take, drop, map, refl, sym, ap, ap₂, ◌∙◌, arith, length-append, None, Some, slice_get}
+use Rattle.std.proofs.Common.{◌≡◌, ℕ, suc, ◌+◌, List, [], ◌++◌, length, get_or, take, drop, map, refl, sym, ap, ap₂}
+use Rattle.std.proofs.Common.{◌∙◌, arith, length-append, None, Some, slice_get}
 use Rattle.std.proofs.lemmas.List.{get_or-take, get_or_append_left, length-take-le}
 use Rattle.keep_types.specs.declared.node.Kind.{Kind}
 use Rattle.keep_types.specs.declared.syntax.Owner.TheVariants as owner
@@ -46,22 +50,30 @@ use Rattle.keep_edit_plan.proofs.RemoveCut.{IsLineOfValue}
 
 -- a value's own path is among those before the nodes in it, so it keeps its number
 number_kept : (s bare : Document) (path : List Part) (i gone : ℕ) (old new : Totals) (inside : NodeInfos) (kind : Kind)
-    → node_number (telling_in s).paths path ≡ Some i → telling_in bare ≡ with_value (telling_in s) i gone old new inside kind
+    → node_number (telling_in s).paths path ≡ Some i
+    → telling_in bare ≡ with_value (telling_in s) i gone old new inside kind
     → node_number (telling_in bare).paths path ≡ Some i
 number_kept s bare path i gone old new inside kind here is =
     let ps : List (List Part) = (telling_in s).paths in
-    let late : List (List Part) = map (λ (p : List Part). get_or ps i [] ++ p) (drop 1 inside.paths) ++ drop (suc i + gone) ps in
+    let late : List (List Part) =
+    map (λ (p : List Part). get_or ps i [] ++ p) (drop 1 inside.paths) ++ drop (suc i + gone) ps in
     let (low, stands) = number_is ps path i here in
     let front : length (take (suc i) ps) ≡ suc i = length-take-le (suc i) ps (omega (arith, low)) in
     let are : (telling_in bare).paths ≡ take (suc i) ps ++ late = ap (λ (t : NodeInfos). t.paths) is in
-    number_at (telling_in bare).paths (paths_differ bare) i path (omega (arith, ap length are, length-append (take (suc i) ps) late, front))
-    (ap (λ (l : List (List Part)). get_or l i []) are ∙ get_or_append_left (take (suc i) ps) late [] i (omega (arith, front))
+    number_at (telling_in bare).paths (paths_differ bare) i path
+    (omega (arith, ap length are, length-append (take (suc i) ps) late, front))
+    (ap (λ (l : List (List Part)). get_or l i []) are
+    ∙ get_or_append_left (take (suc i) ps) late [] i (omega (arith, front))
     ∙ get_or-take (suc i) ps i [] (omega arith) ∙ stands)
 
-module _ (law : RemoveTakesValue) (d : ProfiledText) (syntax : Syntax) (index : NodeInfos) (path : List Part) (s : Document) (holds : Holds d syntax index)
-    (read : IsTextOfTree d s) (id : NodeId) (its_number : IsNodeOf path s id) (allowed : refusal d.profile limit s (remove path) ≡ None) (number : ℕ)
-    (found : value_number_of path s ≡ Some number) (info : ValueInfo) (stored : slice_get (values_of syntax) number ≡ Some info) (line : ℕ)
-    (owned : info.owner ≡ owner.Line line) (one : info.keys ≡ 1) (old : shift.Totals) (many : totals_in old ≡ totals_of s) where
+module _ (law : RemoveTakesValue) (d : ProfiledText) (syntax : Syntax) (index : NodeInfos) (path : List Part)
+    (s : Document) (holds : Holds d syntax index)
+    (read : IsTextOfTree d s) (id : NodeId) (its_number : IsNodeOf path s id)
+    (allowed : refusal d.profile limit s (remove path) ≡ None) (number : ℕ)
+    (found : value_number_of path s ≡ Some number) (info : ValueInfo)
+    (stored : slice_get (values_of syntax) number ≡ Some info) (line : ℕ)
+    (owned : info.owner ≡ owner.Line line) (one : info.keys ≡ 1) (old : shift.Totals)
+    (many : totals_in old ≡ totals_of s) where
   abbrev new : Document
   new = edited_document s (remove path)
 
@@ -95,18 +107,21 @@ module _ (law : RemoveTakesValue) (d : ProfiledText) (syntax : Syntax) (index : 
     changed gone below is =
         let there : node_number (telling_in bare).paths path ≡ Some id.0 =
         number_kept s bare path id.0 gone (totals_of s) (totals_of bare) root_infos kind here is in
-        let alone : children path (node_paths (mentions_in bare)) ≡ [] = empty_has_no_child s bare path (bare_value held) other refl in
+        let alone : children path (node_paths (mentions_in bare)) ≡ [] =
+        empty_has_no_child s bare path (bare_value held) other refl in
         let less =
         removal.line_less d syntax index path s holds read id its_number allowed number found info stored line owned one
         bare is_bare.line there alone in
         let left =
-        removal.nested_less d syntax index path s holds read id its_number allowed number found info stored line owned one
+        removal.nested_less d syntax index path s holds read id its_number allowed number found info stored line owned
+        one
         bare is_bare.line there alone in
         record {
           can = (number_is (telling_in s).paths path id.0 here).0;
           told = λ u by. by gone kind below
               ∙ ap (λ (t : NodeInfos). without_node t id.0 (numbers_of numbers))
-              (ap (λ (t : Totals). with_value (telling_in s) id.0 gone t (one_more (totals_of new)) root_infos kind) many
+              (ap (λ (t : Totals). with_value (telling_in s) id.0 gone t (one_more (totals_of new)) root_infos kind)
+              many
               ∙ ap (λ (t : Totals). with_value (telling_in s) id.0 gone (totals_of s) t root_infos kind) (sym totals)
               ∙ sym is)
               ∙ less;
@@ -114,11 +129,13 @@ module _ (law : RemoveTakesValue) (d : ProfiledText) (syntax : Syntax) (index : 
         }
 
     taken : IsIndexChange s new (change.RemovedValue id numbers old)
-    taken = let (gone, below, is) = value_gives_nodes s bare path (bare_value held) other id.0 here in changed gone below is
+    taken = let (gone, below, is) =
+        value_gives_nodes s bare path (bare_value held) other id.0 here in changed gone below is
 
   pub line_value_removed : IsIndexChange s new (change.RemovedValue id numbers old)
   line_value_removed =
-      let one_key = removal.one_key d syntax index path s holds read id its_number allowed number found info stored line owned one in
+      let one_key =
+      removal.one_key d syntax index path s holds read id its_number allowed number found info stored line owned one in
       let its_line = value_line path s of.pre of.rest of.was of.found one_key in
       let (bare, other, is_bare) = law d.profile limit s path (map line_of of.pre) held (editable d s read) its_line in
       taken bare other is_bare

@@ -11,8 +11,10 @@ use Rattle.keep_edit_plan.specs.Newlines.{newline_among}
 abbrev or_line_feed : Option Written → Written
 or_line_feed o = elim o [ Some w ↦ w | None ↦ record { leaf = leaf.Newline; text = codes "\n" } ]
 
-among_by : (w : Written) (at : ℕ) (ws : List Written) (l : Leaf) → newline_among (placed (at + length w.text) ws) ≡ (or_line_feed (first_newline ws)).text
-    → elim l [ leaf.Newline ↦ w.text | _ ↦ newline_among (placed (at + length w.text) ws) ] ≡ (or_line_feed (elim l [ leaf.Newline ↦ Some w | _ ↦ first_newline ws ])).text
+among_by : (w : Written) (at : ℕ) (ws : List Written) (l : Leaf)
+    → newline_among (placed (at + length w.text) ws) ≡ (or_line_feed (first_newline ws)).text
+    → elim l [ leaf.Newline ↦ w.text | _ ↦ newline_among (placed (at + length w.text) ws) ]
+    ≡ (or_line_feed (elim l [ leaf.Newline ↦ Some w | _ ↦ first_newline ws ])).text
 among_by w at ws leaf.Newline more = refl
 among_by w at ws _ more = more
 
@@ -28,7 +30,8 @@ newline_is s = sym (among 0 (leaves s))
 pub newline_here : (t : Placed) (ts : List Placed) → t.leaf ≡ leaf.Newline → newline_among (t ∷ ts) ≡ t.text
 newline_here t ts e = ap (λ (l : Leaf). elim l [ leaf.Newline ↦ t.text | _ ↦ newline_among ts ]) e
 
-pub newline_later : (t : Placed) (ts : List Placed) → (t.leaf ≡ leaf.Newline → ⊥) → newline_among (t ∷ ts) ≡ newline_among ts
+pub newline_later : (t : Placed) (ts : List Placed) → (t.leaf ≡ leaf.Newline → ⊥)
+    → newline_among (t ∷ ts) ≡ newline_among ts
 newline_later t ts other = by t.leaf refl
   where
     by : (l : Leaf) → t.leaf ≡ l → elim l [ leaf.Newline ↦ t.text | _ ↦ newline_among ts ] ≡ newline_among ts

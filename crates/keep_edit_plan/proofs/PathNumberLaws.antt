@@ -15,14 +15,17 @@ use Rattle.keep_rules.proofs.Shared.{met_or_unmet, node_paths-distinct, one_plac
 use Rattle.keep_edit_plan.specs.Reading.{telling_in}
 
 -- a path that stands there has a number
-pub has_number : (ps : List (List Part)) (i : ℕ) (p : List Part) → i < length ps → get_or ps i [] ≡ p → node_number ps p ≡ None → ⊥
+pub has_number : (ps : List (List Part)) (i : ℕ) (p : List Part) → i < length ps → get_or ps i [] ≡ p
+    → node_number ps p ≡ None → ⊥
 has_number ps i p low here none = elim (met_or_unmet ps p) [
   | inl m ↦ (let clash : Some m.number ≡ None = sym m.is ∙ none in absurd cc)
-  | inr u ↦ (let met = list_any_at (same_path p) ps i [] low ((path_decides p (get_or ps i [])).1 (sym here)) in absurd cc)
+  | inr u ↦
+      (let met = list_any_at (same_path p) ps i [] low ((path_decides p (get_or ps i [])).1 (sym here)) in absurd cc)
 ]
 
 -- and it is the place
-pub number_at : (ps : List (List Part)) → AllPairs (λ p q. p ≢ q) ps → (i : ℕ) (p : List Part) → i < length ps → get_or ps i [] ≡ p → node_number ps p ≡ Some i
+pub number_at : (ps : List (List Part)) → AllPairs (λ p q. p ≢ q) ps → (i : ℕ) (p : List Part) → i < length ps
+    → get_or ps i [] ≡ p → node_number ps p ≡ Some i
 number_at ps differ i p low here = elim (met_or_unmet ps p) [
   | inl m ↦ m.is ∙ ap Some (one_place ps differ m.number i m.nested low (m.here ∙ sym here))
   | inr u ↦ absurd (has_number ps i p low here u.is)
@@ -31,4 +34,5 @@ number_at ps differ i p low here = elim (met_or_unmet ps p) [
 pub paths_differ : (s : Document) → AllPairs (λ p q. p ≢ q) (telling_in s).paths
 paths_differ s =
     subst (λ (ps : List (List Part)). AllPairs (λ p q. p ≢ q) ps) (sym (paths-nodes_in s))
-    (subst (λ (ms : List Mention). AllPairs (λ p q. p ≢ q) (node_paths ms)) (mentions-numbered_in s) (node_paths-distinct (numbered_in s)))
+    (subst (λ (ms : List Mention). AllPairs (λ p q. p ≢ q) (node_paths ms)) (mentions-numbered_in s)
+    (node_paths-distinct (numbered_in s)))

@@ -8,7 +8,9 @@
 --
 -- Theorems: `line_arm`, `entry_arm`, `section_arm`: the cut that each arm makes is the edit's; `removal_done` for the
 -- whole edit.
-use Rattle.std.proofs.Common.{◌≡◌, ℕ, zero, suc, ◌+◌, ◌<◌, ◌≤◌, true, false, List, [], ◌++◌, length, get_or, drop, slice_get, refl, sym, ap, subst, ◌∙◌, length-append, append_assoc, length-drop, get_or-drop, arith, Option, Some, None, Ok, inl, inr, drop_at}
+use Rattle.std.proofs.Common.{◌≡◌, ℕ, zero, suc, ◌+◌, ◌<◌, ◌≤◌, true, false, List, [], ◌++◌, length, get_or, drop}
+use Rattle.std.proofs.Common.{slice_get, refl, sym, ap, subst, ◌∙◌, length-append, append_assoc, length-drop}
+use Rattle.std.proofs.Common.{get_or-drop, arith, Option, Some, None, Ok, inl, inr, drop_at}
 use Rattle.keep_types.proofs.Shared.{one_of_two}
 use Rattle.std.specs.Prelude.{IsUtf8, IsCharBoundary}
 use Rattle.std.specs.List.{prefix_len}
@@ -40,7 +42,10 @@ use Rattle.keep_edit_spec.specs.Values.{removal}
 use Rattle.keep_edit_spec.specs.Laws.{IsLawfulEdit}
 use Rattle.keep_edit_spec.specs.Refusals.{refusal}
 use Rattle.keep_edit_spec.specs.Removal.{past_space, preserved_text, entry_place, line_place, section_place}
-use Rattle.keep_edit_spec.proofs.Shared.{Rules, SomeOf, IsAloneAt, rules_of_document, has_some, remove_lawful, alone_of_has, has_of_number, begun_alone, no_both, shared_define, IsValueAt, IsLineValue, IsNested, IsEdged, IsComma, is_high, IsLow, IsSectionPlaced, IsPlaced, IsRemoved, removed}
+use Rattle.keep_edit_spec.proofs.Shared.{Rules, SomeOf, IsAloneAt, rules_of_document, has_some, remove_lawful}
+use Rattle.keep_edit_spec.proofs.Shared.{alone_of_has, has_of_number, begun_alone, no_both, shared_define, IsValueAt}
+use Rattle.keep_edit_spec.proofs.Shared.{IsLineValue, IsNested, IsEdged, IsComma, is_high, IsLow, IsSectionPlaced}
+use Rattle.keep_edit_spec.proofs.Shared.{IsPlaced, IsRemoved, removed}
 use Rattle.keep_edit_plan.specs.Reading.{limit, ProfiledText, IsTextOfTree, Holds}
 use Rattle.keep_edit_plan.specs.Answers.{value_number_of, IsSpanOf}
 use Rattle.keep_edit_plan.specs.Removing.{IsHeaded, IsRemovalOf, cut_place, KeepsNothing, KeepsGap, IsEntryIn, IsCutAt}
@@ -64,52 +69,74 @@ ws_low : (c : ℕ) → is_ws c ≡ true → c < 128
 ws_low c h = grind (arith, nat_tests)
 
 -- before a byte of ASCII, or at the end
-pub low_boundary : (bytes : List ℕ) (p : ℕ) → p ≤ length bytes → is_high (first (drop p bytes)) ≡ false → IsCharBoundary bytes p
+pub low_boundary : (bytes : List ℕ) (p : ℕ) → p ≤ length bytes → is_high (first (drop p bytes)) ≡ false
+    → IsCharBoundary bytes p
 low_boundary bytes p within low = elim (cases_lt p (length bytes)) [
-  | inl l ↦ IsCharBoundary-before_ascii bytes p l (low_byte (get_or bytes p 0) (ap is_high (sym (first-drop bytes p)) ∙ low))
-  | inr g ↦ (let e : length bytes ≡ p = omega (arith, within, g) in subst (IsCharBoundary bytes) e (IsCharBoundary-end bytes))
+  | inl l ↦
+      IsCharBoundary-before_ascii bytes p l (low_byte (get_or bytes p 0) (ap is_high (sym (first-drop bytes p)) ∙ low))
+  | inr g ↦
+      (let e : length bytes ≡ p = omega (arith, within, g) in subst (IsCharBoundary bytes) e (IsCharBoundary-end bytes))
 ]
 
 space_within : (bytes : List ℕ) (at : ℕ) → at ≤ length bytes → past_space bytes at ≤ length bytes
 space_within bytes at h = omega (arith, h, prefix_len-le-length is_ws (drop at bytes), length-drop at bytes)
 
-space_boundary : (bytes : List ℕ) (at : ℕ) → IsUtf8 bytes → at ≤ length bytes → IsCharBoundary bytes at → IsCharBoundary bytes (past_space bytes at)
+space_boundary : (bytes : List ℕ) (at : ℕ) → IsUtf8 bytes → at ≤ length bytes → IsCharBoundary bytes at
+    → IsCharBoundary bytes (past_space bytes at)
 space_boundary bytes at utf8 within here = by (prefix_len is_ws (drop at bytes)) refl
   where
     by : (n : ℕ) → prefix_len is_ws (drop at bytes) ≡ n → IsCharBoundary bytes (at + prefix_len is_ws (drop at bytes))
-    by zero e = let same : at ≡ at + prefix_len is_ws (drop at bytes) = omega (arith, e) in subst (IsCharBoundary bytes) same here
+    by zero e =
+        let same : at ≡ at + prefix_len is_ws (drop at bytes) = omega (arith, e) in
+        subst (IsCharBoundary bytes) same here
     by (suc m) e =
-        let passes : is_ws (get_or (drop at bytes) m 0) ≡ true = prefix_len_passes is_ws (drop at bytes) m 0 (omega (arith, e)) in
-        let low : get_or bytes (at + m) 0 < 128 = ws_low (get_or bytes (at + m) 0) (ap is_ws (sym (get_or-drop at bytes m 0)) ∙ passes) in
+        let passes : is_ws (get_or (drop at bytes) m 0) ≡ true =
+        prefix_len_passes is_ws (drop at bytes) m 0 (omega (arith, e)) in
+        let low : get_or bytes (at + m) 0 < 128 =
+        ws_low (get_or bytes (at + m) 0) (ap is_ws (sym (get_or-drop at bytes m 0)) ∙ passes) in
         let same : at + m + 1 ≡ at + prefix_len is_ws (drop at bytes) = omega (arith, e) in
         subst (IsCharBoundary bytes) same
         (IsCharBoundary-after_ascii bytes (at + m) utf8 (omega (arith, e, space_within bytes at within)) low)
 
 -- ---- a cut that keeps nothing
 
-module _ (bytes : List ℕ) (path : List Part) (s : Document) (spelled : bytes ≡ text s) (c : Changed Document) (is : place s (remove path) ≡ place_of c) (was : IsChangeOf text s c) where
+module _ (bytes : List ℕ) (path : List Part) (s : Document) (spelled : bytes ≡ text s) (c : Changed Document)
+    (is : place s (remove path) ≡ place_of c) (was : IsChangeOf text s c) where
   whole : bytes ≡ c.before ++ (c.old ++ c.after)
   whole = spelled ∙ was.was
 
   long : length bytes ≡ length c.before + (length c.old + length c.after)
-  long = ap (λ (t : List ℕ). length t) whole ∙ length-append c.before (c.old ++ c.after) ∙ ap (λ n. length c.before + n) (length-append c.old c.after)
+  long = ap (λ (t : List ℕ). length t) whole ∙ length-append c.before (c.old ++ c.after)
+      ∙ ap (λ n. length c.before + n) (length-append c.old c.after)
 
   prefix_drop : drop (length c.before) bytes ≡ c.old ++ c.after
   prefix_drop = ap (drop (length c.before)) whole ∙ drop_at c.before (c.old ++ c.after) (length c.before) refl
 
   back_drop : drop (length c.before + length c.old) bytes ≡ c.after
-  back_drop = ap (drop (length c.before + length c.old)) (whole ∙ sym (append_assoc c.before c.old c.after)) ∙ drop_at (c.before ++ c.old) c.after (length c.before + length c.old) (length-append c.before c.old)
+  back_drop =
+      ap (drop (length c.before + length c.old)) (whole ∙ sym (append_assoc c.before c.old c.after))
+      ∙ drop_at (c.before ++ c.old) c.after (length c.before + length c.old) (length-append c.before c.old)
 
-  pub low_cut : (cut : Cut) → cut_place bytes cut ≡ place_of c → KeepsNothing cut → IsLow c.old c.after → IsCutAt path s bytes cut
+  pub low_cut : (cut : Cut) → cut_place bytes cut ≡ place_of c → KeepsNothing cut → IsLow c.old c.after
+      → IsCutAt path s bytes cut
   low_cut cut at keeps low =
       let start : cut.span.start ≡ length c.before = ap (λ (p : Place). p.start) at in
       let end : cut.span.end ≡ length c.before + length c.old = ap (λ (p : Place). p.end) at in
       let first_here : IsCharBoundary bytes cut.span.start =
-      low_boundary bytes cut.span.start (omega (arith, start, long)) (ap (λ n. is_high (first (drop n bytes))) start ∙ ap (λ (t : List ℕ). is_high (first t)) prefix_drop ∙ low.opens) in
+      low_boundary bytes cut.span.start (omega (arith, start, long))
+      (ap (λ n. is_high (first (drop n bytes))) start ∙ ap (λ (t : List ℕ). is_high (first t)) prefix_drop
+      ∙ low.opens) in
       let last_here : IsCharBoundary bytes cut.span.end =
-      low_boundary bytes cut.span.end (omega (arith, end, long)) (ap (λ n. is_high (first (drop n bytes))) end ∙ ap (λ (t : List ℕ). is_high (first t)) back_drop ∙ low.closes) in (
+      low_boundary bytes cut.span.end (omega (arith, end, long))
+      (ap (λ n. is_high (first (drop n bytes))) end ∙ ap (λ (t : List ℕ). is_high (first t)) back_drop
+      ∙ low.closes) in (
         is ∙ sym at,
-        record { ordered = omega (arith, start, end); within = omega (arith, end, long); starts = first_here; ends = last_here },
+        record {
+          ordered = omega (arith, start, end);
+          within = omega (arith, end, long);
+          starts = first_here;
+          ends = last_here;
+        },
         record {
           ordered = omega (arith, keeps.0, keeps.1);
           within = omega (arith, keeps.1, start, long);
@@ -136,17 +163,32 @@ comma_here bytes c h = low_boundary bytes c (omega (arith, h.within)) (comma_low
 comma_past : (bytes : List ℕ) (c : ℕ) → IsUtf8 bytes → IsComma bytes c → IsCharBoundary bytes (suc c)
 comma_past bytes c utf8 h =
     let e : c + 1 ≡ suc c = omega arith in
-    subst (IsCharBoundary bytes) e (IsCharBoundary-after_ascii bytes c utf8 h.within (low_byte (get_or bytes c 0) (ap is_high (sym (first-drop bytes c)) ∙ comma_low bytes c h)))
+    subst (IsCharBoundary bytes) e
+    (IsCharBoundary-after_ascii bytes c utf8 h.within
+    (low_byte (get_or bytes c 0) (ap is_high (sym (first-drop bytes c)) ∙ comma_low bytes c h)))
 
-module _ (bytes : List ℕ) (utf8 : IsUtf8 bytes) (v : ValueInfo) (edged : IsEdged bytes v) (at : IsSpanOf bytes v.span) (cut : Cut) where
+module _ (bytes : List ℕ) (utf8 : IsUtf8 bytes) (v : ValueInfo) (edged : IsEdged bytes v) (at : IsSpanOf bytes v.span)
+    (cut : Cut) where
   opens_here : IsCharBoundary bytes v.whole.start
-  opens_here = low_boundary bytes v.whole.start (omega (arith, edged.ordered, at.within)) (solid_low (first (drop v.whole.start bytes)) edged.opens)
+  opens_here =
+      low_boundary bytes v.whole.start (omega (arith, edged.ordered, at.within))
+      (solid_low (first (drop v.whole.start bytes)) edged.opens)
 
   span_by : (a b : Option ℕ) → v.comma_after ≡ a → v.comma_before ≡ b
       → cut_place bytes cut ≡ elim a [
-        | Some comma ↦ record { start = v.whole.start; end = past_space bytes (suc comma); new = preserved_text (text_at bytes (span v.span.end comma)) }
+        | Some comma ↦
+            record {
+              start = v.whole.start;
+              end = past_space bytes (suc comma);
+              new = preserved_text (text_at bytes (span v.span.end comma));
+            }
         | None ↦ elim b [
-          | Some comma ↦ record { start = comma; end = v.span.end; new = preserved_text (text_at bytes (span (suc comma) v.whole.start)) }
+          | Some comma ↦
+              record {
+                start = comma;
+                end = v.span.end;
+                new = preserved_text (text_at bytes (span (suc comma) v.whole.start));
+              }
           | None ↦ record { start = v.whole.start; end = v.span.end; new = [] }
         ]
       ] → IsSpanOf bytes cut.span
@@ -159,7 +201,8 @@ module _ (bytes : List ℕ) (utf8 : IsUtf8 bytes) (v : ValueInfo) (edged : IsEdg
         ordered = omega (arith, start, end, edged.ordered, after);
         within = omega (arith, end, space_within bytes (suc comma) within);
         starts = subst (IsCharBoundary bytes) (sym start) opens_here;
-        ends = subst (IsCharBoundary bytes) (sym end) (space_boundary bytes (suc comma) utf8 within (comma_past bytes comma utf8 occurs));
+        ends = subst (IsCharBoundary bytes) (sym end)
+            (space_boundary bytes (suc comma) utf8 within (comma_past bytes comma utf8 occurs));
       }
   span_by None (Some comma) e f h =
       let start : cut.span.start ≡ comma = ap (λ (p : Place). p.start) h in
@@ -205,7 +248,8 @@ module _ (bytes : List ℕ) (utf8 : IsUtf8 bytes) (v : ValueInfo) (edged : IsEdg
         ends = subst (IsCharBoundary bytes) (sym end) opens_here;
       }
 
-  pub entry_cut_at : (path : List Part) (s : Document) → place s (remove path) ≡ entry_place bytes v → cut_place bytes cut ≡ entry_place bytes v → KeepsGap v cut → IsCutAt path s bytes cut
+  pub entry_cut_at : (path : List Part) (s : Document) → place s (remove path) ≡ entry_place bytes v
+      → cut_place bytes cut ≡ entry_place bytes v → KeepsGap v cut → IsCutAt path s bytes cut
   entry_cut_at path s is h keeps =
       let here : IsSpanOf bytes cut.span = span_by v.comma_after v.comma_before refl refl h in
       (is ∙ sym h, here, preserved_by here keeps)
@@ -227,31 +271,50 @@ record IsChanged (path : List Part) (s : Document) (c : Changed Document) : Type
   pub cut : IsChangeOf text s c
   pub placed : IsPlaced path s c
 
-the_change : (d : ProfiledText) (path : List Part) (s : Document) → IsTextOfTree d s → refusal d.profile limit s (remove path) ≡ None → (c : Changed Document) × IsChanged path s c
+the_change : (d : ProfiledText) (path : List Part) (s : Document) → IsTextOfTree d s
+    → refusal d.profile limit s (remove path) ≡ None → (c : Changed Document) × IsChanged path s c
 the_change d path s read allowed =
-    let r : IsRemoved d.profile limit path s = removed d.profile limit path s (editable d s read) allowed in
-    (r.lawful.changed, record { is = r.lawful.is; place = ap (λ (o : Option (Changed Document)). place_of (changed_or_same s o)) r.lawful.is; cut = r.cut; placed = r.placed })
+    let r : IsRemoved d.profile limit path s = removed d.profile limit path s (editable d s read) allowed in (
+      r.lawful.changed,
+      record {
+        is = r.lawful.is;
+        place = ap (λ (o : Option (Changed Document)). place_of (changed_or_same s o)) r.lawful.is;
+        cut = r.cut;
+        placed = r.placed;
+      },
+    )
 
 -- a value and a header are not at one path
-no_header : (d : ProfiledText) (path : List Part) (s : Document) (n : ℕ) (c : Changed Document) → IsTextOfTree d s → value_number_of path s ≡ Some n → IsSectionPlaced path s c → ⊥
+no_header : (d : ProfiledText) (path : List Part) (s : Document) (n : ℕ) (c : Changed Document) → IsTextOfTree d s
+    → value_number_of path s ≡ Some n → IsSectionPlaced path s c → ⊥
 no_header d path s n c read found h =
     let rules : Rules (mentions_in s) = rules_of_document s read.obeys in
-    let alone : SomeOf (IsAloneAt path) (mentions_in s) = alone_of_has path (mentions_in s) (has_of_number path s n read.obeys found) in
+    let alone : SomeOf (IsAloneAt path) (mentions_in s) =
+    alone_of_has path (mentions_in s) (has_of_number path s n read.obeys found) in
     elim h.headed [
-      | inl d ↦ no_both is_define shared_define path (mentions_in s) (has_some is_define path (mentions_in s) (has_of path s read.obeys is_define statement_number h.number d)) alone rules
-      | inr b ↦ begun_alone s path rules (has_some is_begun path (mentions_in s) (has_of path s read.obeys is_begun statement_number h.number b)) alone
+      | inl d ↦
+          no_both is_define shared_define path (mentions_in s)
+          (has_some is_define path (mentions_in s) (has_of path s read.obeys is_define statement_number h.number d))
+          alone rules
+      | inr b ↦
+          begun_alone s path rules (has_some is_begun path (mentions_in s)
+          (has_of path s read.obeys is_begun statement_number h.number b)) alone
     ]
 
-module _ (d : ProfiledText) (syntax : Syntax) (index : NodeInfos) (path : List Part) (s : Document) (holds : Holds d syntax index) (read : IsTextOfTree d s) (allowed : refusal d.profile limit s (remove path) ≡ None) where
+module _ (d : ProfiledText) (syntax : Syntax) (index : NodeInfos) (path : List Part) (s : Document)
+    (holds : Holds d syntax index) (read : IsTextOfTree d s)
+    (allowed : refusal d.profile limit s (remove path) ≡ None) where
   statements_are : statements_of syntax ≡ numbered.statements s
   statements_are = holds.is.statements ∙ ap numbered.statements (tree_is d syntax index s holds read)
 
   values_are : values_of syntax ≡ numbered.values s
   values_are = holds.is.values ∙ ap numbered.values (tree_is d syntax index s holds read)
 
-  own_is : (number : ℕ) (info own : ValueInfo) → value_number_of path s ≡ Some number → slice_get (values_of syntax) number ≡ Some info → IsValueAt path s own → own ≡ info
+  own_is : (number : ℕ) (info own : ValueInfo) → value_number_of path s ≡ Some number
+      → slice_get (values_of syntax) number ≡ Some info → IsValueAt path s own → own ≡ info
   own_is number info own found here h =
-      one_of_two (slice_get (numbered.values s) number) own info (ap (slice_get (numbered.values s)) (one_of_two (value_number_of path s) number h.number found h.is) ∙ h.here)
+      one_of_two (slice_get (numbered.values s) number) own info
+      (ap (slice_get (numbered.values s)) (one_of_two (value_number_of path s) number h.number found h.is) ∙ h.here)
       (ap (λ (l : List ValueInfo). slice_get l number) (sym values_are) ∙ here)
 
   -- a keyval's line
@@ -267,10 +330,12 @@ module _ (d : ProfiledText) (syntax : Syntax) (index : NodeInfos) (path : List P
   pub record IsLineArm (number : ℕ) (info : ValueInfo) (line : ℕ) : Type 0 where
     pub within : line < length (statements_of syntax)
     pub ends : info.span.end ≤ length d.text
-    pub cut : (st : Statement) (cut : Cut) → slice_get (statements_of syntax) line ≡ Some st → cut_place d.text cut ≡ line_place d.text st info → KeepsNothing cut → IsCutAt path s d.text cut
+    pub cut : (st : Statement) (cut : Cut) → slice_get (statements_of syntax) line ≡ Some st
+        → cut_place d.text cut ≡ line_place d.text st info → KeepsNothing cut → IsCutAt path s d.text cut
     pub of : IsLineOfValue number info line
 
-  pub line_arm : (number : ℕ) (info : ValueInfo) (line : ℕ) → value_number_of path s ≡ Some number → slice_get (values_of syntax) number ≡ Some info → info.owner ≡ owner.Line line → IsLineArm number info line
+  pub line_arm : (number : ℕ) (info : ValueInfo) (line : ℕ) → value_number_of path s ≡ Some number
+      → slice_get (values_of syntax) number ≡ Some info → info.owner ≡ owner.Line line → IsLineArm number info line
   line_arm number info line found here owned =
       let (c, h) = the_change d path s read allowed in
       let there = value_there d syntax index path s number holds read found info here in
@@ -278,18 +343,34 @@ module _ (d : ProfiledText) (syntax : Syntax) (index : NodeInfos) (path : List P
         | inl p ↦
             (let v : IsLineValue path s p.pre p.rest = p.found in
             let same : v.own ≡ info = own_is number info v.own found here v.value in
-            let line_is : v.number ≡ line = one_line v.number line (sym v.line ∙ ap (λ (i : ValueInfo). i.owner) same ∙ owned) in
-            let occurs : slice_get (statements_of syntax) line ≡ Some v.statement = ap (λ (l : List Statement). slice_get l line) statements_are ∙ ap (slice_get (numbered.statements s)) (sym line_is) ∙ v.here in
+            let line_is : v.number ≡ line =
+            one_line v.number line (sym v.line ∙ ap (λ (i : ValueInfo). i.owner) same ∙ owned) in
+            let occurs : slice_get (statements_of syntax) line ≡ Some v.statement =
+            ap (λ (l : List Statement). slice_get l line) statements_are
+            ∙ ap (slice_get (numbered.statements s)) (sym line_is) ∙ v.here in
             record {
               within = slice_get_within (statements_of syntax) line v.statement occurs;
               ends = there.span.within;
               cut = λ st cut is at keeps.
-                  (let one : st ≡ v.statement = one_of_two (slice_get (statements_of syntax) line) st v.statement is occurs in
+                  (let one : st ≡ v.statement =
+                  one_of_two (slice_get (statements_of syntax) line) st v.statement is occurs in
                   low_cut d.text path s read.reads.spelled c h.place h.cut cut
-                  (at ∙ ap (λ (t : Statement). line_place d.text t info) one ∙ ap (line_place d.text v.statement) (sym same) ∙ ap (λ (b : List ℕ). line_place b v.statement v.own) read.reads.spelled ∙ p.place) keeps p.low);
-              of = record { pre = p.pre; rest = p.rest; was = p.was; found = v; own_is = same; value_is = one_of_two (value_number_of path s) v.value.number number v.value.is found; line_is = line_is };
+                  (at ∙ ap (λ (t : Statement). line_place d.text t info) one
+                  ∙ ap (line_place d.text v.statement) (sym same)
+                  ∙ ap (λ (b : List ℕ). line_place b v.statement v.own) read.reads.spelled ∙ p.place) keeps p.low);
+              of = record {
+                pre = p.pre;
+                rest = p.rest;
+                was = p.was;
+                found = v;
+                own_is = same;
+                value_is = one_of_two (value_number_of path s) v.value.number number v.value.is found;
+                line_is = line_is;
+              };
             })
-        | inr (inl (p, inside)) ↦ absurd (not_nested p.own.owner line p.nested (ap (λ (i : ValueInfo). i.owner) (own_is number info p.own found here p.value) ∙ owned))
+        | inr (inl (p, inside)) ↦
+            absurd (not_nested p.own.owner line p.nested
+            (ap (λ (i : ValueInfo). i.owner) (own_is number info p.own found here p.value) ∙ owned))
         | inr (inr p) ↦ absurd (no_header d path s number c read found p)
       ]
 
@@ -297,19 +378,26 @@ module _ (d : ProfiledText) (syntax : Syntax) (index : NodeInfos) (path : List P
   pub record IsEntryArm (info : ValueInfo) : Type 0 where
     pub inside : change s (remove path) ≡ in_value removal path s
     pub nested : IsEntryIn d.text info
-    pub cut : (cut : Cut) → cut_place d.text cut ≡ entry_place d.text info → KeepsGap info cut → IsCutAt path s d.text cut
+    pub cut : (cut : Cut) → cut_place d.text cut ≡ entry_place d.text info → KeepsGap info cut
+        → IsCutAt path s d.text cut
 
-  pub entry_arm : (number : ℕ) (info : ValueInfo) → value_number_of path s ≡ Some number → slice_get (values_of syntax) number ≡ Some info → ((i : ℕ) → info.owner ≡ owner.Line i → ⊥) → IsEntryArm info
+  pub entry_arm : (number : ℕ) (info : ValueInfo) → value_number_of path s ≡ Some number
+      → slice_get (values_of syntax) number ≡ Some info → ((i : ℕ) → info.owner ≡ owner.Line i → ⊥) → IsEntryArm info
   entry_arm number info found here other =
       let (c, h) = the_change d path s read allowed in
       let there = value_there d syntax index path s number holds read found info here in
       elim h.placed [
-        | inl p ↦ absurd (other p.found.number (sym (ap (λ (i : ValueInfo). i.owner) (own_is number info p.found.own found here p.found.value)) ∙ p.found.line))
+        | inl p ↦
+            absurd (other p.found.number (sym
+            (ap (λ (i : ValueInfo). i.owner) (own_is number info p.found.own found here p.found.value)) ∙ p.found.line))
         | inr (inl (p, inside)) ↦
             (let same : p.own ≡ info = own_is number info p.own found here p.value in
-            let edged : IsEdged d.text info = subst (λ (i : ValueInfo). IsEdged d.text i) same (subst (λ (b : List ℕ). IsEdged b p.own) (sym read.reads.spelled) p.edged) in
+            let edged : IsEdged d.text info =
+            subst (λ (i : ValueInfo). IsEdged d.text i) same
+            (subst (λ (b : List ℕ). IsEdged b p.own) (sym read.reads.spelled) p.edged) in
             let is : place s (remove path) ≡ entry_place d.text info =
-            h.place ∙ sym p.place ∙ ap (λ (b : List ℕ). entry_place b p.own) (sym read.reads.spelled) ∙ ap (entry_place d.text) same in
+            h.place ∙ sym p.place ∙ ap (λ (b : List ℕ). entry_place b p.own) (sym read.reads.spelled)
+            ∙ ap (entry_place d.text) same in
             record {
               inside = h.is ∙ sym inside;
               nested = entry_in d.text info edged there.span;
@@ -321,9 +409,11 @@ module _ (d : ProfiledText) (syntax : Syntax) (index : NodeInfos) (path : List P
   -- a header with its body
   pub record IsSectionArm (number : ℕ) : Type 0 where
     pub within : number < length (statements_of syntax)
-    pub cut : (cut : Cut) → cut_place d.text cut ≡ section_place (drop number (statements_of syntax)) → KeepsNothing cut → IsCutAt path s d.text cut
+    pub cut : (cut : Cut) → cut_place d.text cut ≡ section_place (drop number (statements_of syntax)) → KeepsNothing cut
+        → IsCutAt path s d.text cut
 
-  headed_is : (n m : ℕ) → IsHeaded path s n → (c : Changed Document) (p : IsSectionPlaced path s c) → p.number ≡ m → m ≡ n
+  headed_is : (n m : ℕ) → IsHeaded path s n → (c : Changed Document) (p : IsSectionPlaced path s c) → p.number ≡ m
+      → m ≡ n
   headed_is n m (inl (d, b)) c p e = elim p.headed [
     | inl k ↦ sym e ∙ one_of_two _ p.number n k d
     | inr k ↦ (let bad : Some p.number ≡ None = sym k ∙ b in absurd cc)
@@ -344,7 +434,8 @@ module _ (d : ProfiledText) (syntax : Syntax) (index : NodeInfos) (path : List P
             record {
               within = omega (arith, same, p.within, ap (λ (l : List Statement). length l) statements_are);
               cut = λ cut at keeps. low_cut d.text path s read.reads.spelled c h.place h.cut cut
-                  (at ∙ ap (λ (l : List Statement). section_place (drop number l)) statements_are ∙ ap (λ n. section_place (drop n (numbered.statements s))) (sym same) ∙ p.place) keeps p.low;
+                  (at ∙ ap (λ (l : List Statement). section_place (drop number l)) statements_are
+                  ∙ ap (λ n. section_place (drop n (numbered.statements s))) (sym same) ∙ p.place) keeps p.low;
             })
       ]
     where
@@ -353,8 +444,11 @@ module _ (d : ProfiledText) (syntax : Syntax) (index : NodeInfos) (path : List P
 
 -- ---- the edit
 
-pub removal_law : (d : ProfiledText) (path : List Part) (s : Document) → IsTextOfTree d s → refusal d.profile limit s (remove path) ≡ None → IsLawfulEdit d.profile limit s (remove path)
+pub removal_law : (d : ProfiledText) (path : List Part) (s : Document) → IsTextOfTree d s
+    → refusal d.profile limit s (remove path) ≡ None → IsLawfulEdit d.profile limit s (remove path)
 removal_law d path s read allowed = remove_lawful d.profile limit s path (editable d s read) allowed
 
-pub removal_done : (d : ProfiledText) (path : List Part) (s : Document) (piece : Piece) (cut : Cut) → IsRemovalOf d.profile path s (Ok piece) → IsCutAt path s d.text cut → IsDoneAt s (remove path) d (text_at d.text cut.preserved) (Ok cut.span)
+pub removal_done : (d : ProfiledText) (path : List Part) (s : Document) (piece : Piece) (cut : Cut)
+    → IsRemovalOf d.profile path s (Ok piece) → IsCutAt path s d.text cut
+    → IsDoneAt s (remove path) d (text_at d.text cut.preserved) (Ok cut.span)
 removal_done d path s piece cut h at = (h.0, at.0, at.1)

@@ -7,7 +7,8 @@
 -- gives is that of the key part (`key_found`); so the edit is done there (`renamed_there`).
 --
 -- Theorems: `scattered`, `allowed`, `renamed_there` and `law_of`.
-use Rattle.std.proofs.Common.{◌≡◌, ℕ, suc, ◌-◌, Bool, true, false, List, [], ◌∷◌, ◌++◌, length, take, slice_get, refl, sym, ap, subst, ◌∙◌, arith, Option, Some, None, Ok}
+use Rattle.std.proofs.Common.{◌≡◌, ℕ, suc, ◌-◌, Bool, true, false, List, [], ◌∷◌, ◌++◌, length, take, slice_get, refl}
+use Rattle.std.proofs.Common.{sym, ap, subst, ◌∙◌, arith, Option, Some, None, Ok}
 use Rattle.std.specs.Prelude.{not, ◌&&◌, ◌||◌, ◌==◌, ◌++◌, IsUtf8, is_some}
 use Rattle.std.specs.Option.{option_and_then}
 use Rattle.std.proofs.lemmas.Bool.{eqb-true}
@@ -20,7 +21,8 @@ use Rattle.keep_types.specs.declared.node.NodeInfo.{NodeInfo}
 use Rattle.keep_meaning.specs.Meaning.{mentions_in}
 use Rattle.keep_rules.specs.declared.index.NodeId.{NodeId}
 use Rattle.keep_rules.specs.Lookup.{number_of}
-use Rattle.keep_meaning.specs.Nodes.{is_root, is_node, mark_count, node_at, node_number, node_paths, nodes_in, key_span_of}
+use Rattle.keep_meaning.specs.Nodes.{is_root, is_node, mark_count, node_at, node_number, node_paths, nodes_in}
+use Rattle.keep_meaning.specs.Nodes.{key_span_of}
 use Rattle.keep_rules.specs.ReadDocuments.{IsIndexOf}
 use Rattle.keep_meaning.specs.Counts.{numbered_in}
 use Rattle.keep_syntax.specs.Numbered as numbered
@@ -34,7 +36,8 @@ use Rattle.keep_edit_spec.specs.Edits.{rename}
 use Rattle.keep_edit_spec.specs.Laws.{IsLawfulEdit}
 use Rattle.keep_edit_spec.specs.Look.{last_part, without_last, is_index}
 use Rattle.keep_edit_spec.specs.Refusals.{refusal, first_that_holds, ends_in_index, beside}
-use Rattle.keep_edit_spec.proofs.Shared.{rename_lawful, false_unless, IsKeyRenamed, marks_stated, rename_placed, rename_place_is}
+use Rattle.keep_edit_spec.proofs.Shared.{rename_lawful, false_unless, IsKeyRenamed, marks_stated, rename_placed}
+use Rattle.keep_edit_spec.proofs.Shared.{rename_place_is}
 use Rattle.keep_edit_plan.specs.Reading.{limit, ProfiledText, Holds, IsTextOfTree}
 use Rattle.keep_edit_plan.specs.Places.{IsDoneAt}
 use Rattle.keep_edit_plan.proofs.AnswerLaws.{index_of, stated_is, tree_is}
@@ -44,9 +47,12 @@ use Rattle.keep_edit_plan.proofs.EditedLaws.{editable}
 
 -- ---- the refusal
 
--- by the tests in their order: the path names a node, is the root's, ends in an index; the new key names a node; one mark
+-- by the tests in their order: the path names a node, is the root's, ends in an index; the new key names a node; one
+-- mark
 abbrev rename_refusal : Bool → Bool → Bool → Bool → Bool → Option EditFault
-rename_refusal a r i x c = first_that_holds ((not a, fault.NotFound) ∷ ((not r && not i) && x, fault.Exists) ∷ (r || i, fault.NotKey) ∷ (not c, fault.Scattered) ∷ [])
+rename_refusal a r i x c =
+    first_that_holds ((not a, fault.NotFound) ∷ ((not r && not i) && x, fault.Exists) ∷ (r || i, fault.NotKey)
+    ∷ (not c, fault.Scattered) ∷ [])
 
 no_node_by : (a r i x c : Bool) → a ≡ false → rename_refusal a r i x c ≡ Some fault.NotFound
 no_node_by false r i x c e = refl
@@ -58,14 +64,16 @@ no_key_by true true i x c e f = refl
 no_key_by true false true x c e f = refl
 no_key_by true false false x c e f = absurd cc
 
-exists_by : (a r i x c : Bool) → a ≡ true → (not r && not i) ≡ true → x ≡ true → rename_refusal a r i x c ≡ Some fault.Exists
+exists_by : (a r i x c : Bool) → a ≡ true → (not r && not i) ≡ true → x ≡ true
+    → rename_refusal a r i x c ≡ Some fault.Exists
 exists_by false r i x c e f g = absurd cc
 exists_by true true i x c e f g = absurd cc
 exists_by true false true x c e f g = absurd cc
 exists_by true false false false c e f g = absurd cc
 exists_by true false false true c e f g = refl
 
-marked_by : (a r i x c : Bool) → a ≡ true → (not r && not i) ≡ true → x ≡ false → rename_refusal a r i x c ≡ first_that_holds ((not c, fault.Scattered) ∷ [])
+marked_by : (a r i x c : Bool) → a ≡ true → (not r && not i) ≡ true → x ≡ false
+    → rename_refusal a r i x c ≡ first_that_holds ((not c, fault.Scattered) ∷ [])
 marked_by false r i x c e f g = absurd cc
 marked_by true true i x c e f g = absurd cc
 marked_by true false true x c e f g = absurd cc
@@ -78,17 +86,29 @@ ends_in_key path = not (is_root path) && not (ends_in_index path)
 
 module _ (profile : Profile) (s : Document) (path : List Part) (t : List ℕ) where
   pub not_found : is_node path (mentions_in s) ≡ false → refusal profile limit s (rename path t) ≡ Some fault.NotFound
-  not_found e = no_node_by (is_node path (mentions_in s)) (is_root path) (ends_in_index path) (is_node (beside path t) (mentions_in s)) (mark_count path (mentions_in s) == 1) e
+  not_found e =
+      no_node_by (is_node path (mentions_in s)) (is_root path) (ends_in_index path)
+      (is_node (beside path t) (mentions_in s)) (mark_count path (mentions_in s) == 1) e
 
-  pub not_key : is_node path (mentions_in s) ≡ true → ends_in_key path ≡ false → refusal profile limit s (rename path t) ≡ Some fault.NotKey
-  not_key e f = no_key_by (is_node path (mentions_in s)) (is_root path) (ends_in_index path) (is_node (beside path t) (mentions_in s)) (mark_count path (mentions_in s) == 1) e f
+  pub not_key : is_node path (mentions_in s) ≡ true → ends_in_key path ≡ false
+      → refusal profile limit s (rename path t) ≡ Some fault.NotKey
+  not_key e f =
+      no_key_by (is_node path (mentions_in s)) (is_root path) (ends_in_index path)
+      (is_node (beside path t) (mentions_in s)) (mark_count path (mentions_in s) == 1) e f
 
-  pub exists_there : is_node path (mentions_in s) ≡ true → ends_in_key path ≡ true → is_node (beside path t) (mentions_in s) ≡ true → refusal profile limit s (rename path t) ≡ Some fault.Exists
-  exists_there e f g = exists_by (is_node path (mentions_in s)) (is_root path) (ends_in_index path) (is_node (beside path t) (mentions_in s)) (mark_count path (mentions_in s) == 1) e f g
+  pub exists_there : is_node path (mentions_in s) ≡ true → ends_in_key path ≡ true
+      → is_node (beside path t) (mentions_in s) ≡ true → refusal profile limit s (rename path t) ≡ Some fault.Exists
+  exists_there e f g =
+      exists_by (is_node path (mentions_in s)) (is_root path) (ends_in_index path)
+      (is_node (beside path t) (mentions_in s)) (mark_count path (mentions_in s) == 1) e f g
 
-  marked : is_node path (mentions_in s) ≡ true → ends_in_key path ≡ true → is_node (beside path t) (mentions_in s) ≡ false
-      → refusal profile limit s (rename path t) ≡ first_that_holds ((not (mark_count path (mentions_in s) == 1), fault.Scattered) ∷ [])
-  marked e f g = marked_by (is_node path (mentions_in s)) (is_root path) (ends_in_index path) (is_node (beside path t) (mentions_in s)) (mark_count path (mentions_in s) == 1) e f g
+  marked : is_node path (mentions_in s) ≡ true → ends_in_key path ≡ true
+      → is_node (beside path t) (mentions_in s) ≡ false
+      → refusal profile limit s (rename path t)
+      ≡ first_that_holds ((not (mark_count path (mentions_in s) == 1), fault.Scattered) ∷ [])
+  marked e f g =
+      marked_by (is_node path (mentions_in s)) (is_root path) (ends_in_index path)
+      (is_node (beside path t) (mentions_in s)) (mark_count path (mentions_in s) == 1) e f g
 
 -- ---- the path
 
@@ -130,22 +150,28 @@ by_nothing (p ∷ q ∷ ps) e = absurd (none_last q ps e)
     none_last q (r ∷ ps) e = none_last r ps e
 
 -- a node that was looked for is there exactly if it was found
-pub node_test : (d : ProfiledText) (syntax : Syntax) (index : NodeInfos) (path : List Part) (s : Document) → Holds d syntax index → IsTextOfTree d s
+pub node_test : (d : ProfiledText) (syntax : Syntax) (index : NodeInfos) (path : List Part) (s : Document)
+    → Holds d syntax index → IsTextOfTree d s
     → (o : Option NodeId) → number_of o ≡ node_number index.paths path → is_node path (mentions_in s) ≡ is_some o
 node_test d syntax index path s holds read None found = none_found d syntax index path s holds read None refl found
 node_test d syntax index path s holds read (Some id) found =
-    let paths : index.paths ≡ node_paths (mentions_in s) = ap (λ (t : NodeInfos). t.paths) (stated_is d syntax index s holds read) ∙ paths-nodes_in s in
+    let paths : index.paths ≡ node_paths (mentions_in s) =
+    ap (λ (t : NodeInfos). t.paths) (stated_is d syntax index s holds read) ∙ paths-nodes_in s in
     a_node path (mentions_in s) id.0 (ap (λ (ps : List (List Part)). node_number ps path) (sym paths) ∙ sym found)
 
-pub beside_test : (d : ProfiledText) (syntax : Syntax) (index : NodeInfos) (path : List Part) (t : List ℕ) (s : Document) → Holds d syntax index → IsTextOfTree d s
-    → (o : Option NodeId) → number_of o ≡ node_number index.paths (take (length path - 1) path ++ key t ∷ []) → is_node (beside path t) (mentions_in s) ≡ is_some o
+pub beside_test : (d : ProfiledText) (syntax : Syntax) (index : NodeInfos) (path : List Part) (t : List ℕ)
+    (s : Document) → Holds d syntax index → IsTextOfTree d s
+    → (o : Option NodeId) → number_of o ≡ node_number index.paths (take (length path - 1) path ++ key t ∷ [])
+    → is_node (beside path t) (mentions_in s) ≡ is_some o
 beside_test d syntax index path t s holds read o found =
-    ap (λ q. is_node q (mentions_in s)) (sym (beside_is path t)) ∙ node_test d syntax index (take (length path - 1) path ++ key t ∷ []) s holds read o found
+    ap (λ q. is_node q (mentions_in s)) (sym (beside_is path t))
+    ∙ node_test d syntax index (take (length path - 1) path ++ key t ∷ []) s holds read o found
 
 -- ---- where the key is
 
 -- what was looked up of the path's node, where it ends in a key and the new key is free
-pub record IsOneKey (d : ProfiledText) (t : List ℕ) (path : List Part) (s : Document) (info : NodeInfo) (key_span : Option Span) : Type 0 where
+pub record IsOneKey (d : ProfiledText) (t : List ℕ) (path : List Part) (s : Document) (info : NodeInfo)
+    (key_span : Option Span) : Type 0 where
   pub read : IsTextOfTree d s
   pub utf8 : IsUtf8 t
   pub stated : IsStated path s info
@@ -154,19 +180,28 @@ pub record IsOneKey (d : ProfiledText) (t : List ℕ) (path : List Part) (s : Do
   pub fresh : is_node (beside path t) (mentions_in s) ≡ false
 
 -- the span that the index gives of the node's key
-pub key_found : (d : ProfiledText) (syntax : Syntax) (index : NodeInfos) (path : List Part) (s : Document) → Holds d syntax index → IsTextOfTree d s → (id : NodeId) (o : Option NodeId) → o ≡ Some id → number_of o ≡ node_number index.paths path
-    → (key_span : Option Span) → ((u : Document) → IsSyntaxOf syntax u → IsIndexOf u index → key_span ≡ option_and_then (key_span_of (numbered.parts u)) (slice_get (nodes_in u) id.0))
+pub key_found : (d : ProfiledText) (syntax : Syntax) (index : NodeInfos) (path : List Part) (s : Document)
+    → Holds d syntax index → IsTextOfTree d s → (id : NodeId) (o : Option NodeId) → o ≡ Some id
+    → number_of o ≡ node_number index.paths path
+    → (key_span : Option Span)
+    → ((u : Document) → IsSyntaxOf syntax u → IsIndexOf u index
+    → key_span ≡ option_and_then (key_span_of (numbered.parts u)) (slice_get (nodes_in u) id.0))
     → key_span ≡ key_span_of (numbered.parts s) (node_at (numbered_in s) path)
 key_found d syntax index path s holds read id o one found key_span is =
-    is s (subst (λ (u : Document). IsSyntaxOf syntax u) (tree_is d syntax index s holds read) holds.is) (index_of d syntax index s holds read)
+    is s (subst (λ (u : Document). IsSyntaxOf syntax u) (tree_is d syntax index s holds read) holds.is)
+    (index_of d syntax index s holds read)
     ∙ ap (option_and_then (key_span_of (numbered.parts s))) (node_found d syntax index path s holds read id o one found)
 
-module _ (d : ProfiledText) (t : List ℕ) (path : List Part) (s : Document) (info : NodeInfo) (key_span : Option Span) (at : IsOneKey d t path s info key_span) where
+module _ (d : ProfiledText) (t : List ℕ) (path : List Part) (s : Document) (info : NodeInfo) (key_span : Option Span)
+    (at : IsOneKey d t path s info key_span) where
   marks_are : info.marks ≡ mark_count path (mentions_in s)
   marks_are = ap (λ (i : NodeInfo). i.marks) at.stated.is ∙ marks_stated path s
 
-  refusal_is : (b : Bool) → (info.marks == 1) ≡ b → refusal d.profile limit s (rename path t) ≡ first_that_holds ((not b, fault.Scattered) ∷ [])
-  refusal_is b e = marked d.profile s path t at.stated.node at.by_key at.fresh ∙ ap (λ c. first_that_holds ((not c, fault.Scattered) ∷ [])) (ap (λ n. n == 1) (sym marks_are) ∙ e)
+  refusal_is : (b : Bool) → (info.marks == 1) ≡ b
+      → refusal d.profile limit s (rename path t) ≡ first_that_holds ((not b, fault.Scattered) ∷ [])
+  refusal_is b e =
+      marked d.profile s path t at.stated.node at.by_key at.fresh
+      ∙ ap (λ c. first_that_holds ((not c, fault.Scattered) ∷ [])) (ap (λ n. n == 1) (sym marks_are) ∙ e)
 
   pub scattered : (info.marks ≡ 1 → ⊥) → refusal d.profile limit s (rename path t) ≡ Some fault.Scattered
   scattered other = refusal_is false (false_unless (info.marks == 1) (λ e. other (eqb-true info.marks 1 e)))
@@ -174,7 +209,8 @@ module _ (d : ProfiledText) (t : List ℕ) (path : List Part) (s : Document) (in
   pub allowed : info.marks ≡ 1 → refusal d.profile limit s (rename path t) ≡ None
   allowed e = refusal_is true (ap (λ n. n == 1) e)
 
-  renamed : (e : info.marks ≡ 1) → (law : IsLawfulEdit d.profile limit s (rename path t)) → IsKeyRenamed path t s law.changed
+  renamed : (e : info.marks ≡ 1) → (law : IsLawfulEdit d.profile limit s (rename path t))
+      → IsKeyRenamed path t s law.changed
   renamed e law = rename_placed path t s law.changed (sym marks_are ∙ e) law.is
 
   lawful : info.marks ≡ 1 → IsLawfulEdit d.profile limit s (rename path t)
@@ -187,13 +223,15 @@ module _ (d : ProfiledText) (t : List ℕ) (path : List Part) (s : Document) (in
       let k : None ≡ Some h.own.span = sym none ∙ at.key_is ∙ h.span in
       absurd cc
 
-  pub renamed_there : (span : Span) → info.marks ≡ 1 → key_span ≡ Some span → IsDoneAt s (rename path t) d (encoded_key t) (Ok span)
+  pub renamed_there : (span : Span) → info.marks ≡ 1 → key_span ≡ Some span
+      → IsDoneAt s (rename path t) d (encoded_key t) (Ok span)
   renamed_there span e here =
       let law = lawful e in
       let h = renamed e law in
       let same : Some h.own.span ≡ Some span = sym h.span ∙ sym at.key_is ∙ here in
       let own : h.own.span ≡ span = (let k : h.own.span ≡ span = cc in k) in
-      let part = parts_readable d.text d.profile s at.read.utf8 at.read.reads.valid at.read.reads.spelled h.number h.own h.here in
+      let part =
+      parts_readable d.text d.profile s at.read.utf8 at.read.reads.valid at.read.reads.spelled h.number h.own h.here in
       subst (λ (x : Span). IsDoneAt s (rename path t) d (encoded_key t) (Ok x)) own (
         allowed e,
         rename_place_is path t s law.changed h law.is,
@@ -201,5 +239,6 @@ module _ (d : ProfiledText) (t : List ℕ) (path : List Part) (s : Document) (in
       )
 
 -- the law of a rename that is not refused
-pub law_of : (d : ProfiledText) (s : Document) (path : List Part) (t : List ℕ) → IsTextOfTree d s → IsUtf8 t → refusal d.profile limit s (rename path t) ≡ None → IsLawfulEdit d.profile limit s (rename path t)
+pub law_of : (d : ProfiledText) (s : Document) (path : List Part) (t : List ℕ) → IsTextOfTree d s → IsUtf8 t
+    → refusal d.profile limit s (rename path t) ≡ None → IsLawfulEdit d.profile limit s (rename path t)
 law_of d s path t read utf8 allowed = rename_lawful d.profile limit s path t (editable d s read) utf8 allowed

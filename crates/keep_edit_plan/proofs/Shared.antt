@@ -2,4 +2,5 @@
 pub use Rattle.keep_edit_plan.proofs.ReadLaws.{one_tree}
 pub use Rattle.keep_edit_plan.proofs.AnswerLaws.{seen, text_seen, profile_seen, stated_is, tokens_are}
 pub use Rattle.keep_edit_plan.proofs.NodeLaws.{no_node, a_node, kind_stated}
-pub use Rattle.keep_edit_plan.proofs.FoundLaws.{fact_node, none_found, one_found, value_nested, value_there, IsStated, IsValueThere}
+pub use Rattle.keep_edit_plan.proofs.FoundLaws.{fact_node, none_found, one_found, value_nested, value_there, IsStated}
+pub use Rattle.keep_edit_plan.proofs.FoundLaws.{IsValueThere}

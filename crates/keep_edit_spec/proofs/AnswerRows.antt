@@ -6,7 +6,9 @@ use Rattle.keep_token.specs.Scanning.{gap_at, key_at, scalar_at}
 use Rattle.keep_token.specs.Words.{word_leaf}
 use Rattle.keep_syntax.specs.Limit.{standard_depth}
 use Rattle.keep_syntax.specs.Tree.{Document, leaves, text}
-use Rattle.keep_syntax.specs.Reading.{Fault, repeat, space_at, blank_from, further_at, key_of, name_of, item_by, entry_by, value_of, content_at, comment_at, line_at, ended_at, read_document, read_one_value}
+use Rattle.keep_syntax.specs.Reading.{Fault, repeat, space_at, blank_from, further_at, key_of, name_of, item_by}
+use Rattle.keep_syntax.specs.Reading.{entry_by, value_of, content_at, comment_at, line_at, ended_at, read_document}
+use Rattle.keep_syntax.specs.Reading.{read_one_value}
 use Rattle.keep_types.specs.declared.node.Kind.{Kind}
 use Rattle.keep_types.specs.declared.node.Kind.TheVariants as kind
 use Rattle.keep_path.specs.Path.{Part, key, index}
@@ -57,7 +59,8 @@ number_with_comment : StatesEdits (codes "a = 1 # x\n") (
     ∷ gets [] (Err fault.NotValue)
     ∷ string_is (key (codes "a") ∷ []) (Err fault.NotValue)
     ∷ [])
-unfolding repeat space_at blank_from further_at key_of name_of item_by entry_by value_of content_at comment_at line_at ended_at read_document read_one_value gap_at key_at scalar_at word_leaf
+unfolding repeat space_at blank_from further_at key_of name_of item_by entry_by value_of content_at comment_at line_at
+    ended_at read_document read_one_value gap_at key_at scalar_at word_leaf
 number_with_comment = refl
 
 value_in_value : StatesEdits (codes "a = [1, {b = [ 2, 3 ]}]\n[t]\n") (
@@ -65,46 +68,56 @@ value_in_value : StatesEdits (codes "a = [1, {b = [ 2, 3 ]}]\n[t]\n") (
     ∷ gets (key (codes "a") ∷ index 1 ∷ key (codes "b") ∷ index 1 ∷ []) (Ok (codes "3"))
     ∷ gets (key (codes "t") ∷ []) (Err fault.NotValue)
     ∷ [])
-unfolding repeat space_at blank_from further_at key_of name_of item_by entry_by value_of content_at comment_at line_at ended_at read_document read_one_value gap_at key_at scalar_at word_leaf
+unfolding repeat space_at blank_from further_at key_of name_of item_by entry_by value_of content_at comment_at line_at
+    ended_at read_document read_one_value gap_at key_at scalar_at word_leaf
 value_in_value = refl
 
 string_without_escapes : StatesEdits (codes "a = \"x\\n\"\n") (
     gets (key (codes "a") ∷ []) (Ok (codes "\"x\\n\""))
     ∷ string_is (key (codes "a") ∷ []) (Ok (codes "x\n"))
     ∷ [])
-unfolding repeat space_at blank_from further_at key_of name_of item_by entry_by value_of content_at comment_at line_at ended_at read_document read_one_value gap_at key_at scalar_at word_leaf
+unfolding repeat space_at blank_from further_at key_of name_of item_by entry_by value_of content_at comment_at line_at
+    ended_at read_document read_one_value gap_at key_at scalar_at word_leaf
 string_without_escapes = refl
 
 empty : StatesEdits [] (counts 1 1 ∷ lists [] ∷ [])
-unfolding repeat space_at blank_from further_at key_of name_of item_by entry_by value_of content_at comment_at line_at ended_at read_document read_one_value gap_at key_at scalar_at word_leaf
+unfolding repeat space_at blank_from further_at key_of name_of item_by entry_by value_of content_at comment_at line_at
+    ended_at read_document read_one_value gap_at key_at scalar_at word_leaf
 empty = refl
 
 two_keys : StatesEdits (codes "a = 1\nb = true\n") (counts 13 3 ∷ [])
-unfolding repeat space_at blank_from further_at key_of name_of item_by entry_by value_of content_at comment_at line_at ended_at read_document read_one_value gap_at key_at scalar_at word_leaf
+unfolding repeat space_at blank_from further_at key_of name_of item_by entry_by value_of content_at comment_at line_at
+    ended_at read_document read_one_value gap_at key_at scalar_at word_leaf
 two_keys = refl
 
 arrays_in_arrays : StatesEdits (codes "a = [1, [2, 'x'],]") (counts 17 6 ∷ [])
-unfolding repeat space_at blank_from further_at key_of name_of item_by entry_by value_of content_at comment_at line_at ended_at read_document read_one_value gap_at key_at scalar_at word_leaf
+unfolding repeat space_at blank_from further_at key_of name_of item_by entry_by value_of content_at comment_at line_at
+    ended_at read_document read_one_value gap_at key_at scalar_at word_leaf
 arrays_in_arrays = refl
 
 braces_with_dotted_keys : StatesEdits (codes "a = {b.c = 1, b.d = {}}") (counts 24 5 ∷ [])
-unfolding repeat space_at blank_from further_at key_of name_of item_by entry_by value_of content_at comment_at line_at ended_at read_document read_one_value gap_at key_at scalar_at word_leaf
+unfolding repeat space_at blank_from further_at key_of name_of item_by entry_by value_of content_at comment_at line_at
+    ended_at read_document read_one_value gap_at key_at scalar_at word_leaf
 braces_with_dotted_keys = refl
 
 elements_in_elements : StatesEdits (codes "[[a]]\n[[a.b]]\n[[a]]\n[[a.b]]\n") (counts 21 8 ∷ [])
-unfolding repeat space_at blank_from further_at key_of name_of item_by entry_by value_of content_at comment_at line_at ended_at read_document read_one_value gap_at key_at scalar_at word_leaf
+unfolding repeat space_at blank_from further_at key_of name_of item_by entry_by value_of content_at comment_at line_at
+    ended_at read_document read_one_value gap_at key_at scalar_at word_leaf
 elements_in_elements = refl
 
 long_header : StatesEdits (codes "[x.y.z.w]\n[x]\n") (counts 15 5 ∷ [])
-unfolding repeat space_at blank_from further_at key_of name_of item_by entry_by value_of content_at comment_at line_at ended_at read_document read_one_value gap_at key_at scalar_at word_leaf
+unfolding repeat space_at blank_from further_at key_of name_of item_by entry_by value_of content_at comment_at line_at
+    ended_at read_document read_one_value gap_at key_at scalar_at word_leaf
 long_header = refl
 
 keys_below_element : StatesEdits (codes "[[a]]\n[a.s]\nx.y = 1\n") (counts 19 6 ∷ [])
-unfolding repeat space_at blank_from further_at key_of name_of item_by entry_by value_of content_at comment_at line_at ended_at read_document read_one_value gap_at key_at scalar_at word_leaf
+unfolding repeat space_at blank_from further_at key_of name_of item_by entry_by value_of content_at comment_at line_at
+    ended_at read_document read_one_value gap_at key_at scalar_at word_leaf
 keys_below_element = refl
 
 header_below_dotted_keys : StatesEdits (codes "[f]\np.c = 1\n[f.p.q]\n") (counts 21 5 ∷ [])
-unfolding repeat space_at blank_from further_at key_of name_of item_by entry_by value_of content_at comment_at line_at ended_at read_document read_one_value gap_at key_at scalar_at word_leaf
+unfolding repeat space_at blank_from further_at key_of name_of item_by entry_by value_of content_at comment_at line_at
+    ended_at read_document read_one_value gap_at key_at scalar_at word_leaf
 header_below_dotted_keys = refl
 
 elements_in_order : StatesEdits (codes "[[a]]\n[a.b]\n[[a]]\n[a.b]\n") (
@@ -113,7 +126,8 @@ elements_in_order : StatesEdits (codes "[[a]]\n[a.b]\n[[a]]\n[a.b]\n") (
     ∷ (key (codes "a") ∷ index 1 ∷ []) ∷ (key (codes "a") ∷ index 1 ∷ key (codes "b") ∷ []) ∷ [])
     (kind.Table ∷ kind.Tables ∷ kind.Table ∷ kind.Table ∷ kind.Table ∷ kind.Table ∷ [])
     ∷ [])
-unfolding repeat space_at blank_from further_at key_of name_of item_by entry_by value_of content_at comment_at line_at ended_at read_document read_one_value gap_at key_at scalar_at word_leaf
+unfolding repeat space_at blank_from further_at key_of name_of item_by entry_by value_of content_at comment_at line_at
+    ended_at read_document read_one_value gap_at key_at scalar_at word_leaf
 elements_in_order = refl
 
 -- dotted keys before the keys that they hold, the root left out, keys in quotation marks where they must be
@@ -127,13 +141,17 @@ listed_in_order : StatesEdits (codes "a.b = 1\n'x y' = \"s\"\n[t]\nu = {v = 1979
     ∷ record { path = codes "t.u.v"; kind = kind.LocalDate }
     ∷ [])
     ∷ [])
-unfolding repeat space_at blank_from further_at key_of name_of item_by entry_by value_of content_at comment_at line_at ended_at read_document read_one_value gap_at key_at scalar_at word_leaf
+unfolding repeat space_at blank_from further_at key_of name_of item_by entry_by value_of content_at comment_at line_at
+    ended_at read_document read_one_value gap_at key_at scalar_at word_leaf
 listed_in_order = refl
 
 edits_in_order : StatesEdits (codes "a = 1\n") (
     becomes [] (Ok (codes "a = 1\n"))
-    ∷ becomes (set (key (codes "a") ∷ []) (value (codes "2")) ∷ set (key (codes "q") ∷ []) (value (codes "1")) ∷ []) (Err (record { number = 1; fault = fault.NotFound }))
-    ∷ becomes (rename (key (codes "a") ∷ []) (codes "b") ∷ insert (key (codes "a") ∷ []) (value (codes "[]")) ∷ remove (key (codes "b") ∷ []) ∷ []) (Ok (codes "a = []\n"))
+    ∷ becomes (set (key (codes "a") ∷ []) (value (codes "2")) ∷ set (key (codes "q") ∷ []) (value (codes "1")) ∷ [])
+    (Err (record { number = 1; fault = fault.NotFound }))
+    ∷ becomes (rename (key (codes "a") ∷ []) (codes "b") ∷ insert (key (codes "a") ∷ []) (value (codes "[]"))
+    ∷ remove (key (codes "b") ∷ []) ∷ []) (Ok (codes "a = []\n"))
     ∷ [])
-unfolding repeat space_at blank_from further_at key_of name_of item_by entry_by value_of content_at comment_at line_at ended_at read_document read_one_value gap_at key_at scalar_at word_leaf
+unfolding repeat space_at blank_from further_at key_of name_of item_by entry_by value_of content_at comment_at line_at
+    ended_at read_document read_one_value gap_at key_at scalar_at word_leaf
 edits_in_order = refl

@@ -1,5 +1,6 @@
 -- The laws of the edits, as they are promised.
-use Rattle.std.proofs.Common.{◌≡◌, ℕ, ◌+◌, ◌≤◌, Bool, true, false, List, [], length, refl, sym, ap, subst, ◌∙◌, arith, Option, Some, None}
+use Rattle.std.proofs.Common.{◌≡◌, ℕ, ◌+◌, ◌≤◌, Bool, true, false, List, [], length, refl, sym, ap, subst, ◌∙◌, arith}
+use Rattle.std.proofs.Common.{Option, Some, None}
 use Rattle.keep_types.specs.declared.leaf.Profile.{Profile}
 use Rattle.keep_syntax.specs.Tree.{Value, Content, header, element, Document, text, content_depth, depth}
 use Rattle.keep_syntax.specs.Grammar.{IsValue, Reads}
@@ -10,11 +11,14 @@ use Rattle.keep_meaning.specs.Rules.{ObeysRules}
 use Rattle.keep_meaning.specs.Marks.{marks}
 use Rattle.keep_meaning.specs.Meaning.{mentions_in}
 use Rattle.keep_edit_spec.specs.Changed.{Changed, place_of, put}
-use Rattle.keep_edit_spec.specs.Edits.{Edit, set, insert, rename, remove, append_table, append_element, key_with, append, change, changed_or_same}
+use Rattle.keep_edit_spec.specs.Edits.{Edit, set, insert, rename, remove, append_table, append_element, key_with}
+use Rattle.keep_edit_spec.specs.Edits.{append, change, changed_or_same}
 use Rattle.keep_edit_spec.specs.Look.{keys_in, holder, item_number}
 use Rattle.keep_edit_spec.specs.Refusals.{refusal}
 use Rattle.keep_edit_spec.specs.Trees.{IsTreeOf}
-use Rattle.keep_edit_spec.specs.Laws.{given_size, IsEditable, IsLawfulEdit, ChangeIsPut, SetIsLawful, AppendTableIsLawful, AppendElementIsLawful, RemoveIsLawful, RenameIsLawful, GrowthIsBounded, IsGivenValue, InsertIsLawful}
+use Rattle.keep_edit_spec.specs.Laws.{given_size, IsEditable, IsLawfulEdit, ChangeIsPut, SetIsLawful}
+use Rattle.keep_edit_spec.specs.Laws.{AppendTableIsLawful, AppendElementIsLawful, RemoveIsLawful, RenameIsLawful}
+use Rattle.keep_edit_spec.specs.Laws.{GrowthIsBounded, IsGivenValue, InsertIsLawful}
 use Rattle.keep_edit_spec.proofs.Common.Texts.{EachIs, put-place_of}
 use Rattle.keep_edit_spec.proofs.Common.LineTexts.{change-is}
 use Rattle.keep_edit_spec.proofs.Common.SetLaw.{EachTo}
@@ -37,7 +41,8 @@ use Rattle.keep_edit_spec.proofs.Growth.GrowthLaw.{growth}
 
 -- ---- the text
 
-changed_put : (s : Document) (o : Option (Changed Document)) → EachIs text s o → text (changed_or_same s o).to ≡ put (text s) (place_of (changed_or_same s o))
+changed_put : (s : Document) (o : Option (Changed Document)) → EachIs text s o
+    → text (changed_or_same s o).to ≡ put (text s) (place_of (changed_or_same s o))
 changed_put s None h = refl
 changed_put s (Some c) h = put-place_of text s c h
 
@@ -47,16 +52,19 @@ change_put s e = changed_put s (change s e) (change-is s e)
 -- ---- set
 
 -- what holds of the change holds of the document after the edit
-edited_from : (P : Changed Document → Type 0) (s : Document) (e : Edit) (c : Changed Document) → change s e ≡ Some c → P c → P (changed_or_same s (change s e))
+edited_from : (P : Changed Document → Type 0) (s : Document) (e : Edit) (c : Changed Document) → change s e ≡ Some c
+    → P c → P (changed_or_same s (change s e))
 edited_from P s e c is holds = subst P (sym (ap (changed_or_same s) is)) holds
 
 -- all that holds of the change, as it is promised
-lawful : (profile : Profile) (limit : ℕ) (s : Document) (e : Edit) (c : Changed Document) → change s e ≡ Some c → IsSetWhole profile s e c → depth c.to ≤ limit
+lawful : (profile : Profile) (limit : ℕ) (s : Document) (e : Edit) (c : Changed Document) → change s e ≡ Some c
+    → IsSetWhole profile s e c → depth c.to ≤ limit
     → length (text c.to) ≤ length (text s) + given_size e + 12 → IsLawfulEdit profile limit s e
 lawful profile limit s e c is whole low grown = record {
   changed = c;
   is = is;
-  reads = edited_from (λ x. Reads profile limit (put (text s) (place_of x)) x.to) s e c is (record { valid = whole.valid; spelled = sym whole.spelled; shallow = low });
+  reads = edited_from (λ x. Reads profile limit (put (text s) (place_of x)) x.to) s e c is
+      (record { valid = whole.valid; spelled = sym whole.spelled; shallow = low });
   obeys = edited_from (λ x. ObeysRules (marks (mentions_in x.to))) s e c is whole.obeys;
   tree = edited_from (λ x. IsTreeOf (mentions_in s) e (mentions_in x.to)) s e c is whole.tree;
   growth = edited_from (λ x. length (text x.to) ≤ length (text s) + given_size e + 12) s e c is grown;
@@ -64,14 +72,18 @@ lawful profile limit s e c is whole low grown = record {
 
 pub set_lawful : SetIsLawful
 set_lawful profile limit s path new editable given allowed =
-    let (c, law) = set_is_lawful profile limit s path new editable.valid editable.shallow editable.obeys given.valid given.obeys allowed in
+    let (c, law) =
+    set_is_lawful profile limit s path new editable.valid editable.shallow editable.obeys given.valid given.obeys
+    allowed in
     lawful profile limit s (set path new) c law.is law.whole law.shallow (omega (arith, law.growth))
 
 -- ---- append_table, append_element
 
 -- an edit that appends a line without a value
-append_lawful : (profile : Profile) (limit : ℕ) (s : Document) (e : Edit) (content : Content) → change s e ≡ append s content → content_depth content ≡ 0 → IsEditable profile limit s
-    → EachChange (IsSetWhole profile s e) (change s e) → refusal profile limit s e ≡ None → IsLawfulEdit profile limit s e
+append_lawful : (profile : Profile) (limit : ℕ) (s : Document) (e : Edit) (content : Content)
+    → change s e ≡ append s content → content_depth content ≡ 0 → IsEditable profile limit s
+    → EachChange (IsSetWhole profile s e) (change s e) → refusal profile limit s e ≡ None
+    → IsLawfulEdit profile limit s e
 append_lawful profile limit s e content by flat editable right allowed =
     let a = appended s content in
     let c : Changed Document = line_change s a.number a.contents in
@@ -83,26 +95,32 @@ append_lawful profile limit s e content by flat editable right allowed =
 pub append_table_lawful : AppendTableIsLawful
 append_table_lawful profile limit s keys editable texts allowed =
     append_lawful profile limit s (append_table keys) (header [] (key_with keys) []) refl refl editable
-    (append_table_is_right profile limit s keys allowed (key_texts profile keys texts) editable.valid editable.obeys) allowed
+    (append_table_is_right profile limit s keys allowed (key_texts profile keys texts) editable.valid editable.obeys)
+    allowed
 
 pub append_element_lawful : AppendElementIsLawful
 append_element_lawful profile limit s keys editable texts allowed =
     append_lawful profile limit s (append_element keys) (element [] (key_with keys) []) refl refl editable
-    (append_element_is_right profile limit s keys allowed (key_texts profile keys texts) editable.valid editable.obeys) allowed
+    (append_element_is_right profile limit s keys allowed (key_texts profile keys texts) editable.valid editable.obeys)
+    allowed
 
 -- ---- insert
 
-inserted : (profile : Profile) (limit : ℕ) (s : Document) (path : List Part) (new : Value) → IsEditable profile limit s → IsGivenValue profile new → AllOf (IsKeyText profile) (keys_in path)
+inserted : (profile : Profile) (limit : ℕ) (s : Document) (path : List Part) (new : Value) → IsEditable profile limit s
+    → IsGivenValue profile new → AllOf (IsKeyText profile) (keys_in path)
     → refusal profile limit s (insert path new) ≡ None → IsInsertedWhole profile limit s path new
-inserted profile limit s path new editable given texts allowed = by (item_number path (mentions_in s)) refl (has_lines s (holder path (mentions_in s))) refl
+inserted profile limit s path new editable given texts allowed =
+    by (item_number path (mentions_in s)) refl (has_lines s (holder path (mentions_in s))) refl
   where
-    by : (o : Option ℕ) → item_number path (mentions_in s) ≡ o → (b : Bool) → has_lines s (holder path (mentions_in s)) ≡ b → IsInsertedWhole profile limit s path new
+    by : (o : Option ℕ) → item_number path (mentions_in s) ≡ o → (b : Bool)
+        → has_lines s (holder path (mentions_in s)) ≡ b → IsInsertedWhole profile limit s path new
     by (Some n) e b h = insert_item profile limit s path new n editable given e allowed
     by None e true h = insert_whole profile limit s path new editable given texts e h allowed
     by None e false h = insert_braces profile limit s path new editable given texts e h allowed
 
 -- the profile's grammar has a value that is not refused
-suiting : (profile : Profile) (limit : ℕ) (s : Document) (path : List Part) (new : Value) → refusal profile limit s (insert path new) ≡ None → is_allowed_in profile new ≡ true
+suiting : (profile : Profile) (limit : ℕ) (s : Document) (path : List Part) (new : Value)
+    → refusal profile limit s (insert path new) ≡ None → is_allowed_in profile new ≡ true
 suiting profile limit s path new allowed = by (item_number path (mentions_in s)) refl
   where
     by : (o : Option ℕ) → item_number path (mentions_in s) ≡ o → is_allowed_in profile new ≡ true
@@ -111,13 +129,17 @@ suiting profile limit s path new allowed = by (item_number path (mentions_in s))
 
 pub insert_lawful : InsertIsLawful
 insert_lawful profile limit s path new editable given texts allowed =
-    let valid : IsValue profile new = allowed_value profile new given.valid (suiting profile limit s path new allowed) in
-    let r = inserted profile limit s path new editable (record { valid = valid; obeys = given.obeys }) (key_texts profile (keys_in path) texts) allowed in
-    lawful profile limit s (insert path new) r.changed r.is r.whole r.low (growth profile limit s (insert path new) r.changed editable.valid editable.obeys allowed r.is)
+    let valid : IsValue profile new =
+    allowed_value profile new given.valid (suiting profile limit s path new allowed) in
+    let r = inserted profile limit s path new editable (record { valid = valid; obeys = given.obeys })
+    (key_texts profile (keys_in path) texts) allowed in
+    lawful profile limit s (insert path new) r.changed r.is r.whole r.low
+    (growth profile limit s (insert path new) r.changed editable.valid editable.obeys allowed r.is)
 
 -- ---- remove
 
-depth_of : (n : ℕ) (o : Option (Changed Document)) (c : Changed Document) → o ≡ Some c → EachTo (λ s'. depth s' ≤ n) o → depth c.to ≤ n
+depth_of : (n : ℕ) (o : Option (Changed Document)) (c : Changed Document) → o ≡ Some c → EachTo (λ s'. depth s' ≤ n) o
+    → depth c.to ≤ n
 depth_of n o c is h = subst (EachTo (λ s'. depth s' ≤ n)) is h
 
 pub remove_lawful : RemoveIsLawful
@@ -140,6 +162,7 @@ rename_lawful profile limit s path text editable utf8 allowed =
 pub growth_bounded : GrowthIsBounded
 growth_bounded profile limit s e valid obeys allowed = by (change s e) refl
   where
-    by : (o : Option (Changed Document)) → change s e ≡ o → length (text (changed_or_same s o).to) ≤ length (text s) + given_size e + 12
+    by : (o : Option (Changed Document)) → change s e ≡ o
+        → length (text (changed_or_same s o).to) ≤ length (text s) + given_size e + 12
     by None is = omega arith
     by (Some c) is = growth profile limit s e c valid obeys allowed is

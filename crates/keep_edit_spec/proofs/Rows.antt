@@ -15,7 +15,9 @@ use Rattle.keep_syntax.specs.declared.fault.Why.{Why}
 use Rattle.keep_syntax.specs.declared.fault.Why.TheVariants as why
 use Rattle.keep_syntax.specs.Limit.{standard_depth}
 use Rattle.keep_syntax.specs.Tree.{scalar, none, Value, Document, text}
-use Rattle.keep_syntax.specs.Reading.{Fault, repeat, space_at, blank_from, further_at, key_of, name_of, item_by, entry_by, value_of, content_at, comment_at, line_at, ended_at, read_document, read_one_value}
+use Rattle.keep_syntax.specs.Reading.{Fault, repeat, space_at, blank_from, further_at, key_of, name_of, item_by}
+use Rattle.keep_syntax.specs.Reading.{entry_by, value_of, content_at, comment_at, line_at, ended_at, read_document}
+use Rattle.keep_syntax.specs.Reading.{read_one_value}
 use Rattle.keep_path.specs.Path.{Part, key, index}
 use Rattle.keep_meaning.specs.Fact.{Fact}
 use Rattle.keep_meaning.specs.Marks.{Mention, marks}
@@ -24,7 +26,8 @@ use Rattle.keep_meaning.specs.Nodes.{fact_at}
 use Rattle.keep_edit_spec.specs.declared.fault.EditFault.{EditFault}
 use Rattle.keep_edit_spec.specs.declared.fault.EditFault.TheVariants as fault
 use Rattle.keep_edit_spec.specs.Changed.{Place, put}
-use Rattle.keep_edit_spec.specs.Edits.{Edit, set, insert, rename, remove, append_table, append_element, edited_document, place}
+use Rattle.keep_edit_spec.specs.Edits.{Edit, set, insert, rename, remove, append_table, append_element, edited_document}
+use Rattle.keep_edit_spec.specs.Edits.{place}
 use Rattle.keep_edit_spec.specs.Refusals.{refusal, first_conflict}
 use Rattle.keep_edit_spec.specs.Trees.{source, fact_from, new_mentions}
 
@@ -61,16 +64,36 @@ abbrev outcome : Profile → Document → Edit → List ℕ → Outcome
 outcome profile s e new =
     let s' : Document = edited_document s e in
     let p : Place = place s e in
-    record { refused = refusal profile standard_depth s e; conflict = first_conflict [] (marks (mentions_in s')); facts = facts (asked s s') (mentions_in s'); text = put (text s) p; start = p.start; end = p.end; added = length p.new; read_again = read_document profile standard_depth new }
+    record {
+      refused = refusal profile standard_depth s e;
+      conflict = first_conflict [] (marks (mentions_in s'));
+      facts = facts (asked s s') (mentions_in s');
+      text = put (text s) p;
+      start = p.start;
+      end = p.end;
+      added = length p.new;
+      read_again = read_document profile standard_depth new;
+    }
 
--- Nothing is refused, the rules hold, the facts come from where they are said to come from, start..end of the old text gives
+-- Nothing is refused, the rules hold, the facts come from where they are said to come from, start..end of the old text
+-- gives
 -- way to so many bytes, and reading the new text gives the new document.
 abbrev wanted : Document → Edit → List ℕ → ℕ → ℕ → ℕ → Outcome
 wanted s e new start end added =
     let s' : Document = edited_document s e in
-    record { refused = None; conflict = None; facts = facts_from (asked s s') (mentions_in s) e; text = new; start = start; end = end; added = added; read_again = Ok s' }
+    record {
+      refused = None;
+      conflict = None;
+      facts = facts_from (asked s s') (mentions_in s) e;
+      text = new;
+      start = start;
+      end = end;
+      added = added;
+      read_again = Ok s';
+    }
 
--- a row: the document's text, the edit, and the new text with the place; or the refusal, in TOML v1.0.0 and under a limit of depth
+-- a row: the document's text, the edit, and the new text with the place; or the refusal, in TOML v1.0.0 and under a
+-- limit of depth
 pub data Row : Type 0 where
   goes : (profile : Profile) (old : List ℕ) (e : Edit) (new : List ℕ) (start end added : ℕ) → Row
   refuses : (limit : ℕ) (old : List ℕ) (e : Edit) (f : EditFault) → Row
@@ -87,11 +110,14 @@ of f other (Err e) = other
 
 -- what the definitions tell of a row, and what they should
 abbrev computed : Row → RowOutcome
-computed (goes profile old e new start end added) = of (λ s. made (outcome profile s e new)) unread (read_document profile standard_depth old)
-computed (refuses limit old e f) = of (λ s. refused (refusal Strict limit s e)) unread (read_document Strict standard_depth old)
+computed (goes profile old e new start end added) =
+    of (λ s. made (outcome profile s e new)) unread (read_document profile standard_depth old)
+computed (refuses limit old e f) =
+    of (λ s. refused (refusal Strict limit s e)) unread (read_document Strict standard_depth old)
 
 abbrev stated : Row → RowOutcome
-stated (goes profile old e new start end added) = of (λ s. made (wanted s e new start end added)) (refused None) (read_document profile standard_depth old)
+stated (goes profile old e new start end added) =
+    of (λ s. made (wanted s e new start end added)) (refused None) (read_document profile standard_depth old)
 stated (refuses limit old e f) = refused (Some f)
 
 abbrev AllHold : List Row → Type 0
@@ -105,7 +131,9 @@ set_rows : AllHold (
     -- set table
     ∷ refuses standard_depth (codes "[t]\n") (set (key (codes "t") ∷ []) (value (codes "1"))) fault.NotValue
     -- set in braces in an array
-    ∷ goes Strict (codes "a = [\"x\", {b = 1}]\n") (set (key (codes "a") ∷ index 1 ∷ key (codes "b") ∷ []) (value (codes "[2, 3]"))) (codes "a = [\"x\", {b = [2, 3]}]\n") 15 16 6
+    ∷ goes Strict (codes "a = [\"x\", {b = 1}]\n")
+    (set (key (codes "a") ∷ index 1 ∷ key (codes "b") ∷ []) (value (codes "[2, 3]")))
+    (codes "a = [\"x\", {b = [2, 3]}]\n") 15 16 6
     -- set unknown
     ∷ refuses standard_depth (codes "a = 1\n") (set (key (codes "b") ∷ []) (value (codes "2"))) fault.NotFound
     -- set root
@@ -113,7 +141,8 @@ set_rows : AllHold (
     -- set dotted table
     ∷ refuses standard_depth (codes "a.b = 1\n") (set (key (codes "a") ∷ []) (value (codes "2"))) fault.NotValue
     -- set array
-    ∷ goes Strict (codes "a = [1, 2] # x\n") (set (key (codes "a") ∷ []) (value (codes "{}"))) (codes "a = {} # x\n") 4 10 2
+    ∷ goes Strict (codes "a = [1, 2] # x\n") (set (key (codes "a") ∷ []) (value (codes "{}"))) (codes "a = {} # x\n") 4
+    10 2
     -- set too deep
     ∷ refuses 1 (codes "a = 1\n") (set (key (codes "a") ∷ []) (value (codes "[[1]]"))) fault.TooDeep
     -- set wide value
@@ -125,55 +154,79 @@ set_rows : AllHold (
     -- set wide value in wide
     ∷ goes Wide (codes "a = 1\n") (set (key (codes "a") ∷ []) (value (codes "\"\\e\""))) (codes "a = \"\\e\"\n") 4 5 4
     -- set escape of both
-    ∷ goes Strict (codes "a = 1\n") (set (key (codes "a") ∷ []) (value (codes "\"\\u001b\""))) (codes "a = \"\\u001b\"\n") 4 5 8
+    ∷ goes Strict (codes "a = 1\n") (set (key (codes "a") ∷ []) (value (codes "\"\\u001b\"")))
+    (codes "a = \"\\u001b\"\n") 4 5 8
     ∷ [])
-unfolding repeat space_at blank_from further_at key_of name_of item_by entry_by value_of content_at comment_at line_at ended_at read_document read_one_value gap_at key_at scalar_at word_leaf
+unfolding repeat space_at blank_from further_at key_of name_of item_by entry_by value_of content_at comment_at line_at
+    ended_at read_document read_one_value gap_at key_at scalar_at word_leaf
 set_rows = refl
 
 -- ---- insert, as lines of the document
 
 insert_lines : AllHold (
     -- insert section
-    goes Strict (codes "x = 1\r\n[a.b]") (insert (key (codes "a") ∷ key (codes "c") ∷ []) (value (codes "1"))) (codes "x = 1\r\n[a.b]\r\n\r\n[a]\r\nc = 1\r\n") 12 12 16
+    goes Strict (codes "x = 1\r\n[a.b]") (insert (key (codes "a") ∷ key (codes "c") ∷ []) (value (codes "1")))
+    (codes "x = 1\r\n[a.b]\r\n\r\n[a]\r\nc = 1\r\n") 12 12 16
     -- insert after bom
-    ∷ goes Strict (0xEF ∷ 0xBB ∷ 0xBF ∷ codes "[t]\n") (insert (key (codes "k") ∷ []) (value (codes "true"))) (0xEF ∷ 0xBB ∷ 0xBF ∷ codes "k = true\n[t]\n") 3 3 9
+    ∷ goes Strict (0xEF ∷ 0xBB ∷ 0xBF ∷ codes "[t]\n") (insert (key (codes "k") ∷ []) (value (codes "true")))
+    (0xEF ∷ 0xBB ∷ 0xBF ∷ codes "k = true\n[t]\n") 3 3 9
     -- insert dotted line
-    ∷ goes Strict (codes "p.q = 1\nz = 2\n") (insert (key (codes "p") ∷ key (codes "r") ∷ []) (value (codes "3"))) (codes "p.q = 1\np.r = 3\nz = 2\n") 8 8 8
+    ∷ goes Strict (codes "p.q = 1\nz = 2\n") (insert (key (codes "p") ∷ key (codes "r") ∷ []) (value (codes "3")))
+    (codes "p.q = 1\np.r = 3\nz = 2\n") 8 8 8
     -- insert after last
     ∷ goes Strict (codes "a = 1") (insert (key (codes "b") ∷ []) (value (codes "-2"))) (codes "a = 1\nb = -2\n") 5 5 8
     -- insert with the first newline, in an array
-    ∷ goes Strict (codes "a = [\r\n1]\nb = 2") (insert (key (codes "c") ∷ []) (value (codes "3"))) (codes "a = [\r\n1]\nb = 2\r\nc = 3\r\n") 15 15 9
+    ∷ goes Strict (codes "a = [\r\n1]\nb = 2") (insert (key (codes "c") ∷ []) (value (codes "3")))
+    (codes "a = [\r\n1]\nb = 2\r\nc = 3\r\n") 15 15 9
     -- insert long key
-    ∷ goes Strict (codes "[t]") (insert (key (codes "t") ∷ key (codes "u") ∷ key (codes "v") ∷ []) (value (codes "1"))) (codes "[t]\nu.v = 1\n") 3 3 9
+    ∷ goes Strict (codes "[t]") (insert (key (codes "t") ∷ key (codes "u") ∷ key (codes "v") ∷ []) (value (codes "1")))
+    (codes "[t]\nu.v = 1\n") 3 3 9
     -- insert in element
-    ∷ goes Strict (codes "[[a]]\n[[a]]\n") (insert (key (codes "a") ∷ index 0 ∷ key (codes "k") ∷ []) (value (codes "1"))) (codes "[[a]]\nk = 1\n[[a]]\n") 6 6 6
+    ∷ goes Strict (codes "[[a]]\n[[a]]\n")
+    (insert (key (codes "a") ∷ index 0 ∷ key (codes "k") ∷ []) (value (codes "1"))) (codes "[[a]]\nk = 1\n[[a]]\n") 6 6
+    6
     -- insert section in element
-    ∷ goes Strict (codes "[[a]]\n[a.s]\nx.y = 1\n[[a]]\nz = [1, 2]\n[a.s.t.u]\n") (insert (key (codes "a") ∷ index 1 ∷ key (codes "s") ∷ key (codes "k") ∷ key (codes "l") ∷ []) (value (codes "{p = 1}"))) (codes "[[a]]\n[a.s]\nx.y = 1\n[[a]]\nz = [1, 2]\n[a.s.t.u]\n\n[a.s]\nk.l = {p = 1}\n") 47 47 21
+    ∷ goes Strict (codes "[[a]]\n[a.s]\nx.y = 1\n[[a]]\nz = [1, 2]\n[a.s.t.u]\n")
+    (insert (key (codes "a") ∷ index 1 ∷ key (codes "s") ∷ key (codes "k") ∷ key (codes "l") ∷ [])
+    (value (codes "{p = 1}"))) (codes "[[a]]\n[a.s]\nx.y = 1\n[[a]]\nz = [1, 2]\n[a.s.t.u]\n\n[a.s]\nk.l = {p = 1}\n")
+    47 47 21
     -- insert before comments
-    ∷ goes Strict (codes "# c\n\n[t]\n") (insert (key (codes "k") ∷ []) (value (codes "1"))) (codes "k = 1\n# c\n\n[t]\n") 0 0 6
+    ∷ goes Strict (codes "# c\n\n[t]\n") (insert (key (codes "k") ∷ []) (value (codes "1")))
+    (codes "k = 1\n# c\n\n[t]\n") 0 0 6
     ∷ [])
-unfolding repeat space_at blank_from further_at key_of name_of item_by entry_by value_of content_at comment_at line_at ended_at read_document read_one_value gap_at key_at scalar_at word_leaf
+unfolding repeat space_at blank_from further_at key_of name_of item_by entry_by value_of content_at comment_at line_at
+    ended_at read_document read_one_value gap_at key_at scalar_at word_leaf
 insert_lines = refl
 
 -- ---- insert, inside a value
 
 insert_in_values : AllHold (
     -- insert in braces
-    goes Strict (codes "t = { x = 1 }\n") (insert (key (codes "t") ∷ key (codes "y") ∷ key (codes "z") ∷ []) (value (codes "2"))) (codes "t = { x = 1, y.z = 2 }\n") 11 11 9
+    goes Strict (codes "t = { x = 1 }\n")
+    (insert (key (codes "t") ∷ key (codes "y") ∷ key (codes "z") ∷ []) (value (codes "2")))
+    (codes "t = { x = 1, y.z = 2 }\n") 11 11 9
     -- insert in empty array
-    ∷ goes Strict (codes "a = [ ]\n") (insert (key (codes "a") ∷ index 0 ∷ []) (value (codes "1"))) (codes "a = [1 ]\n") 5 5 1
+    ∷ goes Strict (codes "a = [ ]\n") (insert (key (codes "a") ∷ index 0 ∷ []) (value (codes "1"))) (codes "a = [1 ]\n")
+    5 5 1
     -- insert last item
-    ∷ goes Strict (codes "a = [1 ]\n") (insert (key (codes "a") ∷ index 1 ∷ []) (value (codes "2"))) (codes "a = [1, 2 ]\n") 6 6 3
+    ∷ goes Strict (codes "a = [1 ]\n") (insert (key (codes "a") ∷ index 1 ∷ []) (value (codes "2")))
+    (codes "a = [1, 2 ]\n") 6 6 3
     -- insert first item
-    ∷ goes Strict (codes "a = [1, 2 ]\n") (insert (key (codes "a") ∷ index 0 ∷ []) (value (codes "0"))) (codes "a = [0, 1, 2 ]\n") 5 5 3
+    ∷ goes Strict (codes "a = [1, 2 ]\n") (insert (key (codes "a") ∷ index 0 ∷ []) (value (codes "0")))
+    (codes "a = [0, 1, 2 ]\n") 5 5 3
     -- insert after dotted
-    ∷ goes Strict (codes "t = {p.q = 1, z = 2}") (insert (key (codes "t") ∷ key (codes "p") ∷ key (codes "r") ∷ []) (value (codes "3"))) (codes "t = {p.q = 1, p.r = 3, z = 2}") 12 12 9
+    ∷ goes Strict (codes "t = {p.q = 1, z = 2}")
+    (insert (key (codes "t") ∷ key (codes "p") ∷ key (codes "r") ∷ []) (value (codes "3")))
+    (codes "t = {p.q = 1, p.r = 3, z = 2}") 12 12 9
     -- wide insert
-    ∷ goes Wide (codes "a = {x = 1,\n # c\n}") (insert (key (codes "a") ∷ key (codes "y") ∷ []) (value (codes "2"))) (codes "a = {x = 1, y = 2,\n # c\n}") 10 10 7
+    ∷ goes Wide (codes "a = {x = 1,\n # c\n}") (insert (key (codes "a") ∷ key (codes "y") ∷ []) (value (codes "2")))
+    (codes "a = {x = 1, y = 2,\n # c\n}") 10 10 7
     -- wide insert of wide value
-    ∷ goes Wide (codes "a = [1]") (insert (key (codes "a") ∷ index 1 ∷ []) (value (codes "07:32"))) (codes "a = [1, 07:32]") 6 6 7
+    ∷ goes Wide (codes "a = [1]") (insert (key (codes "a") ∷ index 1 ∷ []) (value (codes "07:32")))
+    (codes "a = [1, 07:32]") 6 6 7
     ∷ [])
-unfolding repeat space_at blank_from further_at key_of name_of item_by entry_by value_of content_at comment_at line_at ended_at read_document read_one_value gap_at key_at scalar_at word_leaf
+unfolding repeat space_at blank_from further_at key_of name_of item_by entry_by value_of content_at comment_at line_at
+    ended_at read_document read_one_value gap_at key_at scalar_at word_leaf
 insert_in_values = refl
 
 -- ---- insert, refused
@@ -182,27 +235,35 @@ insert_refused : AllHold (
     -- insert exists
     refuses standard_depth (codes "a = 1\nb = -2\n") (insert (key (codes "b") ∷ []) (value (codes "-2"))) fault.Exists
     -- insert beyond
-    ∷ refuses standard_depth (codes "a = [0, 1, 2 ]\n") (insert (key (codes "a") ∷ index 4 ∷ []) (value (codes "9"))) fault.NotFound
+    ∷ refuses standard_depth (codes "a = [0, 1, 2 ]\n") (insert (key (codes "a") ∷ index 4 ∷ []) (value (codes "9")))
+    fault.NotFound
     -- insert root
     ∷ refuses standard_depth (codes "a = 1\n") (insert [] (value (codes "1"))) fault.Exists
     -- insert below value
-    ∷ refuses standard_depth (codes "s = 1\n") (insert (key (codes "s") ∷ key (codes "x") ∷ []) (value (codes "1"))) fault.NotTable
+    ∷ refuses standard_depth (codes "s = 1\n") (insert (key (codes "s") ∷ key (codes "x") ∷ []) (value (codes "1")))
+    fault.NotTable
     -- insert item in value
-    ∷ refuses standard_depth (codes "s = 1\n") (insert (key (codes "s") ∷ index 0 ∷ []) (value (codes "1"))) fault.NotFound
+    ∷ refuses standard_depth (codes "s = 1\n") (insert (key (codes "s") ∷ index 0 ∷ []) (value (codes "1")))
+    fault.NotFound
     -- insert in no element
-    ∷ refuses standard_depth (codes "[[a]]\n[[a]]\n") (insert (key (codes "a") ∷ index 2 ∷ key (codes "k") ∷ []) (value (codes "1"))) fault.NotFound
+    ∷ refuses standard_depth (codes "[[a]]\n[[a]]\n")
+    (insert (key (codes "a") ∷ index 2 ∷ key (codes "k") ∷ []) (value (codes "1"))) fault.NotFound
     -- insert in elements
-    ∷ refuses standard_depth (codes "[[a]]\n[[a]]\n") (insert (key (codes "a") ∷ key (codes "k") ∷ []) (value (codes "1"))) fault.NotTable
+    ∷ refuses standard_depth (codes "[[a]]\n[[a]]\n")
+    (insert (key (codes "a") ∷ key (codes "k") ∷ []) (value (codes "1"))) fault.NotTable
     -- insert too deep
     ∷ refuses 1 (codes "a = [1]\n") (insert (key (codes "a") ∷ index 0 ∷ []) (value (codes "[]"))) fault.TooDeep
     -- insert wide value
     ∷ refuses standard_depth (codes "a = 1\n") (insert (key (codes "b") ∷ []) (value (codes "{x = 1,}"))) fault.Profile
     -- insert wide item
-    ∷ refuses standard_depth (codes "a = [1]\n") (insert (key (codes "a") ∷ index 1 ∷ []) (value (codes "07:32"))) fault.Profile
+    ∷ refuses standard_depth (codes "a = [1]\n") (insert (key (codes "a") ∷ index 1 ∷ []) (value (codes "07:32")))
+    fault.Profile
     -- insert wide value below value
-    ∷ refuses standard_depth (codes "s = 1\n") (insert (key (codes "s") ∷ key (codes "x") ∷ []) (value (codes "07:32"))) fault.NotTable
+    ∷ refuses standard_depth (codes "s = 1\n") (insert (key (codes "s") ∷ key (codes "x") ∷ []) (value (codes "07:32")))
+    fault.NotTable
     ∷ [])
-unfolding repeat space_at blank_from further_at key_of name_of item_by entry_by value_of content_at comment_at line_at ended_at read_document read_one_value gap_at key_at scalar_at word_leaf
+unfolding repeat space_at blank_from further_at key_of name_of item_by entry_by value_of content_at comment_at line_at
+    ended_at read_document read_one_value gap_at key_at scalar_at word_leaf
 insert_refused = refl
 
 -- ---- rename
@@ -219,51 +280,66 @@ rename_rows : AllHold (
     -- rename root
     ∷ refuses standard_depth (codes "a = 1\n") (rename [] (codes "x")) fault.NotKey
     -- rename header
-    ∷ goes Strict (codes "[t]\nk = 1\n") (rename (key (codes "t") ∷ []) (codes "x y")) (codes "[\"x y\"]\nk = 1\n") 1 2 5
+    ∷ goes Strict (codes "[t]\nk = 1\n") (rename (key (codes "t") ∷ []) (codes "x y")) (codes "[\"x y\"]\nk = 1\n") 1 2
+    5
     -- rename last key
-    ∷ goes Strict (codes "a.b.c = 1 # x\n[d]\na.b = 2\n") (rename (key (codes "a") ∷ key (codes "b") ∷ key (codes "c") ∷ []) (codes "q.r")) (codes "a.b.\"q.r\" = 1 # x\n[d]\na.b = 2\n") 4 5 5
+    ∷ goes Strict (codes "a.b.c = 1 # x\n[d]\na.b = 2\n")
+    (rename (key (codes "a") ∷ key (codes "b") ∷ key (codes "c") ∷ []) (codes "q.r"))
+    (codes "a.b.\"q.r\" = 1 # x\n[d]\na.b = 2\n") 4 5 5
     -- rename item
     ∷ refuses standard_depth (codes "a = [1]\n") (rename (key (codes "a") ∷ index 0 ∷ []) (codes "x")) fault.NotKey
     -- rename unknown
     ∷ refuses standard_depth (codes "a = 1\n") (rename (key (codes "b") ∷ []) (codes "x")) fault.NotFound
     ∷ [])
-unfolding repeat space_at blank_from further_at key_of name_of item_by entry_by value_of content_at comment_at line_at ended_at read_document read_one_value gap_at key_at scalar_at word_leaf
+unfolding repeat space_at blank_from further_at key_of name_of item_by entry_by value_of content_at comment_at line_at
+    ended_at read_document read_one_value gap_at key_at scalar_at word_leaf
 rename_rows = refl
 
 -- ---- remove, inside a value
 
 remove_in_values : AllHold (
     -- remove last item
-    goes Strict (codes "a = [1, # one\n 2]\n") (remove (key (codes "a") ∷ index 1 ∷ [])) (codes "a = [1 # one\n ]\n") 6 16 8
+    goes Strict (codes "a = [1, # one\n 2]\n") (remove (key (codes "a") ∷ index 1 ∷ [])) (codes "a = [1 # one\n ]\n") 6
+    16 8
     -- remove first in braces
-    ∷ goes Strict (codes "t = { x = 1, y.z = 2 }\n") (remove (key (codes "t") ∷ key (codes "x") ∷ [])) (codes "t = { y.z = 2 }\n") 6 13 0
+    ∷ goes Strict (codes "t = { x = 1, y.z = 2 }\n") (remove (key (codes "t") ∷ key (codes "x") ∷ []))
+    (codes "t = { y.z = 2 }\n") 6 13 0
     -- remove before last comma
-    ∷ goes Strict (codes "  # c\nb = [1, 2,]\n") (remove (key (codes "b") ∷ index 1 ∷ [])) (codes "  # c\nb = [1, ]\n") 14 16 0
+    ∷ goes Strict (codes "  # c\nb = [1, 2,]\n") (remove (key (codes "b") ∷ index 1 ∷ [])) (codes "  # c\nb = [1, ]\n")
+    14 16 0
     -- remove last in braces
-    ∷ goes Strict (codes "t = {x = 1, y = 2}") (remove (key (codes "t") ∷ key (codes "y") ∷ [])) (codes "t = {x = 1}") 10 17 0
+    ∷ goes Strict (codes "t = {x = 1, y = 2}") (remove (key (codes "t") ∷ key (codes "y") ∷ [])) (codes "t = {x = 1}")
+    10 17 0
     -- remove only in braces
     ∷ goes Strict (codes "t = {x = 1}") (remove (key (codes "t") ∷ key (codes "x") ∷ [])) (codes "t = {}") 5 10 0
     -- wide remove last
-    ∷ goes Wide (codes "a = {x = 1, y = 2,\n # c\n}") (remove (key (codes "a") ∷ key (codes "y") ∷ [])) (codes "a = {x = 1, \n # c\n}") 12 18 0
+    ∷ goes Wide (codes "a = {x = 1, y = 2,\n # c\n}") (remove (key (codes "a") ∷ key (codes "y") ∷ []))
+    (codes "a = {x = 1, \n # c\n}") 12 18 0
     -- wide remove first
-    ∷ goes Wide (codes "a = {x = 1,\n # c\n}") (remove (key (codes "a") ∷ key (codes "x") ∷ [])) (codes "a = {\n # c\n}") 5 11 0
+    ∷ goes Wide (codes "a = {x = 1,\n # c\n}") (remove (key (codes "a") ∷ key (codes "x") ∷ []))
+    (codes "a = {\n # c\n}") 5 11 0
     -- wide remove only
-    ∷ goes Wide (codes "a = {x = 1 # c\n,}") (remove (key (codes "a") ∷ key (codes "x") ∷ [])) (codes "a = { # c\n}") 5 16 5
+    ∷ goes Wide (codes "a = {x = 1 # c\n,}") (remove (key (codes "a") ∷ key (codes "x") ∷ [])) (codes "a = { # c\n}") 5
+    16 5
     -- remove with gap comment
-    ∷ goes Strict (codes "a = [1, 2 # c\n, 3]") (remove (key (codes "a") ∷ index 1 ∷ [])) (codes "a = [1,  # c\n3]") 8 16 5
+    ∷ goes Strict (codes "a = [1, 2 # c\n, 3]") (remove (key (codes "a") ∷ index 1 ∷ [])) (codes "a = [1,  # c\n3]") 8
+    16 5
     -- remove where gaps meet
     ∷ goes Strict (codes "a = [1 , 2 ]") (remove (key (codes "a") ∷ index 1 ∷ [])) (codes "a = [1  ]") 7 10 0
     ∷ [])
-unfolding repeat space_at blank_from further_at key_of name_of item_by entry_by value_of content_at comment_at line_at ended_at read_document read_one_value gap_at key_at scalar_at word_leaf
+unfolding repeat space_at blank_from further_at key_of name_of item_by entry_by value_of content_at comment_at line_at
+    ended_at read_document read_one_value gap_at key_at scalar_at word_leaf
 remove_in_values = refl
 
 -- ---- remove, of lines
 
 remove_lines : AllHold (
     -- remove element
-    goes Strict (codes "[[a]]\nn = 1\n[[a]]\nn = 2\n") (remove (key (codes "a") ∷ index 0 ∷ [])) (codes "[[a]]\nn = 2\n") 0 12 0
+    goes Strict (codes "[[a]]\nn = 1\n[[a]]\nn = 2\n") (remove (key (codes "a") ∷ index 0 ∷ []))
+    (codes "[[a]]\nn = 2\n") 0 12 0
     -- remove before comment
-    ∷ goes Strict (codes "  a = 1 # c\nb = [1, 2,]\n") (remove (key (codes "a") ∷ [])) (codes "  # c\nb = [1, 2,]\n") 2 8 0
+    ∷ goes Strict (codes "  a = 1 # c\nb = [1, 2,]\n") (remove (key (codes "a") ∷ [])) (codes "  # c\nb = [1, 2,]\n") 2
+    8 0
     -- remove last line
     ∷ goes Strict (codes "  # c\nb = [1, ]\n") (remove (key (codes "b") ∷ [])) (codes "  # c\n") 6 16 0
     -- remove table
@@ -271,20 +347,23 @@ remove_lines : AllHold (
     -- remove with comment
     ∷ goes Strict (codes "a = 1 # c\n") (remove (key (codes "a") ∷ [])) (codes "# c\n") 0 6 0
     -- remove first element
-    ∷ goes Strict (codes "[[a]]\nx = 1\n[[a]]\n[a.s]\ny.z = 2\n") (remove (key (codes "a") ∷ index 0 ∷ [])) (codes "[[a]]\n[a.s]\ny.z = 2\n") 0 12 0
+    ∷ goes Strict (codes "[[a]]\nx = 1\n[[a]]\n[a.s]\ny.z = 2\n") (remove (key (codes "a") ∷ index 0 ∷ []))
+    (codes "[[a]]\n[a.s]\ny.z = 2\n") 0 12 0
     -- remove table before comment
     ∷ goes Strict (codes "[t]\na.b = 1\n\n# end\n[u]\n") (remove (key (codes "t") ∷ [])) (codes "\n# end\n[u]\n") 0 12 0
     -- remove last line without newline
     ∷ goes Strict (codes "a = 1\nb = 2") (remove (key (codes "b") ∷ [])) (codes "a = 1\n") 6 11 0
     ∷ [])
-unfolding repeat space_at blank_from further_at key_of name_of item_by entry_by value_of content_at comment_at line_at ended_at read_document read_one_value gap_at key_at scalar_at word_leaf
+unfolding repeat space_at blank_from further_at key_of name_of item_by entry_by value_of content_at comment_at line_at
+    ended_at read_document read_one_value gap_at key_at scalar_at word_leaf
 remove_lines = refl
 
 -- ---- remove, refused
 
 remove_refused : AllHold (
     -- remove passed element
-    refuses standard_depth (codes "[[a]]\nn = 1\n[a.s]\n[[a]]\nn = 2\n") (remove (key (codes "a") ∷ index 0 ∷ [])) fault.Scattered
+    refuses standard_depth (codes "[[a]]\nn = 1\n[a.s]\n[[a]]\nn = 2\n") (remove (key (codes "a") ∷ index 0 ∷ []))
+    fault.Scattered
     -- remove elements
     ∷ refuses standard_depth (codes "[[a]]\nn = 1\n[[a]]\nn = 2\n") (remove (key (codes "a") ∷ [])) fault.Scattered
     -- remove root
@@ -292,7 +371,8 @@ remove_refused : AllHold (
     -- remove unknown
     ∷ refuses standard_depth (codes "a = 1\n") (remove (key (codes "b") ∷ [])) fault.NotFound
     ∷ [])
-unfolding repeat space_at blank_from further_at key_of name_of item_by entry_by value_of content_at comment_at line_at ended_at read_document read_one_value gap_at key_at scalar_at word_leaf
+unfolding repeat space_at blank_from further_at key_of name_of item_by entry_by value_of content_at comment_at line_at
+    ended_at read_document read_one_value gap_at key_at scalar_at word_leaf
 remove_refused = refl
 
 -- ---- append
@@ -301,13 +381,16 @@ append_rows : AllHold (
     -- append to empty
     goes Strict [] (append_table ((codes "t") ∷ [])) (codes "[t]\n") 0 0 4
     -- append quoted
-    ∷ goes Strict (codes "[t]\n") (append_element ((codes "a") ∷ (codes "b c") ∷ [])) (codes "[t]\n\n[[a.\"b c\"]]\n") 4 4 13
+    ∷ goes Strict (codes "[t]\n") (append_element ((codes "a") ∷ (codes "b c") ∷ [])) (codes "[t]\n\n[[a.\"b c\"]]\n") 4
+    4 13
     -- append conflict
-    ∷ refuses standard_depth (codes "[t]\n\n[[a.\"b c\"]]\n") (append_table ((codes "t") ∷ [])) (fault.Conflict why.DefinedTwice)
+    ∷ refuses standard_depth (codes "[t]\n\n[[a.\"b c\"]]\n") (append_table ((codes "t") ∷ []))
+    (fault.Conflict why.DefinedTwice)
     -- append no keys
     ∷ refuses standard_depth (codes "[t]\n") (append_table []) fault.NotKey
     -- append after white space
     ∷ goes Strict (codes "a = 1\n  ") (append_table ((codes "t") ∷ [])) (codes "a = 1\n  \n\n[t]\n") 8 8 6
     ∷ [])
-unfolding repeat space_at blank_from further_at key_of name_of item_by entry_by value_of content_at comment_at line_at ended_at read_document read_one_value gap_at key_at scalar_at word_leaf
+unfolding repeat space_at blank_from further_at key_of name_of item_by entry_by value_of content_at comment_at line_at
+    ended_at read_document read_one_value gap_at key_at scalar_at word_leaf
 append_rows = refl

@@ -1,9 +1,11 @@
 -- What the crates above build on, in one place.
-pub use Rattle.keep_edit_spec.proofs.Common.Runs.{AllOf, Allowed, Pairs, Rules, SomeOf, all_join, same_path-sound, kinds_allow}
+pub use Rattle.keep_edit_spec.proofs.Common.Runs.{AllOf, Allowed, Pairs, Rules, SomeOf, all_join, same_path-sound}
+pub use Rattle.keep_edit_spec.proofs.Common.Runs.{kinds_allow}
 pub use Rattle.keep_edit_spec.proofs.Common.LineLaws.{EndsInKey}
 pub use Rattle.keep_edit_spec.proofs.Common.SetLaw.{IsAloneAt}
 pub use Rattle.keep_edit_spec.proofs.Remove.RemovePlace.{IsComma, IsEdged, IsNested, IsValueAt, same_place}
-pub use Rattle.keep_edit_spec.proofs.Common.LineEnds.{IsClosed, ended_ends, ends_at, ends_after, line_quiet, line_some, quiet_append, value_closed}
+pub use Rattle.keep_edit_spec.proofs.Common.LineEnds.{IsClosed, ended_ends, ends_at, ends_after, line_quiet, line_some}
+pub use Rattle.keep_edit_spec.proofs.Common.LineEnds.{quiet_append, value_closed}
 pub use Rattle.keep_edit_spec.proofs.Rename.RenameNumber.{IsKeyRenamed, marks_stated, rename_place_is, rename_placed}
 pub use Rattle.keep_edit_spec.proofs.Common.Cuts.{last_part-snoc, without_last-snoc}
 pub use Rattle.keep_edit_spec.proofs.Common.Moves.{IsInjectiveOn, mentions_moved, moved}
@@ -15,7 +17,8 @@ pub use Rattle.keep_edit_spec.proofs.Remove.RemoveLinePlace.{IsLineValue, IsLow,
 pub use Rattle.keep_edit_spec.proofs.Remove.RemovePlaces.{IsPlaced, IsRemoved, removed}
 pub use Rattle.keep_edit_spec.proofs.Common.Doubles.{IsMentioned, has_some}
 pub use Rattle.keep_edit_spec.proofs.Remove.RemoveSectionPlace.{IsSectionPlaced}
-pub use Rattle.keep_edit_spec.proofs.Values.ValuePlace.{IsValueOf, has_of_number, none_of_number, set_place, value_of_number}
+pub use Rattle.keep_edit_spec.proofs.Values.ValuePlace.{IsValueOf, has_of_number, none_of_number, set_place}
+pub use Rattle.keep_edit_spec.proofs.Values.ValuePlace.{value_of_number}
 pub use Rattle.keep_edit_spec.proofs.Common.ValueThere.{alone_of_has, fact_past, some_cases}
 pub use Rattle.keep_edit_spec.proofs.Remove.ElementThere.{begun_alone}
 pub use Rattle.keep_edit_spec.proofs.Common.TableThere.{defined_ends}
@@ -23,8 +26,10 @@ pub use Rattle.keep_edit_spec.proofs.Common.ValueNumber.{false_unless}
 pub use Rattle.keep_edit_spec.proofs.Set.SetIsLawful.{get_is_right}
 pub use Rattle.keep_edit_spec.proofs.Set.SetNodes.{IsKindSet, kind_set}
 pub use Rattle.keep_edit_spec.proofs.Set.SetValue.{value_set}
-pub use Rattle.keep_edit_spec.proofs.Values.LineValue.{IsLineValueChanged, line_value_number, nested_value, new_line_value_number}
-pub use Rattle.keep_edit_spec.proofs.Values.ValueFacts.{integer_at_leaf, leaf_of_integer, no_string, string_at_leaf, string_of_leaf}
+pub use Rattle.keep_edit_spec.proofs.Values.LineValue.{IsLineValueChanged, line_value_number, nested_value}
+pub use Rattle.keep_edit_spec.proofs.Values.LineValue.{new_line_value_number}
+pub use Rattle.keep_edit_spec.proofs.Values.ValueFacts.{integer_at_leaf, leaf_of_integer, no_string, string_at_leaf}
+pub use Rattle.keep_edit_spec.proofs.Values.ValueFacts.{string_of_leaf}
 pub use Rattle.keep_edit_spec.proofs.Values.LineKeys.{first_is_line_value}
 pub use Rattle.keep_edit_spec.proofs.Values.LineValueText.{IsLineValueText, line_value_text}
 pub use Rattle.keep_edit_spec.proofs.Remove.RemoveRefusal.{lines_begun, never_begun, no_both}
@@ -32,7 +37,8 @@ pub use Rattle.keep_edit_spec.proofs.Common.EntryDepths.{alone_of_bracket}
 pub use Rattle.keep_edit_spec.proofs.Insert.ItemThere.{IsItemPath, item_at, never_whole}
 pub use Rattle.keep_edit_spec.proofs.Insert.ItemNumbers.{AreNumbered, items_numbered}
 pub use Rattle.keep_edit_spec.proofs.Insert.OriginMentioned.{is_origin, origin_mentioned}
-pub use Rattle.keep_edit_spec.proofs.Insert.Origins.{IsDottedNode, dotted_ends, dotted_node, mention_with_number, unsaid_of_none}
+pub use Rattle.keep_edit_spec.proofs.Insert.Origins.{IsDottedNode, dotted_ends, dotted_node, mention_with_number}
+pub use Rattle.keep_edit_spec.proofs.Insert.Origins.{unsaid_of_none}
 pub use Rattle.keep_edit_spec.proofs.Insert.HolderFacts.{no_bracket_element}
 pub use Rattle.keep_edit_spec.proofs.Common.FromMarksLines.{path_ends}
 pub use Rattle.keep_edit_spec.proofs.EditLaws.{insert_lawful, remove_lawful, rename_lawful, set_lawful}
@@ -40,11 +46,17 @@ pub use Rattle.keep_edit_spec.proofs.Common.Marks.{rules_of_document}
 pub use Rattle.keep_edit_spec.proofs.Remove.KeyvalMentions.{mentioned_below, mentions_keyval}
 pub use Rattle.keep_edit_spec.proofs.Remove.RemoveWhole.{shared_define}
 pub use Rattle.keep_edit_spec.proofs.Values.ValueDepths.{too_deep_at}
-pub use Rattle.keep_edit_spec.proofs.Append.AppendAddsStatement.{append_element_adds_statement, append_table_adds_statement}
+pub use Rattle.keep_edit_spec.proofs.Append.AppendAddsStatement.{append_element_adds_statement}
+pub use Rattle.keep_edit_spec.proofs.Append.AppendAddsStatement.{append_table_adds_statement}
 pub use Rattle.keep_edit_spec.proofs.Append.AppendPlace.{append_place, text_is}
 pub use Rattle.keep_edit_spec.proofs.Append.AppendTable.{tables_stated}
 pub use Rattle.keep_edit_spec.proofs.Append.HeaderConflict.{LetsPass, element_met, table_met}
-pub use Rattle.keep_edit_spec.proofs.Append.HeaderMarks.{define_continues, define_twice, define_unlisted, dotted_continues, dotted_undefines, dotted_unlisted, element_again, element_undefines, lets_pass, marks_let, no_elements, none_counted, none_refuses, past_listed, roles_of, all_element, through_defines, through_continues, through_unlisted, value_refuses, value_unlisted}
+pub use Rattle.keep_edit_spec.proofs.Append.HeaderMarks.{define_continues, define_twice, define_unlisted}
+pub use Rattle.keep_edit_spec.proofs.Append.HeaderMarks.{dotted_continues, dotted_undefines, dotted_unlisted}
+pub use Rattle.keep_edit_spec.proofs.Append.HeaderMarks.{element_again, element_undefines, lets_pass, marks_let}
+pub use Rattle.keep_edit_spec.proofs.Append.HeaderMarks.{no_elements, none_counted, none_refuses, past_listed, roles_of}
+pub use Rattle.keep_edit_spec.proofs.Append.HeaderMarks.{all_element, through_defines, through_continues}
+pub use Rattle.keep_edit_spec.proofs.Append.HeaderMarks.{through_unlisted, value_refuses, value_unlisted}
 pub use Rattle.keep_edit_spec.proofs.Common.FromMarksLines.{formed_lines}
 pub use Rattle.keep_edit_spec.proofs.EditLaws.{append_element_lawful, append_table_lawful}
 pub use Rattle.keep_edit_spec.proofs.Insert.LineBefore.{IsLowPlace, lines_low}
@@ -52,7 +64,9 @@ pub use Rattle.keep_edit_spec.proofs.Insert.ItemPlaces.{IsItemLaw, item_law}
 pub use Rattle.keep_edit_spec.proofs.Insert.BracePlaces.{IsPutAfter}
 pub use Rattle.keep_edit_spec.proofs.Insert.KeyvalPlaces.{IsInlineLaw, dots_placed, inline_placed}
 pub use Rattle.keep_edit_spec.proofs.Insert.BodyStatements.{count_few}
-pub use Rattle.keep_edit_spec.proofs.Insert.InsertPlaces.{EndsBefore, IsThroughHeader, element_placed, header_ends, header_placed, headed_within, holder_prefix, plain_rest, root_ends, root_placed, through_header, through_placed}
+pub use Rattle.keep_edit_spec.proofs.Insert.InsertPlaces.{EndsBefore, IsThroughHeader, element_placed, header_ends}
+pub use Rattle.keep_edit_spec.proofs.Insert.InsertPlaces.{header_placed, headed_within, holder_prefix, plain_rest}
+pub use Rattle.keep_edit_spec.proofs.Insert.InsertPlaces.{root_ends, root_placed, through_header, through_placed}
 pub use Rattle.keep_edit_spec.proofs.Insert.InsertNested.{braced_nested, item_nested}
 pub use Rattle.keep_edit_spec.proofs.Insert.InsertAddsLine.{insert_adds_line}
 pub use Rattle.keep_edit_spec.proofs.Insert.InsertAddsValue.{insert_adds_value}

@@ -1,4 +1,5 @@
--- All nodes with their numbers of values and of key parts moved: the tree of steps stays, and so do the nodes below one.
+-- All nodes with their numbers of values and of key parts moved: the tree of steps stays, and so do the nodes below
+-- one.
 --
 -- A node is stored without its parent link, and seen with it: so the first lemmas go from the one list to the other.
 -- The others are of the nodes that are seen, each with its numbers moved (`moved`): its parent link, its children and
@@ -138,7 +139,8 @@ module _ (by : NumberShifts) where
             ∙ ap (λ (ts : List TrieNode). children_of ts i) (sym (trie_unmoved nodes));
         numbers = λ i d h k e low.
             let ids : List ℕ = child_ids (get_or nodes i d).children in
-            let same : child_ids (get_or (moved nodes) i d).children ≡ ids = ap child_ids (children_unmoved nodes i d) in
+            let same : child_ids (get_or (moved nodes) i d).children ≡ ids =
+            ap child_ids (children_unmoved nodes i d) in
             ap (λ (js : List ℕ). (get_or (moved nodes) (get_or js k 0) e).number) same
             ∙ number_unmoved nodes (get_or ids k 0) e
             ∙ stored.numbers i d (omega (arith, h, many)) k e (omega (arith, low, ap length same));

@@ -2,12 +2,16 @@
 --
 -- A node that is not below that one, or the one itself, is read where the shift leads (`parent_old`, `number_old`), and
 -- a node of the other tree as many places after that one (`parent_new`, `number_new`). The one has the children of the
--- other tree's root, so the children of each node are those of a node of the other tree (`children_inside`), or those of
--- a node beside the ones that go (`children_beside`). Each number is of a node of the one kind or of the other (`sort`).
-use Rattle.std.proofs.Common.{◌≡◌, ℕ, suc, ◌+◌, ◌-◌, ◌<◌, ◌≤◌, List, ◌++◌, length, get_or, set, take, drop, map, cond, Bool}
+-- other tree's root, so the children of each node are those of a node of the other tree (`children_inside`), or those
+-- of
+-- a node beside the ones that go (`children_beside`). Each number is of a node of the one kind or of the other
+-- (`sort`).
+use Rattle.std.proofs.Common.{◌≡◌, ℕ, suc, ◌+◌, ◌-◌, ◌<◌, ◌≤◌, List, ◌++◌, length, get_or, set, take, drop, map, cond}
+use Rattle.std.proofs.Common.{Bool}
 use Rattle.std.proofs.Common.{refl, sym, ◌∙◌, ap, arith, length-append, inl, inr, ◌⊎◌}
 use Rattle.std.proofs.lemmas.List.{get_or_append_left, get_or-append_right, get_or-drop, get_or-map, get_or-take}
-use Rattle.std.proofs.lemmas.List.{get_or-set_other, get_or-set_same, length-drop, length-map, length-set, length-take-le}
+use Rattle.std.proofs.lemmas.List.{get_or-set_other, get_or-set_same, length-drop, length-map, length-set}
+use Rattle.std.proofs.lemmas.List.{length-take-le}
 use Rattle.std.proofs.lemmas.Bool.{cases_eq, cases_lt, le-ltb, lt-ltb}
 use Rattle.keep_path.specs.NodesBelow.{shifted}
 use Rattle.keep_index_store.specs.AllNodes.{Node, no_node, node_at}
@@ -93,7 +97,8 @@ module _ (nodes : List Node) (id gone : ℕ) (inside : List Node) (within : id +
 
   read_low : (i : ℕ) (e : Node) → i ≤ id → get_or all i e ≡ get_or written i e
   read_low i e low =
-      get_or_append_left (take (suc id) written) (others ++ drop (suc id + gone) written) e i (omega (arith, low, first))
+      get_or_append_left (take (suc id) written) (others ++ drop (suc id + gone) written) e i
+      (omega (arith, low, first))
       ∙ get_or-take (suc id) written i e (omega (arith, low))
 
   read_past : (i : ℕ) (e : Node) → id < i
@@ -204,7 +209,12 @@ module _ (nodes : List Node) (id gone : ℕ) (inside : List Node) (within : id +
   pub sort : (j : ℕ) → j < length all → IsInside j ⊎ IsBeside j
   sort j h = elim (cases_lt j id) [
     | inl low ↦
-        inr (record { was = j; low = omega (arith, low, within); side = inl low; is = beside_low j (omega (arith, low)) })
+        inr (record {
+          was = j;
+          low = omega (arith, low, within);
+          side = inl low;
+          is = beside_low j (omega (arith, low));
+        })
     | inr high ↦ elim (cases_lt j (id + length inside)) [
       | inl low ↦ inl (record { was = j - id; low = omega (arith, high, low); is = omega (arith, high) })
       | inr past ↦

@@ -6,7 +6,8 @@
 -- the parent under which it is listed, and each node is among the children of its parent (`place_old`, `place_new`).
 --
 -- Theorem: `replaced_stored`.
-use Rattle.std.proofs.Common.{◌≡◌, ℕ, ◌+◌, ◌-◌, ◌<◌, ◌≤◌, List, length, get_or, map, refl, sym, ◌∙◌, ap, subst, arith, ◌⊎◌}
+use Rattle.std.proofs.Common.{◌≡◌, ℕ, ◌+◌, ◌-◌, ◌<◌, ◌≤◌, List, length, get_or, map, refl, sym, ◌∙◌, ap, subst, arith}
+use Rattle.std.proofs.Common.{◌⊎◌}
 use Rattle.std.proofs.Common.{inl, inr}
 use Rattle.std.proofs.lemmas.List.{get_or-map, length-map}
 use Rattle.std.proofs.lemmas.Bool.{cases_lt}
@@ -20,7 +21,8 @@ use Rattle.keep_index_store.specs.Stored.{IsStored, trie_of}
 use Rattle.keep_index_store.specs.Trie.{IsTrie}
 use Rattle.keep_index_store.proofs.AscendingLemmas.{Ascends, IsRowOf, ascend_of, stored_in_order}
 use Rattle.keep_index_store.proofs.BelowRowLemmas.{among_is, beside_high, beside_low, children_beside}
-use Rattle.keep_index_store.proofs.BelowRowLemmas.{children_inside, number_new, number_old, parent_new, parent_old, sort}
+use Rattle.keep_index_store.proofs.BelowRowLemmas.{children_inside, number_new, number_old, parent_new, parent_old}
+use Rattle.keep_index_store.proofs.BelowRowLemmas.{sort}
 use Rattle.keep_index_store.proofs.BelowRowLemmas as row
 use Rattle.keep_index_store.proofs.StoredLemmas.{IsPlaced, IsStoredChild, length_trie_of, node_placed, stored_child}
 use Rattle.keep_index_store.proofs.TrieLemmas.{IsAmongChildren}
@@ -48,7 +50,8 @@ map_ascends f ids more a i j d low h =
     let few' : i < length ids = omega (arith, low, few) in
     omega (arith, get_or-map f ids i 0 d few', get_or-map f ids j 0 d few, more i j few' few (a i j 0 low few))
 
-module _ (nodes : List Node) (id gone : ℕ) (inside : List Node) (r : IsRunBelow nodes id gone) (s : IsStored inside) where
+module _ (nodes : List Node) (id gone : ℕ) (inside : List Node) (r : IsRunBelow nodes id gone)
+    (s : IsStored inside) where
   some : 0 < length inside
   some = omega (arith, s.trie.root, length_trie_of inside)
 
@@ -141,7 +144,8 @@ module _ (nodes : List Node) (id gone : ℕ) (inside : List Node) (r : IsRunBelo
     is = ids_beside i h side;
     ascend = map_ascends beside (kids i)
         (λ a b few few' more.
-        beside_more (get_or (kids i) a 0) (get_or (kids i) b 0) (kid_side i a h side few) (kid_side i b h side few') more)
+        beside_more (get_or (kids i) a 0) (get_or (kids i) b 0) (kid_side i a h side few) (kid_side i b h side few')
+        more)
         (kids_ascend nodes r.stored i h);
     row = λ k few.
         let c = kid_there i k h few in

@@ -4,7 +4,8 @@
 -- what was asked before of the nodes about the place holds of all (`movable`).
 --
 -- Theorems: `stored_all`, `paths_all`, `holdings_all` and `infos_all`.
-use Rattle.std.proofs.Common.{◌≡◌, ℕ, ◌+◌, ◌-◌, ◌<◌, ◌≤◌, ◌^◌, List, [], ◌∷◌, ◌++◌, length, get_or, refl, sym, ◌∙◌, ap, subst, arith, inl, inr, Option}
+use Rattle.std.proofs.Common.{◌≡◌, ℕ, ◌+◌, ◌-◌, ◌<◌, ◌≤◌, ◌^◌, List, [], ◌∷◌, ◌++◌, length, get_or, refl, sym, ◌∙◌, ap}
+use Rattle.std.proofs.Common.{subst, arith, inl, inr, Option}
 use Rattle.std.specs.Prelude.{All}
 use Rattle.std.specs.List.{insert}
 use Rattle.std.proofs.lemmas.Bool.{cases_lt}
@@ -21,7 +22,8 @@ use Rattle.keep_index_store.specs.Inserted.{HasPlace}
 use Rattle.keep_index_store.specs.Moved.{CanTake, IsLast, moved_nodes, reordered, with_last_at}
 use Rattle.keep_index_store.specs.Stored.{IsStored, infos_of, trie_of}
 use Rattle.keep_index_store.specs.Tree.{TrieInfos, tree_of}
-use Rattle.keep_index_store.specs.Trie.{TrieNode, Holding, nothing, by_key, IsTrie, children_of, holds_at, holdings_of, link, parent_at, path_at, paths_of}
+use Rattle.keep_index_store.specs.Trie.{TrieNode, Holding, nothing, by_key, IsTrie, children_of, holds_at, holdings_of}
+use Rattle.keep_index_store.specs.Trie.{link, parent_at, path_at, paths_of}
 use Rattle.keep_index_store.proofs.MovedListLemmas.{last_inserted}
 use Rattle.keep_index_store.proofs.MovedNodeLemmas.{infos_moved, moves_last, stored_moved}
 use Rattle.keep_index_store.proofs.MovedReadyLemmas.{infos_stay, moves_from, ready}
@@ -35,12 +37,13 @@ some_node : (nodes : List TrieNode) (i : ℕ) → i < length nodes → TrieNode
 some_node [] i h = absurd (omega (arith, h))
 some_node (n ∷ ns) i h = n
 
-parent_read : (nodes : List TrieNode) (i : ℕ) (d : TrieNode) → i < length nodes → parent_at nodes i ≡ (get_or nodes i d).parent
+parent_read : (nodes : List TrieNode) (i : ℕ) (d : TrieNode) → i < length nodes
+    → parent_at nodes i ≡ (get_or nodes i d).parent
 parent_read nodes i d h = get_or-map (λ (n : TrieNode). n.parent) nodes i d 0 h
 
 -- a node whose path begins with another's, and has one step more, is below it
-pub parent_from_path : (nodes : List TrieNode) → IsTrie nodes → (i p : ℕ) (x : Part) → 0 < i → i < length nodes → p < length nodes
-    → path_at nodes i ≡ path_at nodes p ++ x ∷ [] → parent_at nodes i ≡ p
+pub parent_from_path : (nodes : List TrieNode) → IsTrie nodes → (i p : ℕ) (x : Part) → 0 < i → i < length nodes
+    → p < length nodes → path_at nodes i ≡ path_at nodes p ++ x ∷ [] → parent_at nodes i ≡ p
 parent_from_path nodes trie i p x later h g is =
     let d : TrieNode = some_node nodes i h in
     let up : (get_or nodes i d).parent < i = trie.parents i d later h in
@@ -58,8 +61,10 @@ module _ (old new : List TrieNode) (parent : ℕ) (text : List ℕ) (state : Opt
       let d : TrieNode = some_node old i h in
       let up : (get_or old i d).parent < i = grows.trie.parents i d later h in
       let p : ℕ = (get_or old i d).parent in
-      parent_from_path new grows.trie' i p (link (get_or old i d)).1 later (omega (arith, h, count)) (omega (arith, up, h, count))
-      (path_below grows i h ∙ path_at-link old grows.trie i d later h ∙ ap (λ path. path ++ (link (get_or old i d)).1 ∷ []) (sym (path_below grows p (omega (arith, up, h)))))
+      parent_from_path new grows.trie' i p (link (get_or old i d)).1 later (omega (arith, h, count))
+      (omega (arith, up, h, count))
+      (path_below grows i h ∙ path_at-link old grows.trie i d later h
+      ∙ ap (λ path. path ++ (link (get_or old i d)).1 ∷ []) (sym (path_below grows p (omega (arith, up, h)))))
       ∙ sym (parent_read old i d h)
 
   parent_earlier : (i : ℕ) → 0 < i → i < length old → parent_at old i < i
@@ -69,7 +74,8 @@ module _ (old new : List TrieNode) (parent : ℕ) (text : List ℕ) (state : Opt
 
   parent_last : parent_at new (length old) ≡ parent
   parent_last =
-      parent_from_path new grows.trie' (length old) parent (key text) (omega (arith, grows.within)) (omega (arith, count)) (omega (arith, grows.within, count))
+      parent_from_path new grows.trie' (length old) parent (key text) (omega (arith, grows.within))
+      (omega (arith, count)) (omega (arith, grows.within, count))
       (path_last grows ∙ ap (λ path. path ++ key text ∷ []) (sym (path_below grows parent grows.within)))
 
   -- the new node can have its number
@@ -109,15 +115,22 @@ module _ (old new : List TrieNode) (parent : ℕ) (text : List ℕ) (state : Opt
 pub record IsCounted (nodes : List Node) (parent at n : ℕ) : Type 0 where
   pub within : n < length (child_ids (node_at nodes parent).children)
   pub before : (k : ℕ) → k < n → get_or (child_ids (node_at nodes parent).children) k 0 < at
-  pub stops : n + 1 < length (child_ids (node_at nodes parent).children) → at ≤ get_or (child_ids (node_at nodes parent).children) n 0
+  pub stops : n + 1 < length (child_ids (node_at nodes parent).children)
+      → at ≤ get_or (child_ids (node_at nodes parent).children) n 0
 
-module _ (nodes : List Node) (t : TrieInfos) (view : tree_of nodes ≡ t) (stored : IsStored nodes) (parent : ℕ) (text : List ℕ) (at : ℕ)
+module _ (nodes : List Node) (t : TrieInfos) (view : tree_of nodes ≡ t) (stored : IsStored nodes) (parent : ℕ)
+    (text : List ℕ) (at : ℕ)
     (place : HasPlace t.trie parent text at) (holds : Holding) (facts : NodeFacts) where
   abbrev kids : ChildList
   kids = and_key (node_at nodes parent).children text (length nodes)
 
   abbrev new : Node
-  new = record { parent = parent; number = length (child_ids (node_at nodes parent).children); children = no_children holds; facts = facts }
+  new = record {
+    parent = parent;
+    number = length (child_ids (node_at nodes parent).children);
+    children = no_children holds;
+    facts = facts;
+  }
 
   abbrev mid : List Node
   mid = with_key_below nodes parent text holds facts
@@ -132,34 +145,46 @@ module _ (nodes : List Node) (t : TrieInfos) (view : tree_of nodes ≡ t) (store
   key_place = record { view = view; stored = stored; above = (within, place.keyed); fresh = place.fresh }
 
   can : CanTake (trie_of mid) at
-  can = movable (trie_of nodes) (trie_of mid) parent text facts.role holds (trie_grows nodes t parent text holds facts key_place) at there
+  can = movable (trie_of nodes) (trie_of mid) parent text facts.role holds
+      (trie_grows nodes t parent text holds facts key_place) at there
 
   last_is : length mid - 1 ≡ length nodes
   last_is = omega (arith, length_added nodes parent (record (node_at nodes parent) { children = kids }) new)
 
   own_parent : (node_at mid (length mid - 1)).parent ≡ parent
-  own_parent = ap (λ (n : Node). n.parent) (last_added nodes parent (record (node_at nodes parent) { children = kids }) new (length mid - 1) no_node last_is)
+  own_parent =
+      ap (λ (n : Node).
+      n.parent) (last_added nodes parent (record (node_at nodes parent) { children = kids }) new (length mid - 1)
+      no_node last_is)
 
-  same_ids : child_ids (node_at mid (node_at mid (length mid - 1)).parent).children ≡ child_ids (node_at mid parent).children
+  same_ids : child_ids (node_at mid (node_at mid (length mid - 1)).parent).children
+      ≡ child_ids (node_at mid parent).children
   same_ids = ap (λ p. child_ids (node_at mid p).children) own_parent
 
   pub is_last_there : (n : ℕ) → IsCounted mid parent at n → IsLast mid at n
   is_last_there n counted =
-      is_last mid (key_stored nodes t parent text holds facts key_place) at can n (omega (arith, counted.within, ap length same_ids))
+      is_last mid (key_stored nodes t parent text holds facts key_place) at can n
+      (omega (arith, counted.within, ap length same_ids))
       (λ k h. omega (arith, counted.before k h, ap (λ ids. get_or ids k 0) same_ids))
       (λ h. omega (arith, counted.stops (omega (arith, h, ap length same_ids)), ap (λ ids. get_or ids n 0) same_ids))
 
-  pub small_there : All HasSmallLink nodes → (parent < 2 ^ 32 - 1) × (length (child_ids (node_at nodes parent).children) < 2 ^ 32 - 1) → All HasSmallLink mid
+  pub small_there : All HasSmallLink nodes
+      → (parent < 2 ^ 32 - 1) × (length (child_ids (node_at nodes parent).children) < 2 ^ 32 - 1) → All HasSmallLink mid
   small_there small next k d h =
       let changed : Node = record (node_at nodes parent) { children = kids } in
       let many : length mid ≡ length nodes + 1 = length_added nodes parent changed new in
       elim (cases_lt k (length nodes)) [
         | inl before ↦
-            let same : (get_or mid k d).parent ≡ (get_or nodes k d).parent = preserved_added (λ (n : Node). n.parent) nodes parent no_node changed new (parent_low nodes t parent text holds facts key_place) refl k d before in
-            let same' : (get_or mid k d).number ≡ (get_or nodes k d).number = preserved_added (λ (n : Node). n.number) nodes parent no_node changed new (parent_low nodes t parent text holds facts key_place) refl k d before in
+            let same : (get_or mid k d).parent ≡ (get_or nodes k d).parent =
+            preserved_added (λ (n : Node). n.parent) nodes parent no_node changed new
+            (parent_low nodes t parent text holds facts key_place) refl k d before in
+            let same' : (get_or mid k d).number ≡ (get_or nodes k d).number =
+            preserved_added (λ (n : Node). n.number) nodes parent no_node changed new
+            (parent_low nodes t parent text holds facts key_place) refl k d before in
             let s = small k d before in
             (omega (arith, same, s.0), omega (arith, same', s.1))
-        | inr end ↦ subst HasSmallLink (sym (last_added nodes parent changed new k d (omega (arith, end, h, many)))) next
+        | inr end ↦
+            subst HasSmallLink (sym (last_added nodes parent changed new k d (omega (arith, end, h, many)))) next
       ]
 
   -- under its own number
@@ -173,16 +198,20 @@ module _ (nodes : List Node) (t : TrieInfos) (view : tree_of nodes ≡ t) (store
     pub paths_all : paths_of (trie_of all) ≡ insert (paths_of t.trie) at (path_at t.trie parent ++ key text ∷ [])
     paths_all =
         (moves_from mid at n last (trie_of all) (moves_last (reordered mid n) at (ready mid at n last))).paths
-        ∙ ap (λ ps. with_last_at [] ps at) (trie_grows nodes t parent text holds facts key_place).paths ∙ last_inserted [] (paths_of (trie_of nodes)) (path_at (trie_of nodes) parent ++ key text ∷ []) at
+        ∙ ap (λ ps. with_last_at [] ps at) (trie_grows nodes t parent text holds facts key_place).paths
+        ∙ last_inserted [] (paths_of (trie_of nodes)) (path_at (trie_of nodes) parent ++ key text ∷ []) at
         ∙ ap (λ (x : TrieInfos). insert (paths_of x.trie) at (path_at x.trie parent ++ key text ∷ [])) view
 
     pub holdings_all : holdings_of (trie_of all) ≡ insert (holdings_of t.trie) at holds
     holdings_all =
         (moves_from mid at n last (trie_of all) (moves_last (reordered mid n) at (ready mid at n last))).holdings
-        ∙ ap (λ hs. with_last_at nothing hs at) (trie_grows nodes t parent text holds facts key_place).holdings ∙ last_inserted nothing (holdings_of (trie_of nodes)) holds at
+        ∙ ap (λ hs. with_last_at nothing hs at) (trie_grows nodes t parent text holds facts key_place).holdings
+        ∙ last_inserted nothing (holdings_of (trie_of nodes)) holds at
         ∙ ap (λ (x : TrieInfos). insert (holdings_of x.trie) at holds) view
 
     pub infos_all : infos_of all ≡ insert t.infos at (info_of facts)
     infos_all =
-        infos_moved (reordered mid n) at (ready mid at n last) ∙ ap (λ is. with_last_at no_info is at) (infos_stay mid at n last ∙ infos_added nodes parent no_node kids new)
-        ∙ last_inserted no_info (infos_of nodes) (info_of facts) at ∙ ap (λ (x : TrieInfos). insert x.infos at (info_of facts)) view
+        infos_moved (reordered mid n) at (ready mid at n last)
+        ∙ ap (λ is. with_last_at no_info is at) (infos_stay mid at n last ∙ infos_added nodes parent no_node kids new)
+        ∙ last_inserted no_info (infos_of nodes) (info_of facts) at
+        ∙ ap (λ (x : TrieInfos). insert x.infos at (info_of facts)) view

@@ -5,12 +5,14 @@
 -- is taken out, the nodes are as before (`paths_back`, `infos_back`, `root_back`).
 --
 -- Theorems: `is_inserted`; `none_below`; `paths_back`, `infos_back`, `stored_back`, `root_back` and `root_then`.
-use Rattle.std.proofs.Common.{◌≡◌, ℕ, suc, ◌+◌, ◌-◌, ◌<◌, ◌≤◌, ◌^◌, ◌==◌, cond, true, false, List, [], ◌∷◌, ◌++◌, length}
+use Rattle.std.proofs.Common.{◌≡◌, ℕ, suc, ◌+◌, ◌-◌, ◌<◌, ◌≤◌, ◌^◌, ◌==◌, cond, true, false, List, [], ◌∷◌, ◌++◌}
+use Rattle.std.proofs.Common.{length}
 use Rattle.std.proofs.Common.{get_or, map, take, drop, refl, sym, ◌∙◌, ap, ap₂, arith, inl, inr}
 use Rattle.std.specs.Prelude.{All}
 use Rattle.std.specs.List.{insert, remove}
 use Rattle.std.proofs.lemmas.Bool.{cases_lt}
-use Rattle.std.proofs.lemmas.List.{append-nil, drop-drop, drop_at, get_or-map, length-map, length-take-le, take-append-drop, take_at, nil_from_length}
+use Rattle.std.proofs.lemmas.List.{append-nil, drop-drop, drop_at, get_or-map, length-map, length-take-le}
+use Rattle.std.proofs.lemmas.List.{take-append-drop, take_at, nil_from_length}
 use Rattle.std.proofs.lemmas.List.Edits.{get_or-insert_at, get_or-insert_below, length-insert}
 use Rattle.std.proofs.lemmas.List.Elements.{All-append, All-cons, All-drop, All-map, All-set, All-take, All-weaker}
 use Rattle.keep_types.specs.declared.node.NodeInfo.{NodeInfo}
@@ -22,11 +24,13 @@ use Rattle.keep_index_store.specs.Below.{IsRunBelow}
 use Rattle.keep_index_store.specs.Children.{ChildList, Keyed, child_ids, named}
 use Rattle.keep_index_store.specs.Facts.{info_of}
 use Rattle.keep_index_store.specs.Inserted.{HasPlace, IsInserted}
-use Rattle.keep_index_store.specs.Moved.{IsLast, moved_node, moved_nodes, moved_number, reordered, reordered_node, with_keys_reordered, with_last_at}
+use Rattle.keep_index_store.specs.Moved.{IsLast, moved_node, moved_nodes, moved_number, reordered, reordered_node}
+use Rattle.keep_index_store.specs.Moved.{with_keys_reordered, with_last_at}
 use Rattle.keep_index_store.specs.Removed.{HasStoredLink, IsLeaf, removed_nodes}
 use Rattle.keep_index_store.specs.Stored.{IsStored, infos_of, trie_of}
 use Rattle.keep_index_store.specs.Tree.{IsKeyLeaf, tree_of}
-use Rattle.keep_index_store.specs.Trie.{Holding, TrieNode, nothing, by_key, holds_at, holdings_of, parent_at, path_at, paths_of}
+use Rattle.keep_index_store.specs.Trie.{Holding, TrieNode, nothing, by_key, holds_at, holdings_of, parent_at, path_at}
+use Rattle.keep_index_store.specs.Trie.{paths_of}
 use Rattle.keep_index_store.proofs.BelowPathLemmas.{IsWithin, is_below}
 use Rattle.keep_index_store.proofs.InsertedLemmas.{holdings_all, infos_all, parent_from_path, paths_all, stored_all}
 use Rattle.keep_index_store.proofs.MovedListLemmas.{later_most, length-last, moved_most, read_last}
@@ -64,7 +68,8 @@ All-last P none xs at within all =
 HasNextLink : Node → Type 0
 HasNextLink n = (n.parent < 2 ^ 32 - 1) × (n.number < 2 ^ 32)
 
-reordered_link : (last : Node) (n : ℕ) → n ≤ last.number → (x : Node) → HasSmallLink x → HasNextLink (reordered_node last n x)
+reordered_link : (last : Node) (n : ℕ) → n ≤ last.number → (x : Node) → HasSmallLink x
+    → HasNextLink (reordered_node last n x)
 unfolding HasNextLink
 reordered_link last n order x small = (
   small.0,
@@ -112,7 +117,8 @@ module _ (mid : List Node) (at n : ℕ) (r : IsLast mid at n) where
       let last : ℕ = length nodes - 1 in
       let many : length (with_last_at no_node nodes at) ≡ length nodes = length-last no_node nodes at is.within in
       ap (λ (x : Node). child_ids x.children)
-      (get_or-map (moved_node last at) (with_last_at no_node nodes at) at no_node no_node (omega (arith, many, is.within))
+      (get_or-map (moved_node last at) (with_last_at no_node nodes at) at no_node no_node
+      (omega (arith, many, is.within))
       ∙ ap (moved_node last at) (read_last no_node nodes at is.within no_node))
       ∙ ids_moved last at (node_at nodes last).children ∙ ap (map (moved_number last at)) is.bare
 

@@ -12,7 +12,8 @@ use Rattle.keep_index_store.specs.Growth.{Grows}
 use Rattle.keep_index_store.specs.Stored.{IsStored, infos_of, trie_of}
 use Rattle.keep_index_store.specs.Tree.{TrieInfos, tree_of}
 use Rattle.keep_index_store.specs.Trie.{Holding, by_key, holds_at, path_at, paths_of}
-use Rattle.keep_index_store.proofs.StoredLemmas.{IsAdded, grows_with, infos_added, key_ids, key_step, none_holds, none_ids, stored_added}
+use Rattle.keep_index_store.proofs.StoredLemmas.{IsAdded, grows_with, infos_added, key_ids, key_step, none_holds}
+use Rattle.keep_index_store.proofs.StoredLemmas.{none_ids, stored_added}
 use Rattle.keep_index_store.proofs.TreeLemmas.{fresh_key, holds_seen, low}
 
 -- the nodes are these, and one of them may have this key and has none
@@ -22,7 +23,8 @@ pub record HasKeyPlace (nodes : List Node) (t : TrieInfos) (parent : ℕ) (text 
   pub above : (parent < length t.trie) × (holds_at t.trie parent ≡ by_key)
   pub fresh : Contains (paths_of t.trie) (path_at t.trie parent ++ key text ∷ []) → ⊥
 
-module _ (nodes : List Node) (t : TrieInfos) (parent : ℕ) (text : List ℕ) (holds : Holding) (facts : NodeFacts) (place : HasKeyPlace nodes t parent text) where
+module _ (nodes : List Node) (t : TrieInfos) (parent : ℕ) (text : List ℕ) (holds : Holding) (facts : NodeFacts)
+    (place : HasKeyPlace nodes t parent text) where
   abbrev above : ChildList
   above = (node_at nodes parent).children
 
@@ -56,16 +58,23 @@ module _ (nodes : List Node) (t : TrieInfos) (parent : ℕ) (text : List ℕ) (h
   }
 
   fresh : Contains (paths_of (trie_of nodes)) (path_at (trie_of nodes) parent ++ key text ∷ []) → ⊥
-  fresh = subst (λ (x : TrieInfos). Contains (paths_of x.trie) (path_at x.trie parent ++ key text ∷ []) → ⊥) (sym place.view) place.fresh
+  fresh = subst (λ (x : TrieInfos). Contains (paths_of x.trie) (path_at x.trie parent ++ key text ∷ []) → ⊥)
+      (sym place.view) place.fresh
 
   pub key_stored : IsStored (with_key_below nodes parent text holds facts)
   key_stored = stored_added nodes parent no_node kids new (key text) added fresh
 
-  pub trie_grows : Grows (trie_of nodes) (trie_of (with_key_below nodes parent text holds facts)) parent (path_at (trie_of nodes) parent ++ key text ∷ []) facts.role holds
+  pub trie_grows : Grows (trie_of nodes) (trie_of (with_key_below nodes parent text holds facts)) parent
+      (path_at (trie_of nodes) parent ++ key text ∷ []) facts.role holds
   trie_grows = grows_with _ _ _ _ _ _ _ _ added fresh refl (none_holds holds)
 
-  pub key_grows : Grows t.trie (trie_of (with_key_below nodes parent text holds facts)) parent (path_at t.trie parent ++ key text ∷ []) facts.role holds
-  key_grows = subst (λ (x : TrieInfos). Grows x.trie (trie_of (with_key_below nodes parent text holds facts)) parent (path_at x.trie parent ++ key text ∷ []) facts.role holds) place.view trie_grows
+  pub key_grows : Grows t.trie (trie_of (with_key_below nodes parent text holds facts)) parent
+      (path_at t.trie parent ++ key text ∷ []) facts.role holds
+  key_grows =
+      subst (λ (x : TrieInfos).
+      Grows x.trie (trie_of (with_key_below nodes parent text holds facts)) parent
+      (path_at x.trie parent ++ key text ∷ []) facts.role holds) place.view trie_grows
 
   pub key_infos : infos_of (with_key_below nodes parent text holds facts) ≡ t.infos ++ info_of facts ∷ []
-  key_infos = infos_added nodes parent no_node kids new ∙ ap (λ (x : TrieInfos). x.infos ++ info_of facts ∷ []) place.view
+  key_infos =
+      infos_added nodes parent no_node kids new ∙ ap (λ (x : TrieInfos). x.infos ++ info_of facts ∷ []) place.view

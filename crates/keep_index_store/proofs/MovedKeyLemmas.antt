@@ -1,5 +1,6 @@
 -- The entries of a map from keys to children, where the last one takes an earlier place, and under other numbers.
-use Rattle.std.proofs.Common.{◌≡◌, ℕ, zero, suc, ◌+◌, ◌-◌, ◌<◌, List, [], ◌∷◌, ◌++◌, length, get_or, set, take, drop, map, refl, sym, ◌∙◌, ap, arith, Some}
+use Rattle.std.proofs.Common.{◌≡◌, ℕ, zero, suc, ◌+◌, ◌-◌, ◌<◌, List, [], ◌∷◌, ◌++◌, length, get_or, set, take, drop}
+use Rattle.std.proofs.Common.{map, refl, sym, ◌∙◌, ap, arith, Some}
 use Rattle.std.specs.Prelude.{slice_get}
 use Rattle.std.specs.List.{insert, remove}
 use Rattle.std.specs.Option.{option_map_or}
@@ -10,35 +11,45 @@ use Rattle.indexmap.specs.IndexMap.{move_index, set_value_at}
 use Rattle.keep_index_store.specs.Children.{ChildList, Keyed, Listed}
 use Rattle.keep_index_store.specs.Moved.{with_last_at, moved_number, moved_children}
 
-pub moved_index : {X : Type 0} (none : X) (xs : List X) (n to : ℕ) → n ≡ length xs - 1 → 0 < length xs → move_index xs n to ≡ with_last_at none xs to
+pub moved_index : {X : Type 0} (none : X) (xs : List X) (n to : ℕ) → n ≡ length xs - 1 → 0 < length xs
+    → move_index xs n to ≡ with_last_at none xs to
 moved_index none xs n to is some =
     let low : n < length xs = omega arith in
     ap (λ o. option_map_or (λ x. insert (remove xs n) to x) o xs) (slice_get-get_or xs n none low)
-    ∙ ap (λ ys. insert ys to (get_or xs n none)) (ap (λ ys. take n xs ++ ys) (drop_all (suc n) xs (omega arith)) ∙ append-nil (take n xs))
+    ∙ ap (λ ys. insert ys to (get_or xs n none))
+    (ap (λ ys. take n xs ++ ys) (drop_all (suc n) xs (omega arith)) ∙ append-nil (take n xs))
     ∙ ap (λ k. insert (take k xs) to (get_or xs k none)) is
 
 -- an entry under another number
 abbrev pub with_value : (ℕ → ℕ) → List ℕ × ℕ → List ℕ × ℕ
 with_value f e = (e.0, f e.1)
 
-value_set : (es : List (List ℕ × ℕ)) (i w : ℕ) (d : List ℕ × ℕ) → i < length es → set_value_at es i w ≡ set es i ((get_or es i d).0, w)
+value_set : (es : List (List ℕ × ℕ)) (i w : ℕ) (d : List ℕ × ℕ) → i < length es
+    → set_value_at es i w ≡ set es i ((get_or es i d).0, w)
 value_set [] i w d h = refl
 value_set (e ∷ es) zero w d h = refl
 value_set (e ∷ es) (suc i) w d h = ap (λ (xs : List (List ℕ × ℕ)). e ∷ xs) (value_set es i w d (omega arith))
 
 -- a loop that renumbers each entry
-pub values_more : (f : ℕ → ℕ) (xs ys : List (List ℕ × ℕ)) (i w : ℕ) → i < length xs → i < length ys → ys ≡ map (with_value f) (take i xs) ++ drop i xs → w ≡ f (get_or ys i ([], 0)).1
+pub values_more : (f : ℕ → ℕ) (xs ys : List (List ℕ × ℕ)) (i w : ℕ) → i < length xs → i < length ys
+    → ys ≡ map (with_value f) (take i xs) ++ drop i xs → w ≡ f (get_or ys i ([], 0)).1
     → set_value_at ys i w ≡ map (with_value f) (take (i + 1) xs) ++ drop (i + 1) xs
 values_more f xs ys i w h g is value =
     let x : List ℕ × ℕ = get_or ys i ([], 0) in
-    value_set ys i w ([], 0) g ∙ ap (λ (v : ℕ). set ys i (x.0, v)) value ∙ map_over_more (with_value f) xs ys i x h is (get_or_default ys i ([], 0) x g)
+    value_set ys i w ([], 0) g ∙ ap (λ (v : ℕ). set ys i (x.0, v)) value
+    ∙ map_over_more (with_value f) xs ys i x h is (get_or_default ys i ([], 0) x g)
 
-pub value_read : (es : List (List ℕ × ℕ)) (i v : ℕ) → slice_get (map (λ e. e.1) es) i ≡ Some v → i < length es → (get_or es i ([], 0)).1 ≡ v
-value_read es i v is h = let d : List ℕ × ℕ = ([], 0) in sym (get_or-map (λ e. e.1) es i d 0 h) ∙ get_or_from_slice_get (map (λ e. e.1) es) i v 0 is
+pub value_read : (es : List (List ℕ × ℕ)) (i v : ℕ) → slice_get (map (λ e. e.1) es) i ≡ Some v → i < length es
+    → (get_or es i ([], 0)).1 ≡ v
+value_read es i v is h =
+    let d : List ℕ × ℕ = ([], 0) in
+    sym (get_or-map (λ e. e.1) es i d 0 h) ∙ get_or_from_slice_get (map (λ e. e.1) es) i v 0 is
 
 -- what the children of a node are next, by their form
-pub keys_moved : (last at : ℕ) (c : ChildList) (pairs next : List (List ℕ × ℕ)) → c ≡ Keyed pairs → next ≡ map (with_value (moved_number last at)) pairs → Keyed next ≡ moved_children last at c
+pub keys_moved : (last at : ℕ) (c : ChildList) (pairs next : List (List ℕ × ℕ)) → c ≡ Keyed pairs
+    → next ≡ map (with_value (moved_number last at)) pairs → Keyed next ≡ moved_children last at c
 keys_moved last at c pairs next is by = ap Keyed by ∙ ap (moved_children last at) (sym is)
 
-pub items_moved : (last at : ℕ) (c : ChildList) (ids next : List ℕ) → c ≡ Listed ids → next ≡ map (moved_number last at) ids → Listed next ≡ moved_children last at c
+pub items_moved : (last at : ℕ) (c : ChildList) (ids next : List ℕ) → c ≡ Listed ids
+    → next ≡ map (moved_number last at) ids → Listed next ≡ moved_children last at c
 items_moved last at c ids next is by = ap Listed by ∙ ap (moved_children last at) (sym is)

@@ -1,8 +1,10 @@
 -- The packed parent links under other numbers, and with the last one at another place.
-use Rattle.std.proofs.Common.{◌≡◌, ℕ, ◌+◌, ◌-◌, ◌<◌, ◌≤◌, ◌^◌, All, List, [], ◌∷◌, ◌++◌, length, get_or, set, take, drop}
+use Rattle.std.proofs.Common.{◌≡◌, ℕ, ◌+◌, ◌-◌, ◌<◌, ◌≤◌, ◌^◌, All, List, [], ◌∷◌, ◌++◌, length, get_or, set, take}
+use Rattle.std.proofs.Common.{drop}
 use Rattle.std.proofs.Common.{map, refl, sym, ◌∙◌, ap, subst, arith, cond, true, false, length-append}
 use Rattle.std.specs.Prelude.{◌==◌}
-use Rattle.std.proofs.lemmas.List.{append-nil, drop-drop, drop-set-lt, get_or-append_right, get_or-drop, get_or-map, length-map, map-set}
+use Rattle.std.proofs.lemmas.List.{append-nil, drop-drop, drop-set-lt, get_or-append_right, get_or-drop, get_or-map}
+use Rattle.std.proofs.lemmas.List.{length-map, map-set}
 use Rattle.std.proofs.lemmas.List.Edits.{map_over_more}
 use Rattle.std.proofs.lemmas.List.Elements.{All-append, All-cons, All-drop, All-map, All-take, All-weaker}
 use Rattle.keep_index_store.specs.declared.links.NewPlace.{NewPlace}
@@ -12,10 +14,12 @@ use Rattle.keep_index_store.specs.Links.{FitsIn32Bits, IsSmall, StartsLarge, lin
 use Rattle.keep_index_store.specs.Moved.{moved_link, moved_number, with_last_at}
 use Rattle.keep_index_store.proofs.MovedListLemmas.{later_most, map-last, moved_most, partly_count}
 
-pub link_same : (old links : List PackedLink) (i : ℕ) (d : PackedLink) → drop i links ≡ drop i old → get_or links i d ≡ get_or old i d
+pub link_same : (old links : List PackedLink) (i : ℕ) (d : PackedLink) → drop i links ≡ drop i old
+    → get_or links i d ≡ get_or old i d
 link_same old links i d same =
     let here : i + 0 ≡ i = omega arith in
-    ap (λ k. get_or links k d) (sym here) ∙ sym (get_or-drop i links 0 d) ∙ ap (λ ls. get_or ls 0 d) same ∙ get_or-drop i old 0 d ∙ ap (λ k. get_or old k d) here
+    ap (λ k. get_or links k d) (sym here) ∙ sym (get_or-drop i links 0 d) ∙ ap (λ ls. get_or ls 0 d) same
+    ∙ get_or-drop i old 0 d ∙ ap (λ k. get_or old k d) here
 
 -- a loop that renumbers each link
 pub links_more : (f : ParentLink → ParentLink) (old links : List PackedLink) (i : ℕ) (next d : PackedLink)
@@ -31,16 +35,22 @@ links_more f old links i next d h is by =
     ∙ map_over_more f (map link_of old) (map link_of links) i (link_of x) few is
     (sym (get_or-map link_of links i d (link_of x) low))
 
-pub rest_more : (old links : List PackedLink) (i : ℕ) (next : PackedLink) → drop i links ≡ drop i old → drop (i + 1) (set links i next) ≡ drop (i + 1) old
-rest_more old links i next same = drop-set-lt (i + 1) links i next (omega arith) ∙ sym (drop-drop 1 i links) ∙ ap (drop 1) same ∙ drop-drop 1 i old
+pub rest_more : (old links : List PackedLink) (i : ℕ) (next : PackedLink) → drop i links ≡ drop i old
+    → drop (i + 1) (set links i next) ≡ drop (i + 1) old
+rest_more old links i next same =
+    drop-set-lt (i + 1) links i next (omega arith) ∙ sym (drop-drop 1 i links) ∙ ap (drop 1) same ∙ drop-drop 1 i old
 
 -- the links renumbered, and then the last moved
-pub links_moved : (p : NewPlace) (old mid links : List PackedLink) (none : ParentLink) → 0 < length mid → map link_of mid ≡ map (moved_link p) (map link_of old)
-    → ((d : PackedLink) → links ≡ with_last_at d mid p.at) → map link_of links ≡ map (moved_link p) (with_last_at none (map link_of old) p.at)
+pub links_moved : (p : NewPlace) (old mid links : List PackedLink) (none : ParentLink) → 0 < length mid
+    → map link_of mid ≡ map (moved_link p) (map link_of old)
+    → ((d : PackedLink) → links ≡ with_last_at d mid p.at)
+    → map link_of links ≡ map (moved_link p) (with_last_at none (map link_of old) p.at)
 links_moved p old mid links none some by is =
     let d : PackedLink = record { parent = 0; number = 0 } in
-    ap (map link_of) (is d) ∙ map-last link_of d (moved_link p none) mid p.at some ∙ ap (λ ls. with_last_at (moved_link p none) ls p.at) by
-    ∙ sym (map-last (moved_link p) none (moved_link p none) (map link_of old) p.at (omega (arith, some, ap length by, length-map mid link_of, length-map (map link_of old) (moved_link p))))
+    ap (map link_of) (is d) ∙ map-last link_of d (moved_link p none) mid p.at some
+    ∙ ap (λ ls. with_last_at (moved_link p none) ls p.at) by
+    ∙ sym (map-last (moved_link p) none (moved_link p none) (map link_of old) p.at
+    (omega (arith, some, ap length by, length-map mid link_of, length-map (map link_of old) (moved_link p))))
 
 -- ---- small links
 
@@ -51,19 +61,24 @@ all_packed packed [] large small = refl
 all_packed packed (h ∷ hs) large small =
     let links : List ParentLink = map link_of packed in
     let here : length links - length links ≡ 0 = omega arith in
-    let own : get_or (links ++ h ∷ hs) (length links) h ≡ h = get_or-append_right links (h ∷ hs) (length links) (length links) h refl (omega arith) ∙ ap (λ k. get_or (h ∷ hs) k h) here in
+    let own : get_or (links ++ h ∷ hs) (length links) h ≡ h =
+    get_or-append_right links (h ∷ hs) (length links) (length links) h refl (omega arith)
+    ∙ ap (λ k. get_or (h ∷ hs) k h) here in
     let s = subst FitsIn32Bits own (small (length links) h (omega (arith, length-append links (h ∷ hs)))) in
     absurd (omega (arith, s.0, s.1, large))
 
 pub packed_read : (packed : List PackedLink) (k : ℕ) (d : PackedLink) (e : ParentLink) → k < length packed
     → get_or (links_in packed []) k e ≡ link_of (get_or packed k d)
-packed_read packed k d e h = ap (λ ls. get_or ls k e) (append-nil (map link_of packed)) ∙ get_or-map link_of packed k d e h
+packed_read packed k d e h =
+    ap (λ ls. get_or ls k e) (append-nil (map link_of packed)) ∙ get_or-map link_of packed k d e h
 
 packed_small : (packed : List PackedLink) → All IsSmall (links_in packed []) → All (λ h. IsSmall (link_of h)) packed
 packed_small packed small k d h =
-    subst IsSmall (packed_read packed k d (link_of d) h) (small k (link_of d) (omega (arith, h, length-append (map link_of packed) [], length-map packed link_of)))
+    subst IsSmall (packed_read packed k d (link_of d) h)
+    (small k (link_of d) (omega (arith, h, length-append (map link_of packed) [], length-map packed link_of)))
 
-module _ (packed : List PackedLink) (unpacked all : List ParentLink) (view : links_in packed unpacked ≡ all) (large : StartsLarge unpacked) (small : All IsSmall all) where
+module _ (packed : List PackedLink) (unpacked all : List ParentLink) (view : links_in packed unpacked ≡ all)
+    (large : StartsLarge unpacked) (small : All IsSmall all) where
   pub none_unpacked : unpacked ≡ []
   none_unpacked =
       all_packed packed unpacked large (subst (λ (hs : List ParentLink). All FitsIn32Bits hs) (sym view)
@@ -73,7 +88,9 @@ module _ (packed : List PackedLink) (unpacked all : List ParentLink) (view : lin
   packed_seen = sym (append-nil (map link_of packed)) ∙ ap (links_in packed) (sym none_unpacked) ∙ view
 
   pub each_small : All (λ h. IsSmall (link_of h)) packed
-  each_small = packed_small packed (subst (λ (hs : List ParentLink). All IsSmall hs) (sym view ∙ ap (links_in packed) none_unpacked) small)
+  each_small =
+      packed_small packed (subst (λ (hs : List ParentLink). All IsSmall hs)
+      (sym view ∙ ap (links_in packed) none_unpacked) small)
 
 -- ---- the links then fit into 32 bits
 
@@ -103,4 +120,5 @@ last_fit p all none order within small =
     (All-drop IsSmall p.at front each) in
     All-map FitsIn32Bits (moved_link p) (with_last_at none all p.at)
     (All-weaker IsSmall (λ h. FitsIn32Bits (moved_link p h)) (moved_fits p order) (with_last_at none all p.at)
-    (All-append IsSmall (take p.at front) (get_or all n none ∷ drop p.at front) (All-take IsSmall p.at front each) rest))
+    (All-append IsSmall (take p.at front) (get_or all n none ∷ drop p.at front) (All-take IsSmall p.at front each)
+    rest))

@@ -1,8 +1,11 @@
 -- The nodes and their parent links, which are stored apart, with the last node at another place.
 --
--- The nodes are moved and renumbered in one list, and the links in another. Row by row these are the nodes of before with the
--- numbers that they have then. Links whose numbers fit into 32 bits with one more are all packed, so each is changed where it is.
-use Rattle.std.proofs.Common.{◌≡◌, ℕ, ◌-◌, ◌<◌, ◌≤◌, List, [], ◌∷◌, length, get_or, set, map, refl, sym, ◌∙◌, ap, subst, arith, Some}
+-- The nodes are moved and renumbered in one list, and the links in another. Row by row these are the nodes of before
+-- with the
+-- numbers that they have then. Links whose numbers fit into 32 bits with one more are all packed, so each is changed
+-- where it is.
+use Rattle.std.proofs.Common.{◌≡◌, ℕ, ◌-◌, ◌<◌, ◌≤◌, List, [], ◌∷◌, length, get_or, set, map, refl, sym, ◌∙◌, ap, subst}
+use Rattle.std.proofs.Common.{arith, Some}
 use Rattle.std.specs.Prelude.{All, slice_get}
 use Rattle.std.proofs.lemmas.List.{get_or-map, get_or_default, length-map, length-set, same_lists}
 use Rattle.std.proofs.lemmas.Option.{get_or_from_slice_get}
@@ -13,7 +16,9 @@ use Rattle.keep_index_store.specs.declared.nodes.Node.{Node as StoredNode}
 use Rattle.keep_index_store.specs.AllNodes.{HasSmallLink, Node, AllNodes, no_node, node_at}
 use Rattle.keep_index_store.specs.Children.{ChildList, Keyed, holds_of, named}
 use Rattle.keep_index_store.specs.Links.{IsSmall}
-use Rattle.keep_index_store.specs.Moved.{CanMove, IsLast, with_last_at, moved_number, moved_node, moved_nodes, moved_link, reordered_node, with_keys_reordered, reordered, stored_at, with_last_key, with_moved_children}
+use Rattle.keep_index_store.specs.Moved.{CanMove, IsLast, with_last_at, moved_number, moved_node, moved_nodes}
+use Rattle.keep_index_store.specs.Moved.{moved_link, reordered_node, with_keys_reordered, reordered, stored_at}
+use Rattle.keep_index_store.specs.Moved.{with_last_key, with_moved_children}
 use Rattle.keep_index_store.specs.NodeRows.{node_row, node_rows, all_nodes}
 use Rattle.keep_index_store.specs.Trie.{by_key}
 use Rattle.keep_index_store.proofs.NodeRowLemmas.{count_seen, rows_count, rows_at, rows_set, nowhere, nothing}
@@ -22,11 +27,13 @@ use Rattle.keep_index_store.proofs.MovedReadyLemmas.{above_within, can_move, man
 
 -- ---- small links
 
-module _ (list : List StoredNode) (links : List ParentLink) (all : AllNodes) (view : all_nodes list links ≡ all) (paired : length links ≡ length list) where
+module _ (list : List StoredNode) (links : List ParentLink) (all : AllNodes) (view : all_nodes list links ≡ all)
+    (paired : length links ≡ length list) where
   pub links_small : All HasSmallLink all.items → All IsSmall links
   links_small small k d h =
       let low : k < length list = omega (arith, h, paired) in
-      subst HasSmallLink (ap (λ (x : AllNodes). node_at x.items k) (sym view) ∙ rows_at list links k nothing d paired low)
+      subst HasSmallLink (ap (λ (x : AllNodes). node_at x.items k) (sym view)
+      ∙ rows_at list links k nothing d paired low)
       (small k no_node (omega (arith, low, count_seen list links all view paired)))
 
 -- ---- the last node at another place
@@ -41,36 +48,53 @@ place_of nodes at n = record {
 }
 
 rows_map : (last : ℕ) (own : Node) (at n : ℕ) (nodes : List StoredNode) (links : List ParentLink)
-    → node_rows (map (with_moved_children last at) nodes) (map (moved_link (record { at = at; above = own.parent; before = own.number; number = n })) links)
+    → node_rows (map (with_moved_children last at) nodes)
+    (map (moved_link (record { at = at; above = own.parent; before = own.number; number = n })) links)
     ≡ map (λ x. moved_node last at (reordered_node own n x)) (node_rows nodes links)
 rows_map last own at n [] links = refl
 rows_map last own at n (x ∷ nodes) [] = refl
-rows_map last own at n (x ∷ nodes) (h ∷ links) = ap (λ (xs : List Node). moved_node last at (reordered_node own n (node_row x h)) ∷ xs) (rows_map last own at n nodes links)
+rows_map last own at n (x ∷ nodes) (h ∷ links) =
+    ap (λ (xs : List Node). moved_node last at (reordered_node own n (node_row x h)) ∷ xs)
+    (rows_map last own at n nodes links)
 
-rows_last : (nodes : List StoredNode) (links : List ParentLink) (at : ℕ) → length links ≡ length nodes → at < length nodes
-    → node_rows (with_last_at nothing nodes at) (with_last_at nowhere links at) ≡ with_last_at no_node (node_rows nodes links) at
+rows_last : (nodes : List StoredNode) (links : List ParentLink) (at : ℕ) → length links ≡ length nodes
+    → at < length nodes
+    → node_rows (with_last_at nothing nodes at) (with_last_at nowhere links at)
+    ≡ with_last_at no_node (node_rows nodes links) at
 rows_last nodes links at paired h =
     let rows : length (node_rows nodes links) ≡ length nodes = rows_count nodes links paired in
     let h' : at < length links = omega (arith, h, paired) in
     let h'' : at < length (node_rows nodes links) = omega (arith, h, rows) in
     let one : length (with_last_at nothing nodes at) ≡ length nodes = length-last nothing nodes at h in
     let two : length (with_last_at nowhere links at) ≡ length nodes = length-last nowhere links at h' ∙ paired in
-    let all : length (node_rows (with_last_at nothing nodes at) (with_last_at nowhere links at)) ≡ length nodes = rows_count (with_last_at nothing nodes at) (with_last_at nowhere links at) (two ∙ sym one) ∙ one in
-    same_lists (node_rows (with_last_at nothing nodes at) (with_last_at nowhere links at)) (with_last_at no_node (node_rows nodes links) at)
+    let all : length (node_rows (with_last_at nothing nodes at) (with_last_at nowhere links at)) ≡ length nodes =
+    rows_count (with_last_at nothing nodes at) (with_last_at nowhere links at) (two ∙ sym one) ∙ one in
+    same_lists (node_rows (with_last_at nothing nodes at) (with_last_at nowhere links at))
+    (with_last_at no_node (node_rows nodes links) at)
     (all ∙ sym (length-last no_node (node_rows nodes links) at h'' ∙ rows))
     (λ k d low.
     let f = from no_node (node_rows nodes links) at h'' k (omega (arith, low, all, rows)) in
     let was : f.was < length nodes = omega (arith, f.within, rows) in
-    let number : moved_number (length nodes - 1) at f.was ≡ k = ap (λ m. moved_number (m - 1) at f.was) (sym rows) ∙ f.moved in
-    let number' : moved_number (length links - 1) at f.was ≡ k = ap (λ m. moved_number (m - 1) at f.was) paired ∙ number in
-    let node : get_or (with_last_at nothing nodes at) k nothing ≡ get_or nodes f.was nothing = ap (λ j. get_or (with_last_at nothing nodes at) j nothing) (sym number) ∙ read_moved nothing nodes at f.was nothing h was in
-    let link : get_or (with_last_at nowhere links at) k nowhere ≡ get_or links f.was nowhere = ap (λ j. get_or (with_last_at nowhere links at) j nowhere) (sym number') ∙ read_moved nowhere links at f.was nowhere h' (omega (arith, was, paired)) in
+    let number : moved_number (length nodes - 1) at f.was ≡ k =
+    ap (λ m. moved_number (m - 1) at f.was) (sym rows) ∙ f.moved in
+    let number' : moved_number (length links - 1) at f.was ≡ k =
+    ap (λ m. moved_number (m - 1) at f.was) paired ∙ number in
+    let node : get_or (with_last_at nothing nodes at) k nothing ≡ get_or nodes f.was nothing =
+    ap (λ j. get_or (with_last_at nothing nodes at) j nothing) (sym number)
+    ∙ read_moved nothing nodes at f.was nothing h was in
+    let link : get_or (with_last_at nowhere links at) k nowhere ≡ get_or links f.was nowhere =
+    ap (λ j. get_or (with_last_at nowhere links at) j nowhere) (sym number')
+    ∙ read_moved nowhere links at f.was nowhere h' (omega (arith, was, paired)) in
     get_or_default (node_rows (with_last_at nothing nodes at) (with_last_at nowhere links at)) k d no_node low
-    ∙ rows_at (with_last_at nothing nodes at) (with_last_at nowhere links at) k nothing nowhere (two ∙ sym one) (omega (arith, low, all, one))
-    ∙ ap (λ x. node_row x (get_or (with_last_at nowhere links at) k nowhere)) node ∙ ap (node_row (get_or nodes f.was nothing)) link
-    ∙ sym (rows_at nodes links f.was nothing nowhere paired was) ∙ get_or_default (node_rows nodes links) f.was no_node d f.within ∙ sym (f.read d))
+    ∙ rows_at (with_last_at nothing nodes at) (with_last_at nowhere links at) k nothing nowhere (two ∙ sym one)
+    (omega (arith, low, all, one))
+    ∙ ap (λ x. node_row x (get_or (with_last_at nowhere links at) k nowhere)) node
+    ∙ ap (node_row (get_or nodes f.was nothing)) link
+    ∙ sym (rows_at nodes links f.was nothing nowhere paired was)
+    ∙ get_or_default (node_rows nodes links) f.was no_node d f.within ∙ sym (f.read d))
 
-module _ (list : List StoredNode) (links : List ParentLink) (at n : ℕ) (paired : length links ≡ length list) (r : IsLast (node_rows list links) at n) where
+module _ (list : List StoredNode) (links : List ParentLink) (at n : ℕ) (paired : length links ≡ length list)
+    (r : IsLast (node_rows list links) at n) where
   abbrev nodes : List Node
   nodes = node_rows list links
 
@@ -81,7 +105,10 @@ module _ (list : List StoredNode) (links : List ParentLink) (at n : ℕ) (paired
   keyed = with_last_key list (place_of (node_rows list links) at n)
 
   abbrev entry : StoredNode
-  entry = record (stored_at list p.above) { children = Keyed (with_last_at ([], 0) (named (stored_at list p.above).children) n) }
+  entry = record (stored_at list p.above) {
+    children =
+        Keyed (with_last_at ([], 0) (named (stored_at list p.above).children) n);
+  }
 
   count : length nodes ≡ length list
   count = rows_count list links paired
@@ -104,41 +131,75 @@ module _ (list : List StoredNode) (links : List ParentLink) (at n : ℕ) (paired
   keyed_rows : node_rows keyed links ≡ with_keys_reordered nodes p.above n
   keyed_rows =
       rows_set list links p.above entry nowhere paired
-      ∙ ap (λ (x : Node). let c : Node = record x { children = Keyed (with_last_at ([], 0) (named x.children) n) } in set nodes p.above c) (sym own_row)
+      ∙ ap (λ (x : Node). let c : Node = record x { children = Keyed (with_last_at ([], 0) (named x.children) n) } in
+      set nodes p.above c) (sym own_row)
 
-  children_at : (k : ℕ) (d : StoredNode) → k < length list → (get_or (reordered nodes n) k no_node).children ≡ (get_or keyed k d).children
+  children_at : (k : ℕ) (d : StoredNode) → k < length list
+      → (get_or (reordered nodes n) k no_node).children ≡ (get_or keyed k d).children
   children_at k d h =
-      ap (λ ns. (get_or (map (reordered_node (node_at nodes (length nodes - 1)) n) ns) k no_node).children) (sym keyed_rows)
-      ∙ ap (λ (x : Node). x.children) (get_or-map (reordered_node (node_at nodes (length nodes - 1)) n) (node_rows keyed links) k no_node no_node (omega (arith, h, length-set list p.above entry, rows_count keyed links (paired ∙ sym (length-set list p.above entry)))))
-      ∙ ap (λ (x : Node). x.children) (rows_at keyed links k d nowhere (paired ∙ sym (length-set list p.above entry)) (omega (arith, h, length-set list p.above entry)))
+      ap (λ ns. (get_or (map (reordered_node (node_at nodes (length nodes - 1)) n) ns) k no_node).children)
+      (sym keyed_rows)
+      ∙ ap (λ (x : Node). x.children)
+      (get_or-map (reordered_node (node_at nodes (length nodes - 1)) n) (node_rows keyed links) k no_node no_node
+      (omega (
+        arith,
+        h,
+        length-set list p.above entry,
+        rows_count keyed links (paired ∙ sym (length-set list p.above entry)),
+      )))
+      ∙ ap (λ (x : Node). x.children)
+      (rows_at keyed links k d nowhere (paired ∙ sym (length-set list p.above entry))
+      (omega (arith, h, length-set list p.above entry)))
 
   pub each : All (λ (x : StoredNode). CanMove (length list - 1) at x.children) keyed
   each k d h =
       let low : k < length list = omega (arith, h, length-set list p.above entry) in
       subst (λ (c : ChildList). CanMove (length list - 1) at c) (children_at k d low)
-      (subst (λ (m : ℕ). CanMove (m - 1) at (get_or (reordered nodes n) k no_node).children) count (can_move nodes at n r k (omega (arith, low, count))))
+      (subst (λ (m : ℕ). CanMove (m - 1) at (get_or (reordered nodes n) k no_node).children) count
+      (can_move nodes at n r k (omega (arith, low, count))))
 
-  pub rows_moved : (list' : List StoredNode) (links' : List ParentLink) → ((none : StoredNode) → list' ≡ map (with_moved_children (length list - 1) at) (with_last_at none keyed at))
-      → ((none : ParentLink) → links' ≡ map (moved_link p) (with_last_at none links at)) → node_rows list' links' ≡ moved_nodes (reordered nodes n) at
+  pub rows_moved : (list' : List StoredNode) (links' : List ParentLink)
+      → ((none : StoredNode) → list' ≡ map (with_moved_children (length list - 1) at) (with_last_at none keyed at))
+      → ((none : ParentLink) → links' ≡ map (moved_link p) (with_last_at none links at))
+      → node_rows list' links' ≡ moved_nodes (reordered nodes n) at
   rows_moved list' links' nodes_are links_are =
       let own : Node = node_at nodes (length nodes - 1) in
       let many : length keyed ≡ length list = length-set list p.above entry in
       let written : List Node = with_keys_reordered nodes p.above n in
-      let long : length (reordered nodes n) ≡ length list = length-map written (reordered_node own n) ∙ ap length (sym keyed_rows) ∙ rows_count keyed links (paired ∙ sym many) ∙ many in
-      ap (λ ns. node_rows ns links') (nodes_are nothing) ∙ ap (node_rows (map (with_moved_children (length list - 1) at) (with_last_at nothing keyed at))) (links_are nowhere)
+      let long : length (reordered nodes n) ≡ length list =
+      length-map written (reordered_node own n) ∙ ap length (sym keyed_rows)
+      ∙ rows_count keyed links (paired ∙ sym many) ∙ many in
+      ap (λ ns. node_rows ns links') (nodes_are nothing)
+      ∙ ap (node_rows (map (with_moved_children (length list - 1) at) (with_last_at nothing keyed at)))
+      (links_are nowhere)
       ∙ rows_map (length list - 1) own at n (with_last_at nothing keyed at) (with_last_at nowhere links at)
-      ∙ ap (map (λ x. moved_node (length list - 1) at (reordered_node own n x))) (rows_last keyed links at (paired ∙ sym many) (omega (arith, r.within, count, many)) ∙ ap (λ ns. with_last_at no_node ns at) keyed_rows)
+      ∙ ap (map (λ x. moved_node (length list - 1) at (reordered_node own n x)))
+      (rows_last keyed links at (paired ∙ sym many) (omega (arith, r.within, count, many))
+      ∙ ap (λ ns. with_last_at no_node ns at) keyed_rows)
       ∙ sym (map-map (moved_node (length list - 1) at) (reordered_node own n) (with_last_at no_node written at))
-      ∙ ap (map (moved_node (length list - 1) at)) (map-last (reordered_node own n) no_node no_node written at (omega (arith, r.within, ap length (sym keyed_rows), rows_count keyed links (paired ∙ sym many), many, count)))
+      ∙ ap (map (moved_node (length list - 1) at))
+      (map-last (reordered_node own n) no_node no_node
+      written at (omega (
+        arith,
+        r.within,
+        ap length (sym keyed_rows),
+        rows_count keyed links (paired ∙ sym many),
+        many,
+        count,
+      )))
       ∙ ap (λ m. map (moved_node (m - 1) at) (with_last_at no_node (reordered nodes n) at)) (sym long)
 
   -- the place as it is read from the last link
-  place_is : (h : ParentLink) (i : ℕ) → i ≡ length list - 1 → slice_get links i ≡ Some h → ◌≡◌ {A = NewPlace} (record { at = at; above = h.parent; before = h.number; number = n }) p
+  place_is : (h : ParentLink) (i : ℕ) → i ≡ length list - 1 → slice_get links i ≡ Some h
+      → ◌≡◌ {A = NewPlace} (record { at = at; above = h.parent; before = h.number; number = n }) p
   place_is h i is own =
       let at_end : i ≡ length nodes - 1 = is ∙ ap (λ m. m - 1) (sym count) in
-      ap (λ (l : ParentLink). let q : NewPlace = record { at = at; above = l.parent; before = l.number; number = n } in q) (sym (get_or_from_slice_get links i h nowhere own))
-      ∙ ap (λ (x : Node). let q : NewPlace = record { at = at; above = x.parent; before = x.number; number = n } in q) (sym (rows_at list links i nothing nowhere paired (omega (arith, is, r.within, count))))
-      ∙ ap (λ m. let q : NewPlace = record { at = at; above = (node_at nodes m).parent; before = (node_at nodes m).number; number = n } in q) at_end
+      ap (λ (l : ParentLink). let q : NewPlace = record { at = at; above = l.parent; before = l.number; number = n } in
+      q) (sym (get_or_from_slice_get links i h nowhere own))
+      ∙ ap (λ (x : Node). let q : NewPlace = record { at = at; above = x.parent; before = x.number; number = n } in q)
+      (sym (rows_at list links i nothing nowhere paired (omega (arith, is, r.within, count))))
+      ∙ ap (λ m. let q : NewPlace =
+      record { at = at; above = (node_at nodes m).parent; before = (node_at nodes m).number; number = n } in q) at_end
 
 -- the last node can go to that place
 pub record CanPlace (list : List StoredNode) (q : NewPlace) : Type 0 where
@@ -149,7 +210,8 @@ pub record CanPlace (list : List StoredNode) (q : NewPlace) : Type 0 where
   pub order : q.number ≤ q.before
   pub each : All (λ (x : StoredNode). CanMove (length list - 1) q.at x.children) (with_last_key list q)
 
-module _ (list : List StoredNode) (links : List ParentLink) (all : AllNodes) (view : all_nodes list links ≡ all) (paired : length links ≡ length list) (at n : ℕ) (req : IsLast all.items at n)
+module _ (list : List StoredNode) (links : List ParentLink) (all : AllNodes) (view : all_nodes list links ≡ all)
+    (paired : length links ≡ length list) (at n : ℕ) (req : IsLast all.items at n)
     (h : ParentLink) (i : ℕ) (is : i ≡ length list - 1) (own : slice_get links i ≡ Some h) where
   abbrev q : NewPlace
   q = record { at = at; above = h.parent; before = h.number; number = n }
@@ -170,17 +232,22 @@ module _ (list : List StoredNode) (links : List ParentLink) (all : AllNodes) (vi
       } in
       subst (λ (w : NewPlace). CanPlace list w) (sym (place_is list links at n paired r h i is own)) can
 
-  pub all_moved : (list' : List StoredNode) (links' : List ParentLink) → ((none : StoredNode) → list' ≡ map (with_moved_children (length list - 1) at) (with_last_at none (with_last_key list q) at))
-      → ((none : ParentLink) → links' ≡ map (moved_link q) (with_last_at none links at)) → node_rows list' links' ≡ moved_nodes (reordered all.items n) at
+  pub all_moved : (list' : List StoredNode) (links' : List ParentLink)
+      → ((none : StoredNode)
+      → list' ≡ map (with_moved_children (length list - 1) at) (with_last_at none (with_last_key list q) at))
+      → ((none : ParentLink) → links' ≡ map (moved_link q) (with_last_at none links at))
+      → node_rows list' links' ≡ moved_nodes (reordered all.items n) at
   all_moved list' links' nodes_are links_are =
       let r = last_of_rows in
       let same = place_is list links at n paired r h i is own in
       rows_moved list links at n paired r list' links'
-      (λ none. nodes_are none ∙ ap (λ w. map (with_moved_children (length list - 1) at) (with_last_at none (with_last_key list w) at)) same)
+      (λ none. nodes_are none
+      ∙ ap (λ w. map (with_moved_children (length list - 1) at) (with_last_at none (with_last_key list w) at)) same)
       (λ none. links_are none ∙ ap (λ w. map (moved_link w) (with_last_at none links at)) same)
       ∙ ap (λ ns. moved_nodes (reordered ns n) at) (ap (λ (x : AllNodes). x.items) view)
 
-  pub links_count : (links' : List ParentLink) → ((none : ParentLink) → links' ≡ map (moved_link q) (with_last_at none links at)) → length links' ≡ length list
+  pub links_count : (links' : List ParentLink)
+      → ((none : ParentLink) → links' ≡ map (moved_link q) (with_last_at none links at)) → length links' ≡ length list
   links_count links' links_are =
       ap length (links_are nowhere) ∙ length-map (with_last_at nowhere links at) (moved_link q)
       ∙ length-last nowhere links at (omega (arith, last_of_rows.within, rows_count list links paired, paired)) ∙ paired

@@ -150,7 +150,8 @@ module _ (list ins : List StoredNode) (links ins_links : List ParentLink) (all i
       let fit = links_fit list links all view paired r.links k d h in (
         beside_can (length all.items) id gone (length inside.items) r.within r.some r.few (get_or links k d).parent p,
         (
-          beside_fits (length all.items) id gone (length inside.items) r.within r.some r.few (get_or links k d).parent p,
+          beside_fits (length all.items) id gone (length inside.items) r.within r.some r.few (get_or links k d).parent
+              p,
           fit.1,
         ),
       )
@@ -289,7 +290,8 @@ module _ (list ins : List StoredNode) (links ins_links : List ParentLink) (all i
         children_read ins ins_links inside ins_view ins_paired 0 r.some (stored_at ins 0)
         (get_or_default ins 0 nothing (stored_at ins 0) some) in
         ap (λ (c : ChildList).
-        let n : StoredNode = record { children = shifted_children (shift_inside id) c; facts = (stored_at list' id).facts } in
+        let n : StoredNode =
+        record { children = shifted_children (shift_inside id) c; facts = (stored_at list' id).facts } in
         node_row n (link_at hs id)) root
         ∙ ap (λ (t : NodeFacts).
         let n : StoredNode = record { children = next; facts = t } in

@@ -1,3 +1,6 @@
 -- What the crates above build on, in one place.
-pub use Rattle.keep_index_store.proofs.TrieLemmas.{child_at, closed, length-paths_of, no_children_past_end, one_node, path_at-link, path_at-root, push_same}
-pub use Rattle.keep_index_store.proofs.NewNodeLemmas.{children_here, children_last, children_other, first, holds_below, holds_last, longer, many, path_below, path_last, state_below, state_last}
+pub use Rattle.keep_index_store.proofs.TrieLemmas.{child_at, closed, length-paths_of, no_children_past_end, one_node}
+pub use Rattle.keep_index_store.proofs.TrieLemmas.{path_at-link, path_at-root, push_same}
+pub use Rattle.keep_index_store.proofs.NewNodeLemmas.{children_here, children_last, children_other, first, holds_below}
+pub use Rattle.keep_index_store.proofs.NewNodeLemmas.{holds_last, longer, many, path_below, path_last, state_below}
+pub use Rattle.keep_index_store.proofs.NewNodeLemmas.{state_last}

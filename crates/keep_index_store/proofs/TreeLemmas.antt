@@ -1,16 +1,20 @@
 -- What the stored nodes answer and become, by the tree of steps that contracts see.
-use Rattle.std.proofs.Common.{◌≡◌, ◌≢◌, ℕ, ◌-◌, ◌<◌, ◌≤◌, List, [], ◌∷◌, ◌++◌, length, get_or, refl, sym, ◌∙◌, ap, subst, arith, Option, Some, None}
+use Rattle.std.proofs.Common.{◌≡◌, ◌≢◌, ℕ, ◌-◌, ◌<◌, ◌≤◌, List, [], ◌∷◌, ◌++◌, length, get_or, refl, sym, ◌∙◌, ap}
+use Rattle.std.proofs.Common.{subst, arith, Option, Some, None}
 use Rattle.std.specs.Prelude.{Contains, OnErr, OnOk, Result, Ok, Err, slice_get}
 use Rattle.std.specs.Option.{option_map}
 use Rattle.std.proofs.lemmas.List.{get_or-map}
 use Rattle.std.proofs.lemmas.Option.{slice_get_past}
 use Rattle.keep_path.specs.Path.{key, index}
 use Rattle.keep_index_store.specs.AllNodes.{Node, no_node, node_at}
-use Rattle.keep_index_store.specs.Children.{ChildList, Bare, Keyed, Listed, holds_of, named, child_ids, child_named, child_numbered}
+use Rattle.keep_index_store.specs.Children.{ChildList, Bare, Keyed, Listed, holds_of, named, child_ids, child_named}
+use Rattle.keep_index_store.specs.Children.{child_numbered}
 use Rattle.keep_index_store.specs.Stored.{step_at, trie_node_in, trie_of, IsStored}
 use Rattle.keep_index_store.specs.Tree.{TrieInfos, tree_of, IsChild}
-use Rattle.keep_index_store.specs.Trie.{TrieNode, Holding, nothing, by_key, by_index, children_of, holds_at, parent_at, part_at, paths_of, path_at, state_at}
-use Rattle.keep_index_store.proofs.StoredLemmas.{here, keyed_node, length_trie_of, node_placed, not_named, role_read, step_below, stored_child}
+use Rattle.keep_index_store.specs.Trie.{TrieNode, Holding, nothing, by_key, by_index, children_of, holds_at, parent_at}
+use Rattle.keep_index_store.specs.Trie.{part_at, paths_of, path_at, state_at}
+use Rattle.keep_index_store.proofs.StoredLemmas.{here, keyed_node, length_trie_of, node_placed, not_named, role_read}
+use Rattle.keep_index_store.proofs.StoredLemmas.{step_below, stored_child}
 use Rattle.keep_index_store.proofs.ChildLemmas.{child_by, child_met, child_only, index_is_place, key_step, no_key_step}
 
 same_index : (m n : ℕ) → index m ≡ index n → m ≡ n
@@ -34,10 +38,12 @@ item_missing (Keyed pairs) n past = refl
 item_missing (Listed ids) n past = slice_get_past ids n past
 
 pub next_fresh : (nodes : List Node) → IsStored nodes → (i : ℕ) → i < length nodes
-    → Contains (paths_of (trie_of nodes)) (path_at (trie_of nodes) i ++ index (length (children_of (trie_of nodes) i)) ∷ []) → ⊥
+    → Contains (paths_of (trie_of nodes))
+    (path_at (trie_of nodes) i ++ index (length (children_of (trie_of nodes) i)) ∷ []) → ⊥
 next_fresh nodes stored i h =
     let n : ℕ = length (children_of (trie_of nodes) i) in
-    child_met nodes stored i no_node (index n) None h (sym (item_missing (node_at nodes i).children n (omega (arith, ap length (stored.kids i no_node h)))))
+    child_met nodes stored i no_node (index n) None h
+    (sym (item_missing (node_at nodes i).children n (omega (arith, ap length (stored.kids i no_node h)))))
 
 -- the nodes, as they are seen
 module _ (nodes : List Node) (t : TrieInfos) (view : tree_of nodes ≡ t) (stored : IsStored nodes) where
@@ -57,7 +63,8 @@ module _ (nodes : List Node) (t : TrieInfos) (view : tree_of nodes ≡ t) (store
     pub parent_seen : (node_at nodes i).parent ≡ parent_at t.trie i
     parent_seen =
         let u : TrieNode = trie_node_in nodes no_node in
-        sym (get_or-map (λ (x : TrieNode). x.parent) (trie_of nodes) i u 0 there ∙ ap (λ (x : TrieNode). x.parent) (at u))
+        sym (get_or-map (λ (x : TrieNode). x.parent) (trie_of nodes) i u 0 there
+        ∙ ap (λ (x : TrieNode). x.parent) (at u))
         ∙ ap (λ (x : TrieInfos). parent_at x.trie i) view
 
     pub role_seen : (node_at nodes i).facts.role ≡ state_at t.trie i
@@ -70,26 +77,46 @@ module _ (nodes : List Node) (t : TrieInfos) (view : tree_of nodes ≡ t) (store
     kids_seen = stored.kids i no_node low ∙ ap (λ (x : TrieInfos). children_of x.trie i) view
 
     -- the last child
-    pub last_low : (last : ℕ) → (0 < length (child_ids (node_at nodes i).children)) × (last ≡ get_or (child_ids (node_at nodes i).children) (length (child_ids (node_at nodes i).children) - 1) 0) → last < length t.trie
+    pub last_low : (last : ℕ)
+        → (0 < length (child_ids (node_at nodes i).children))
+        × (last ≡ get_or (child_ids (node_at nodes i).children) (length (child_ids (node_at nodes i).children) - 1) 0)
+        → last < length t.trie
     last_low last was =
         let kids : List ℕ = child_ids (node_at nodes i).children in
-        omega (arith, was.1, (stored_child nodes stored i (length kids - 1) no_node low (omega (arith, was.0))).nested, count)
+        omega (
+          arith,
+          was.1,
+          (stored_child nodes stored i (length kids - 1) no_node low (omega (arith, was.0))).nested,
+          count,
+        )
 
     -- the children by a key and by a number
-    pub key_seen : (text : List ℕ) (o : Option ℕ) → o ≡ child_named (node_at nodes i).children text → IsChild t.trie i (key text) o
-    key_seen text o is = subst (λ (x : TrieInfos). IsChild x.trie i (key text) o) view (child_met nodes stored i no_node (key text) o low is)
+    pub key_seen : (text : List ℕ) (o : Option ℕ) → o ≡ child_named (node_at nodes i).children text
+        → IsChild t.trie i (key text) o
+    key_seen text o is =
+        subst (λ (x : TrieInfos). IsChild x.trie i (key text) o) view
+        (child_met nodes stored i no_node (key text) o low is)
 
-    pub item_seen : (n : ℕ) (o : Option ℕ) → o ≡ child_numbered (node_at nodes i).children n → IsChild t.trie i (index n) o
-    item_seen n o is = subst (λ (x : TrieInfos). IsChild x.trie i (index n) o) view (child_met nodes stored i no_node (index n) o low is)
+    pub item_seen : (n : ℕ) (o : Option ℕ) → o ≡ child_numbered (node_at nodes i).children n
+        → IsChild t.trie i (index n) o
+    item_seen n o is =
+        subst (λ (x : TrieInfos). IsChild x.trie i (index n) o) view
+        (child_met nodes stored i no_node (index n) o low is)
 
-    pub indexed_seen : (n k : ℕ) → IsChild t.trie i (index n) (Some k) → slice_get (child_ids (node_at nodes i).children) n ≡ Some k
+    pub indexed_seen : (n k : ℕ) → IsChild t.trie i (index n) (Some k)
+        → slice_get (child_ids (node_at nodes i).children) n ≡ Some k
     indexed_seen n k is =
-        index_is_place (node_at nodes i).children n k (child_only nodes stored i no_node (index n) k low (subst (λ (x : TrieInfos). IsChild x.trie i (index n) (Some k)) (sym view) is))
+        index_is_place (node_at nodes i).children n k
+        (child_only nodes stored i no_node (index n) k low
+        (subst (λ (x : TrieInfos). IsChild x.trie i (index n) (Some k)) (sym view) is))
 
     -- a path that no node has yet
-    pub fresh_key : (text : List ℕ) → holds_at t.trie i ≡ by_key → (Contains (paths_of t.trie) (path_at t.trie i ++ key text ∷ []) → ⊥) → child_named (node_at nodes i).children text ≡ None
+    pub fresh_key : (text : List ℕ) → holds_at t.trie i ≡ by_key
+        → (Contains (paths_of t.trie) (path_at t.trie i ++ key text ∷ []) → ⊥)
+        → child_named (node_at nodes i).children text ≡ None
     fresh_key text keyed fresh =
-        not_named nodes stored i no_node text low (holds_seen ∙ keyed) (subst (λ (x : TrieInfos). Contains (paths_of x.trie) (path_at x.trie i ++ key text ∷ []) → ⊥) (sym view) fresh)
+        not_named nodes stored i no_node text low (holds_seen ∙ keyed)
+        (subst (λ (x : TrieInfos). Contains (paths_of x.trie) (path_at x.trie i ++ key text ∷ []) → ⊥) (sym view) fresh)
 
     -- its own step
     module _ (later : 0 < i) where
@@ -103,26 +130,38 @@ module _ (nodes : List Node) (t : TrieInfos) (view : tree_of nodes ≡ t) (store
       unfolding kids
       part_seen =
           let u : TrieNode = trie_node_in nodes no_node in
-          ap (λ (x : TrieInfos). part_at x.trie i) (sym view) ∙ get_or-map (λ (x : TrieNode). x.part) (trie_of nodes) i u (index 0) there ∙ ap (λ (x : TrieNode). x.part) (at u)
+          ap (λ (x : TrieInfos). part_at x.trie i) (sym view)
+          ∙ get_or-map (λ (x : TrieNode). x.part) (trie_of nodes) i u (index 0) there
+          ∙ ap (λ (x : TrieNode). x.part) (at u)
           ∙ step_below nodes (node_at nodes i).parent no_node (node_at nodes i).number parent_low
 
       pub number_seen : (n : ℕ) → part_at t.trie i ≡ index n → (node_at nodes i).number ≡ n
       number_seen n is = number_is (named kids) (holds_of kids) (node_at nodes i).number n (sym part_seen ∙ is)
 
-      pub own_key : (text : List ℕ) → Some text ≡ option_map (λ e. e.0) (slice_get (named (node_at nodes (node_at nodes i).parent).children) (node_at nodes i).number) → part_at t.trie i ≡ key text
+      pub own_key : (text : List ℕ)
+          → Some text ≡ option_map (λ e.
+          e.0) (slice_get (named (node_at nodes (node_at nodes i).parent).children) (node_at nodes i).number)
+          → part_at t.trie i ≡ key text
       unfolding kids
       own_key text is = part_seen ∙ key_step kids (node_at nodes i).number text (sym is)
 
-      not_key : None ≡ option_map (λ e. e.0) (slice_get (named (node_at nodes (node_at nodes i).parent).children) (node_at nodes i).number)
-          → (holds_of kids ≢ by_key) × (step_at (named kids) (holds_of kids) (node_at nodes i).number ≡ index (node_at nodes i).number)
+      not_key : None ≡ option_map (λ e.
+          e.0) (slice_get (named (node_at nodes (node_at nodes i).parent).children) (node_at nodes i).number)
+          → (holds_of kids ≢ by_key) × (step_at (named kids) (holds_of kids) (node_at nodes i).number
+          ≡ index (node_at nodes i).number)
       unfolding kids
       not_key is = no_key_step kids (node_at nodes i).number (node_placed nodes stored i no_node later low).low (sym is)
 
-      pub own_number : None ≡ option_map (λ e. e.0) (slice_get (named (node_at nodes (node_at nodes i).parent).children) (node_at nodes i).number) → (n : ℕ) × (part_at t.trie i ≡ index n)
+      pub own_number : None ≡ option_map (λ e.
+          e.0) (slice_get (named (node_at nodes (node_at nodes i).parent).children) (node_at nodes i).number)
+          → (n : ℕ) × (part_at t.trie i ≡ index n)
       own_number is = ((node_at nodes i).number, part_seen ∙ (not_key is).1)
 
-      pub not_keyed : None ≡ option_map (λ e. e.0) (slice_get (named (node_at nodes (node_at nodes i).parent).children) (node_at nodes i).number) → holds_at t.trie (parent_at t.trie i) ≢ by_key
+      pub not_keyed : None ≡ option_map (λ e.
+          e.0) (slice_get (named (node_at nodes (node_at nodes i).parent).children) (node_at nodes i).number)
+          → holds_at t.trie (parent_at t.trie i) ≢ by_key
       unfolding kids
       not_keyed is keyed =
           let up : ℕ = (node_at nodes i).parent in
-          (not_key is).0 (sym (keyed_node nodes up no_node parent_low) ∙ ap (λ (x : TrieInfos). holds_at x.trie up) view ∙ ap (holds_at t.trie) parent_seen ∙ keyed)
+          (not_key is).0 (sym (keyed_node nodes up no_node parent_low) ∙ ap (λ (x : TrieInfos). holds_at x.trie up) view
+          ∙ ap (holds_at t.trie) parent_seen ∙ keyed)

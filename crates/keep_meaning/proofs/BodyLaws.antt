@@ -1,10 +1,12 @@
 -- The table that a line's keyval is in: it is a node, and no array of tables.
 --
--- Its path is the root's, or a header opens it (`body_said`). An array of tables is named by a `[[..]]` (`tables_said`), and
+-- Its path is the root's, or a header opens it (`body_said`). An array of tables is named by a `[[..]]`
+-- (`tables_said`), and
 -- the rules do not let one path be both (`unlike`).
 --
 -- Theorems: `tables_are_nodes`, `body_is_node` and `body_has_no_element`.
-use Rattle.std.proofs.Common.{◌≡◌, ℕ, ◌<◌, ◌≤◌, true, false, ◌||◌, List, [], ◌∷◌, ◌++◌, length, get_or, map, refl, sym, ap, ap₂, subst, ◌∙◌, ◌⊎◌, inl, inr, arith, Some, None}
+use Rattle.std.proofs.Common.{◌≡◌, ℕ, ◌<◌, ◌≤◌, true, false, ◌||◌, List, [], ◌∷◌, ◌++◌, length, get_or, map, refl, sym}
+use Rattle.std.proofs.Common.{ap, ap₂, subst, ◌∙◌, ◌⊎◌, inl, inr, arith, Some, None}
 use Rattle.std.specs.List.{list_any}
 use Rattle.std.proofs.lemmas.Bool.{cases_lt, or_left, or_right}
 use Rattle.keep_types.specs.declared.role.Role.{Role}
@@ -14,7 +16,8 @@ use Rattle.keep_path.specs.Path.{Part}
 use Rattle.keep_path.proofs.Shared.{path_decides}
 use Rattle.keep_meaning.specs.Counts.{is_mark, no_count, statements_in}
 use Rattle.keep_meaning.specs.LinesMore.{HasLineMore}
-use Rattle.keep_meaning.specs.Marks.{MentionKind, through, past, define, element, dotted, value, begun, passed, item, Mention, elements_of, marks, mentions_from, reading_after, role_of, start}
+use Rattle.keep_meaning.specs.Marks.{MentionKind, through, past, define, element, dotted, value, begun, passed, item}
+use Rattle.keep_meaning.specs.Marks.{Mention, elements_of, marks, mentions_from, reading_after, role_of, start}
 use Rattle.keep_meaning.specs.Meaning.{mentions_in}
 use Rattle.keep_meaning.specs.Nodes.{is_at, is_begun, is_define, is_node, is_root, mention_of}
 use Rattle.keep_meaning.specs.Rules.{Mark, ObeysRules, allows}
@@ -27,7 +30,8 @@ use Rattle.keep_meaning.proofs.NamedLemmas.{Fits, Says, SomeOf, ends, some_left}
 
 -- ---- what is said of one path
 
-pub some_any : (P : Mention → Type 0) (q : List Part) → ((m : Mention) → P m → m.path ≡ q) → (ms : List Mention) → SomeOf P ms → list_any (is_at q) ms ≡ true
+pub some_any : (P : Mention → Type 0) (q : List Part) → ((m : Mention) → P m → m.path ≡ q) → (ms : List Mention)
+    → SomeOf P ms → list_any (is_at q) ms ≡ true
 some_any P q at [] h = absurd h
 some_any P q at (m ∷ ms) (inl h) = or_left (is_at q m) (list_any (is_at q) ms) ((path_decides m.path q).1 (at m h))
 some_any P q at (m ∷ ms) (inr h) = or_right (is_at q m) (list_any (is_at q) ms) (some_any P q at ms h)
@@ -43,7 +47,8 @@ role_marked begun r h = absurd cc
 role_marked passed r h = absurd cc
 role_marked (item f) r h = absurd cc
 
-pub said_ends : (r : Role) (q : List Part) (ms : List Mention) → AllOf Fits ms → SomeOf (Says r q) ms → ends q ≡ Some true
+pub said_ends : (r : Role) (q : List Part) (ms : List Mention) → AllOf Fits ms → SomeOf (Says r q) ms
+    → ends q ≡ Some true
 said_ends r q [] f h = absurd h
 said_ends r q (m ∷ ms) f (inl h) = ap ends (sym h.1) ∙ f.0 ∙ ap Some (role_marked m.kind r h.0)
 said_ends r q (m ∷ ms) f (inr h) = said_ends r q ms f.1 h
@@ -60,44 +65,59 @@ opening begun h = inr refl
 opening passed h = absurd cc
 opening (item f) h = absurd cc
 
-opened : (q : List Part) (ms : List Mention) → AllOf Fits ms → SomeOf (Opens q) ms → SomeOf (Says role.Define q) ms ⊎ (ends q ≡ Some false)
+opened : (q : List Part) (ms : List Mention) → AllOf Fits ms → SomeOf (Opens q) ms
+    → SomeOf (Says role.Define q) ms ⊎ (ends q ≡ Some false)
 opened q [] f h = absurd h
 opened q (m ∷ ms) f (inl h) = by (opening m.kind h.0)
   where
-    by : (role_of m.kind ≡ Some role.Define) ⊎ (is_mark m.kind ≡ false) → SomeOf (Says role.Define q) (m ∷ ms) ⊎ (ends q ≡ Some false)
+    by : (role_of m.kind ≡ Some role.Define) ⊎ (is_mark m.kind ≡ false)
+        → SomeOf (Says role.Define q) (m ∷ ms) ⊎ (ends q ≡ Some false)
     by (inl is) = inl (inl (is, h.1))
     by (inr not) = inr (ap ends (sym h.1) ∙ f.0 ∙ ap Some not)
 opened q (m ∷ ms) f (inr h) = by (opened q ms f.1 h)
   where
-    by : SomeOf (Says role.Define q) ms ⊎ (ends q ≡ Some false) → SomeOf (Says role.Define q) (m ∷ ms) ⊎ (ends q ≡ Some false)
+    by : SomeOf (Says role.Define q) ms ⊎ (ends q ≡ Some false)
+        → SomeOf (Says role.Define q) (m ∷ ms) ⊎ (ends q ≡ Some false)
     by (inl g) = inl (inr g)
     by (inr e) = inr e
 
 -- no path is defined by a `[..]` and named by a `[[..]]`
-unlike : (q : List Part) (ms : List Mention) → ObeysRules (marks ms) → SomeOf (Says role.Define q) ms → SomeOf (Says role.Element q) ms → ⊥
+unlike : (q : List Part) (ms : List Mention) → ObeysRules (marks ms) → SomeOf (Says role.Define q) ms
+    → SomeOf (Says role.Element q) ms → ⊥
 unlike q ms obeys h g = by (cases_lt one.0 other.0)
   where
-    one : (k : ℕ) × (k < length (marks ms)) × ((d : Mark) → get_or (marks ms) k d ≡ record { role = role.Define; path = q })
+    one : (k : ℕ) × (k < length (marks ms))
+        × ((d : Mark) → get_or (marks ms) k d ≡ record { role = role.Define; path = q })
     one = marked_at role.Define q ms h
 
-    other : (k : ℕ) × (k < length (marks ms)) × ((d : Mark) → get_or (marks ms) k d ≡ record { role = role.Element; path = q })
+    other : (k : ℕ) × (k < length (marks ms))
+        × ((d : Mark) → get_or (marks ms) k d ≡ record { role = role.Element; path = q })
     other = marked_at role.Element q ms g
 
-    pair : (i j : ℕ) (a b : Mark) → i < j → j < length (marks ms) → ((d : Mark) → get_or (marks ms) i d ≡ a) → ((d : Mark) → get_or (marks ms) j d ≡ b) → a.path ≡ b.path → allows a.role b.role ≡ true
+    pair : (i j : ℕ) (a b : Mark) → i < j → j < length (marks ms) → ((d : Mark) → get_or (marks ms) i d ≡ a)
+        → ((d : Mark) → get_or (marks ms) j d ≡ b) → a.path ≡ b.path → allows a.role b.role ≡ true
     pair i j a b low within left right same =
         let yes = obeys i j a low within in
-        sym (ap₂ (λ (x y : Mark). allows x.role y.role) (left a) (right a)) ∙ yes (ap (λ (m : Mark). m.path) (left a) ∙ same ∙ sym (ap (λ (m : Mark). m.path) (right a)))
+        sym (ap₂ (λ (x y : Mark). allows x.role y.role) (left a) (right a))
+        ∙ yes (ap (λ (m : Mark). m.path) (left a) ∙ same ∙ sym (ap (λ (m : Mark). m.path) (right a)))
 
     by : (one.0 < other.0) ⊎ (other.0 ≤ one.0) → ⊥
-    by (inl low) = let yes = pair one.0 other.0 (record { role = role.Define; path = q }) (record { role = role.Element; path = q }) low other.1 one.2 other.2 refl in cc
+    by (inl low) =
+        let yes =
+        pair one.0 other.0 (record { role = role.Define; path = q }) (record { role = role.Element; path = q }) low
+        other.1 one.2 other.2 refl in cc
     by (inr high) = last (cases_lt other.0 one.0)
       where
         last : (other.0 < one.0) ⊎ (one.0 ≤ other.0) → ⊥
-        last (inl low) = let yes = pair other.0 one.0 (record { role = role.Element; path = q }) (record { role = role.Define; path = q }) low one.1 other.2 one.2 refl in cc
+        last (inl low) =
+            let yes =
+            pair other.0 one.0 (record { role = role.Element; path = q }) (record { role = role.Define; path = q }) low
+            one.1 other.2 one.2 refl in cc
         last (inr same) =
             let d : Mark = record { role = role.Define; path = q } in
             let number : one.0 ≡ other.0 = omega (arith, high, same) in
-            let clash : role.Define ≡ role.Element = ap (λ (m : Mark). m.role) (sym (one.2 d) ∙ ap (λ (k : ℕ). get_or (marks ms) k d) number ∙ other.2 d) in
+            let clash : role.Define ≡ role.Element =
+            ap (λ (m : Mark). m.role) (sym (one.2 d) ∙ ap (λ (k : ℕ). get_or (marks ms) k d) number ∙ other.2 d) in
             cc
 
 -- ---- the document without the line
@@ -110,31 +130,43 @@ module _ (d more : Document) (line : HasLineMore d more) where
   tables = (reading_after start (statements_in d)).tables
 
   whole : IsSound start (reading_after start (statements_in d)) (mentions_in d)
-  whole = subst (IsSound start (reading_after start (statements_in d))) (sym (mentions_in-statements d)) (sound_from start (statements_in d) (sound_statements d))
+  whole = subst (IsSound start (reading_after start (statements_in d))) (sym (mentions_in-statements d))
+      (sound_from start (statements_in d) (sound_statements d))
 
   tables_said : (t : List Part) → 0 < elements_of t tables → SomeOf (Says role.Element t) (mentions_in d)
   tables_said t h = by (whole.tables t h)
     where
-      by : (0 < elements_of t []) ⊎ SomeOf (Says role.Element t) (mentions_in d) → SomeOf (Says role.Element t) (mentions_in d)
+      by : (0 < elements_of t []) ⊎ SomeOf (Says role.Element t) (mentions_in d)
+          → SomeOf (Says role.Element t) (mentions_in d)
       by (inl none) = absurd (omega (arith, none))
       by (inr s) = s
 
   said_are : mentions_in d ≡ mentions_from start line.before ++ map mention_of (after_line d more line)
-  said_are = mentions_old d more line ∙ ap (λ (ms : List Mention). ms ++ map mention_of (after_line d more line)) (mentions-numbered_from no_count start line.before)
+  said_are =
+      mentions_old d more line
+      ∙ ap (λ (ms : List Mention). ms ++ map mention_of (after_line d more line))
+      (mentions-numbered_from no_count start line.before)
 
   body_said : (body ≡ []) ⊎ SomeOf (Opens body) (mentions_in d)
   body_said = by (before.body body refl)
     where
       before : IsSound start (reading_after start line.before) (mentions_from start line.before)
-      before = sound_from start line.before (all_left IsSoundStatement line.before line.after (subst (AllOf IsSoundStatement) line.old (sound_statements d)))
+      before =
+          sound_from start line.before (all_left IsSoundStatement line.before line.after
+          (subst (AllOf IsSoundStatement) line.old (sound_statements d)))
 
-      by : (start.body ≡ body) ⊎ SomeOf (Opens body) (mentions_from start line.before) → (body ≡ []) ⊎ SomeOf (Opens body) (mentions_in d)
+      by : (start.body ≡ body) ⊎ SomeOf (Opens body) (mentions_from start line.before)
+          → (body ≡ []) ⊎ SomeOf (Opens body) (mentions_in d)
       by (inl root) = inl (sym root)
-      by (inr s) = inr (subst (SomeOf (Opens body)) (sym said_are) (some_left (Opens body) (mentions_from start line.before) (map mention_of (after_line d more line)) s))
+      by (inr s) =
+          inr (subst (SomeOf (Opens body)) (sym said_are)
+          (some_left (Opens body) (mentions_from start line.before) (map mention_of (after_line d more line)) s))
 
   -- a path with elements is named
   pub tables_are_nodes : (t : List Part) → 0 < elements_of t tables → is_node t (mentions_in d) ≡ true
-  tables_are_nodes t h = or_right (is_root t) (list_any (is_at t) (mentions_in d)) (some_any (Says role.Element t) t (λ m g. g.1) (mentions_in d) (tables_said t h))
+  tables_are_nodes t h =
+      or_right (is_root t) (list_any (is_at t) (mentions_in d))
+      (some_any (Says role.Element t) t (λ m g. g.1) (mentions_in d) (tables_said t h))
 
   -- so is the table that the line's keyval is in
   pub body_is_node : is_node body (mentions_in d) ≡ true
@@ -142,7 +174,9 @@ module _ (d more : Document) (line : HasLineMore d more) where
     where
       by : (body ≡ []) ⊎ SomeOf (Opens body) (mentions_in d) → is_node body (mentions_in d) ≡ true
       by (inl root) = ap (λ (q : List Part). is_node q (mentions_in d)) root
-      by (inr s) = or_right (is_root body) (list_any (is_at body) (mentions_in d)) (some_any (Opens body) body (λ m g. g.1) (mentions_in d) s)
+      by (inr s) =
+          or_right (is_root body) (list_any (is_at body) (mentions_in d))
+          (some_any (Opens body) body (λ m g. g.1) (mentions_in d) s)
 
   -- and it is no array of tables
   pub body_has_no_element : ObeysRules (marks (mentions_in d)) → 0 < elements_of body tables → ⊥

@@ -5,7 +5,8 @@
 -- that the `[[..]]` names, against the rules.
 --
 -- Theorems: `header_has_key`, `table_is_node`, `element_is_node` and `element_is_new`.
-use Rattle.std.proofs.Common.{◌≡◌, ℕ, ◌<◌, Bool, true, false, ◌||◌, List, [], ◌∷◌, ◌++◌, refl, sym, ap, ap₂, subst, ◌∙◌, ◌⊎◌, inl, inr, arith, Some}
+use Rattle.std.proofs.Common.{◌≡◌, ℕ, ◌<◌, Bool, true, false, ◌||◌, List, [], ◌∷◌, ◌++◌, refl, sym, ap, ap₂, subst, ◌∙◌}
+use Rattle.std.proofs.Common.{◌⊎◌, inl, inr, arith, Some}
 use Rattle.std.specs.List.{list_any}
 use Rattle.std.proofs.lemmas.Bool.{le-ltb, lt-ltb, or_right, false_from_ne_true}
 use Rattle.keep_types.specs.declared.role.Role.TheVariants as role
@@ -13,17 +14,21 @@ use Rattle.keep_syntax.specs.Tree.{Document}
 use Rattle.keep_path.specs.Path.{Part, index}
 use Rattle.keep_path.proofs.Shared.{path_decides}
 use Rattle.keep_meaning.specs.Counts.{is_mark, statements_in}
-use Rattle.keep_meaning.specs.Marks.{Mention, Statement, begun, element, element_header, elements_of, header, header_path, header_prefixes, marks, reading_after, start, statement_mentions}
+use Rattle.keep_meaning.specs.Marks.{Mention, Statement, begun, element, element_header, elements_of, header}
+use Rattle.keep_meaning.specs.Marks.{header_path, header_prefixes, marks, reading_after, start, statement_mentions}
 use Rattle.keep_meaning.specs.Meaning.{mentions_in}
 use Rattle.keep_meaning.specs.Nodes.{is_at, is_begun, is_node, is_passed, is_root}
 use Rattle.keep_meaning.specs.Rules.{ObeysRules}
 use Rattle.keep_meaning.specs.StatementsMore.{HasStatementMore, reading_at_end}
 use Rattle.keep_meaning.proofs.BodyLaws.{said_ends, some_any}
 use Rattle.keep_meaning.proofs.CountLemmas.{mentions_in-statements}
-use Rattle.keep_meaning.proofs.ElementLemmas.{Begins, IsSaid, IsSound, IsSoundStatement, header_ends, is_reached, no_longer, none_reached, reached_pushed, said_all, sound_from, sound_statements}
+use Rattle.keep_meaning.proofs.ElementLemmas.{Begins, IsSaid, IsSound, IsSoundStatement, header_ends, is_reached}
+use Rattle.keep_meaning.proofs.ElementLemmas.{no_longer, none_reached, reached_pushed, said_all, sound_from}
+use Rattle.keep_meaning.proofs.ElementLemmas.{sound_statements}
 use Rattle.keep_meaning.proofs.FoundLemmas.{allowed, unmarked}
 use Rattle.keep_meaning.proofs.LineNumberLemmas.{AllOf, all_right}
-use Rattle.keep_meaning.proofs.NamedLemmas.{Says, SomeOf, base, base_none, base_whole, ends, ends_below, is_item, some_right}
+use Rattle.keep_meaning.proofs.NamedLemmas.{Says, SomeOf, base, base_none, base_whole, ends, ends_below, is_item}
+use Rattle.keep_meaning.proofs.NamedLemmas.{some_right}
 
 -- ---- the last statement
 

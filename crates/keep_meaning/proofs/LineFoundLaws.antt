@@ -1,8 +1,10 @@
 -- Where the line's node is among the nodes is found by the facts about the others (`line_is_found`).
 --
--- The nodes that are met before the line come first, in their order (`same_node`), and no further one has the path of one
+-- The nodes that are met before the line come first, in their order (`same_node`), and no further one has the path of
+-- one
 -- of these (`new_node`). So by a node's number its path is said before the line or not, and its facts state the same.
-use Rattle.std.proofs.Common.{◌≡◌, ℕ, ◌<◌, ◌≤◌, ◌↔◌, Bool, true, false, cond, ◌||◌, List, [], ◌∷◌, ◌++◌, length, get_or, map, refl, sym, ap, subst, ◌∙◌, ◌⊎◌, inl, inr, arith}
+use Rattle.std.proofs.Common.{◌≡◌, ℕ, ◌<◌, ◌≤◌, ◌↔◌, Bool, true, false, cond, ◌||◌, List, [], ◌∷◌, ◌++◌, length, get_or}
+use Rattle.std.proofs.Common.{map, refl, sym, ap, subst, ◌∙◌, ◌⊎◌, inl, inr, arith}
 use Rattle.std.specs.Prelude.{fold}
 use Rattle.std.specs.List.{list_any}
 use Rattle.std.proofs.lemmas.Bool.{cases_lt, or_parts}
@@ -20,12 +22,14 @@ use Rattle.keep_meaning.specs.Laws.{LineIsFound}
 use Rattle.keep_meaning.specs.LinesMore.{HasLineMore, is_met_from, nodes_after, numbers_after}
 use Rattle.keep_meaning.specs.Marks.{Mention, Reading, marks, reading_after, start}
 use Rattle.keep_meaning.specs.Meaning.{mentions_in}
-use Rattle.keep_meaning.specs.Nodes.{infos_in, is_at, is_node, is_numbered_at, is_root, mention_of, node_at, node_info, node_paths, nodes_of, numbered_at, paths_with}
+use Rattle.keep_meaning.specs.Nodes.{infos_in, is_at, is_node, is_numbered_at, is_root, mention_of, node_at, node_info}
+use Rattle.keep_meaning.specs.Nodes.{node_paths, nodes_of, numbered_at, paths_with}
 use Rattle.keep_meaning.specs.Rules.{ObeysRules}
 use Rattle.keep_meaning.proofs.CountLemmas.{mentions-numbered_from}
 use Rattle.keep_meaning.proofs.ElementLemmas.{IsSound, IsSoundStatement, no_longer, sound_from, sound_statements}
 use Rattle.keep_meaning.proofs.FoundLemmas.{met_at}
-use Rattle.keep_meaning.proofs.LineLaws.{after_higher, after_line, as_many, before_line, before_lower, few_before, mentions_old, met_before_line, numbered_old}
+use Rattle.keep_meaning.proofs.LineLaws.{after_higher, after_line, as_many, before_line, before_lower, few_before}
+use Rattle.keep_meaning.proofs.LineLaws.{mentions_old, met_before_line, numbered_old}
 use Rattle.keep_meaning.proofs.LineNodeLemmas.{map_twice, path_of}
 use Rattle.keep_meaning.proofs.LineNumberLemmas.{AllOf, all_left, all_right}
 use Rattle.keep_meaning.proofs.MetLemmas.{node_met}
@@ -37,28 +41,37 @@ same_node : (ps qs : List (List Part)) (i : ℕ) → i < length ps → get_or (f
 same_node ps [] i low = refl
 same_node ps (q ∷ qs) i low = by (list_any (same_path q) ps) (λ more h. same_node more qs i h)
   where
-    by : (b : Bool) → ((more : List (List Part)) → i < length more → get_or (fold paths_with more qs) i [] ≡ get_or more i []) → get_or (fold paths_with (cond b ps (ps ++ q ∷ [])) qs) i [] ≡ get_or ps i []
+    by : (b : Bool)
+        → ((more : List (List Part)) → i < length more → get_or (fold paths_with more qs) i [] ≡ get_or more i [])
+        → get_or (fold paths_with (cond b ps (ps ++ q ∷ [])) qs) i [] ≡ get_or ps i []
     by true same = same ps low
-    by false same = same (ps ++ q ∷ []) (omega (arith, low, length-append ps (q ∷ []))) ∙ get_or_append_left ps (q ∷ []) [] i low
+    by false same =
+        same (ps ++ q ∷ []) (omega (arith, low, length-append ps (q ∷ []))) ∙ get_or_append_left ps (q ∷ []) [] i low
 
-new_node : (ps qs : List (List Part)) (i : ℕ) → length ps ≤ i → i < length (fold paths_with ps qs) → list_any (same_path (get_or (fold paths_with ps qs) i [])) ps ≡ false
+new_node : (ps qs : List (List Part)) (i : ℕ) → length ps ≤ i → i < length (fold paths_with ps qs)
+    → list_any (same_path (get_or (fold paths_with ps qs) i [])) ps ≡ false
 new_node ps [] i high low = absurd (omega (arith, high, low))
 new_node ps (q ∷ qs) i high low = by (list_any (same_path q) ps) refl low (λ more h l. new_node more qs i h l)
   where
     by : (b : Bool) → list_any (same_path q) ps ≡ b → i < length (fold paths_with (cond b ps (ps ++ q ∷ [])) qs)
-        → ((more : List (List Part)) → length more ≤ i → i < length (fold paths_with more qs) → list_any (same_path (get_or (fold paths_with more qs) i [])) more ≡ false)
+        → ((more : List (List Part)) → length more ≤ i → i < length (fold paths_with more qs)
+        → list_any (same_path (get_or (fold paths_with more qs) i [])) more ≡ false)
         → list_any (same_path (get_or (fold paths_with (cond b ps (ps ++ q ∷ [])) qs) i [])) ps ≡ false
     by true e low new = new ps high low
     by false e low new = place (cases_lt (length ps) i)
       where
-        place : (length ps < i) ⊎ (i ≤ length ps) → list_any (same_path (get_or (fold paths_with (ps ++ q ∷ []) qs) i [])) ps ≡ false
+        place : (length ps < i) ⊎ (i ≤ length ps)
+            → list_any (same_path (get_or (fold paths_with (ps ++ q ∷ []) qs) i [])) ps ≡ false
         place (inl past) =
             let x : List Part = get_or (fold paths_with (ps ++ q ∷ []) qs) i [] in
             (or_parts (list_any (same_path x) ps) (list_any (same_path x) (q ∷ []))
-            (sym (list_any-append (same_path x) ps (q ∷ [])) ∙ new (ps ++ q ∷ []) (omega (arith, past, length-append ps (q ∷ []))) low)).0
+            (sym (list_any-append (same_path x) ps (q ∷ []))
+            ∙ new (ps ++ q ∷ []) (omega (arith, past, length-append ps (q ∷ []))) low)).0
         place (inr last) =
             let here : length ps ≡ i = omega (arith, high, last) in
-            ap (λ (p : List Part). list_any (same_path p) ps) (same_node (ps ++ q ∷ []) qs i (omega (arith, last, length-append ps (q ∷ []))) ∙ get_or_push ps q [] i here) ∙ e
+            ap (λ (p : List Part). list_any (same_path p) ps)
+            (same_node (ps ++ q ∷ []) qs i (omega (arith, last, length-append ps (q ∷ [])))
+            ∙ get_or_push ps q [] i here) ∙ e
 
 either_third : (a b c : Bool) → (a || (b || c)) ≡ true → a ≡ false → b ≡ false → c ≡ true
 either_third true b c h e e' = absurd cc
@@ -81,11 +94,13 @@ module _ (d more : Document) (line : HasLineMore d more) (obeys : ObeysRules (ma
   sound = subst (AllOf IsSoundStatement) line.old (sound_statements d)
 
   first : IsSound start middle (map mention_of xs)
-  first = subst (IsSound start middle) (sym (mentions-numbered_from no_count start line.before)) (sound_from start line.before (all_left IsSoundStatement line.before line.after sound))
+  first = subst (IsSound start middle) (sym (mentions-numbered_from no_count start line.before))
+      (sound_from start line.before (all_left IsSoundStatement line.before line.after sound))
 
   second : IsSound middle (reading_after middle line.after) (map mention_of ys)
   second =
-      subst (IsSound middle (reading_after middle line.after)) (sym (mentions-numbered_from (count_from no_count start line.before) middle line.after))
+      subst (IsSound middle (reading_after middle line.after))
+      (sym (mentions-numbered_from (count_from no_count start line.before) middle line.after))
       (sound_from middle line.after (all_right IsSoundStatement line.before line.after sound))
 
   both_obey : ObeysRules (marks (map mention_of xs ++ map mention_of ys))
@@ -102,11 +117,14 @@ module _ (d more : Document) (line : HasLineMore d more) (obeys : ObeysRules (ma
 
   paths_are : ps ≡ fold paths_with was_met (map path_of (map mention_of ys))
   paths_are =
-      ap node_paths mentioned ∙ ap (fold paths_with ([] ∷ [])) (map-append path_of (map mention_of xs) (map mention_of ys))
+      ap node_paths mentioned
+      ∙ ap (fold paths_with ([] ∷ [])) (map-append path_of (map mention_of xs) (map mention_of ys))
       ∙ fold-append paths_with ([] ∷ []) (map path_of (map mention_of xs)) (map path_of (map mention_of ys))
 
   infos_are : infos_in d ≡ map (λ (q : List Part). node_info (node_at (xs ++ ys) q)) ps
-  infos_are = ap (λ (ns : List Numbered). map node_info (nodes_of ns)) (numbered_old d more line) ∙ map_twice node_info (node_at (xs ++ ys)) ps
+  infos_are =
+      ap (λ (ns : List Numbered). map node_info (nodes_of ns)) (numbered_old d more line)
+      ∙ map_twice node_info (node_at (xs ++ ys)) ps
 
   as_many_paths : length (infos_in d) ≡ length ps
   as_many_paths = ap length infos_are ∙ length-map ps (λ (q : List Part). node_info (node_at (xs ++ ys) q))
@@ -119,41 +137,59 @@ module _ (d more : Document) (line : HasLineMore d more) (obeys : ObeysRules (ma
     low = omega (arith, within, as_many_paths)
 
     -- by what is said of it before the line, and after
-    info_is : is_met_from (numbers_after line.before) (get_or (infos_in d) i no_info) ≡ met_at (numbers_after line.before) q (numbered_at q xs ++ numbered_at q ys)
+    info_is : is_met_from (numbers_after line.before) (get_or (infos_in d) i no_info)
+        ≡ met_at (numbers_after line.before) q (numbered_at q xs ++ numbered_at q ys)
     info_is =
         ap (λ (l : List NodeInfo). is_met_from (numbers_after line.before) (get_or l i no_info)) infos_are
-        ∙ ap (is_met_from (numbers_after line.before)) (get_or-map (λ (q : List Part). node_info (node_at (xs ++ ys) q)) ps i [] no_info low)
+        ∙ ap (is_met_from (numbers_after line.before))
+        (get_or-map (λ (q : List Part). node_info (node_at (xs ++ ys) q)) ps i [] no_info low)
         ∙ ap (met_at (numbers_after line.before) q) (filter-append (is_numbered_at q) xs ys)
 
     met_there : i < length was_met → is_node q (map mention_of xs) ≡ true
     met_there before =
-        let same : q ≡ get_or was_met i [] = ap (λ (l : List (List Part)). get_or l i []) paths_are ∙ same_node was_met (map path_of (map mention_of ys)) i before in
-        sym (node_met q (map mention_of xs)) ∙ list_any_at (same_path q) was_met i [] before ((path_decides q (get_or was_met i [])).1 same)
+        let same : q ≡ get_or was_met i [] =
+        ap (λ (l : List (List Part)). get_or l i []) paths_are
+        ∙ same_node was_met (map path_of (map mention_of ys)) i before in
+        sym (node_met q (map mention_of xs))
+        ∙ list_any_at (same_path q) was_met i [] before ((path_decides q (get_or was_met i [])).1 same)
 
     unmet : length was_met ≤ i → is_node q (map mention_of xs) ≡ false
     unmet after =
-        sym (node_met q (map mention_of xs)) ∙ ap (λ (l : List (List Part)). list_any (same_path (get_or l i [])) was_met) paths_are
+        sym (node_met q (map mention_of xs))
+        ∙ ap (λ (l : List (List Part)). list_any (same_path (get_or l i [])) was_met) paths_are
         ∙ new_node was_met (map path_of (map mention_of ys)) i after (omega (arith, low, ap length paths_are))
 
     met_later : length was_met ≤ i → list_any (is_at q) (map mention_of ys) ≡ true
     met_later after =
-        let node : is_node q (map mention_of (xs ++ ys)) ≡ true = sym (node_met q (map mention_of (xs ++ ys))) ∙ list_any_at (same_path q) ps i [] low ((path_decides q q).1 refl) in
-        let both : list_any (is_at q) (map mention_of (xs ++ ys)) ≡ (list_any (is_at q) (map mention_of xs) || list_any (is_at q) (map mention_of ys)) =
+        let node : is_node q (map mention_of (xs ++ ys)) ≡ true =
+        sym (node_met q (map mention_of (xs ++ ys)))
+        ∙ list_any_at (same_path q) ps i [] low ((path_decides q q).1 refl) in
+        let both : list_any (is_at q) (map mention_of (xs ++ ys))
+        ≡ (list_any (is_at q) (map mention_of xs) || list_any (is_at q) (map mention_of ys)) =
         ap (list_any (is_at q)) mentioned ∙ list_any-append (is_at q) (map mention_of xs) (map mention_of ys) in
         let none = or_parts (is_root q) (list_any (is_at q) (map mention_of xs)) (unmet after) in
-        either_third (is_root q) (list_any (is_at q) (map mention_of xs)) (list_any (is_at q) (map mention_of ys)) (ap (λ (b : Bool). is_root q || b) (sym both) ∙ node) none.0 none.1
+        either_third (is_root q) (list_any (is_at q) (map mention_of xs)) (list_any (is_at q) (map mention_of ys))
+        (ap (λ (b : Bool). is_root q || b) (sym both) ∙ node) none.0 none.1
 
     stated_before : i < length was_met → is_met_from (numbers_after line.before) (get_or (infos_in d) i no_info) ≡ false
-    stated_before before = info_is ∙ met_before (count_from no_count start line.before) xs ys middle (reading_after middle line.after) first second (before_lower d more line) (after_higher d more line) both_obey q (met_there before)
+    stated_before before =
+        info_is ∙ met_before (count_from no_count start line.before) xs ys middle (reading_after middle line.after)
+        first second (before_lower d more line) (after_higher d more line) both_obey q (met_there before)
 
     stated_after : length was_met ≤ i → is_met_from (numbers_after line.before) (get_or (infos_in d) i no_info) ≡ true
     stated_after after =
-        info_is ∙ met_after (count_from no_count start line.before) xs ys middle (reading_after middle line.after) first second (before_lower d more line) (after_higher d more line) both_obey q (unmet after) (met_later after)
+        info_is ∙ met_after (count_from no_count start line.before) xs ys middle (reading_after middle line.after) first
+        second (before_lower d more line) (after_higher d more line) both_obey q (unmet after) (met_later after)
 
-    pub stated : (nodes_after line.before ≤ i) ↔ (is_met_from (numbers_after line.before) (get_or (infos_in d) i no_info) ≡ true)
-    stated = (λ high. stated_after (omega (arith, high, met_before_line d more line)), λ is. by is (cases_lt i (length was_met)))
+    pub stated : (nodes_after line.before ≤ i) ↔
+        (is_met_from (numbers_after line.before) (get_or (infos_in d) i no_info) ≡ true)
+    stated = (
+      λ high. stated_after (omega (arith, high, met_before_line d more line)),
+      λ is. by is (cases_lt i (length was_met)),
+    )
       where
-        by : is_met_from (numbers_after line.before) (get_or (infos_in d) i no_info) ≡ true → (i < length was_met) ⊎ (length was_met ≤ i) → nodes_after line.before ≤ i
+        by : is_met_from (numbers_after line.before) (get_or (infos_in d) i no_info) ≡ true
+            → (i < length was_met) ⊎ (length was_met ≤ i) → nodes_after line.before ≤ i
         by is (inl before) = absurd (no_longer _ is (stated_before before))
         by is (inr after) = omega (arith, after, met_before_line d more line)
 

@@ -1,6 +1,7 @@
 -- One line more in a document gives one node more (`line_adds_node`), and without it the nodes are those that were
 -- (`line_takes_node`).
-use Rattle.std.proofs.Common.{◌≡◌, ℕ, suc, ◌+◌, ◌≤◌, Bool, true, false, cond, List, [], ◌∷◌, ◌++◌, length, map, sym, ap, ap₂, subst, ◌∙◌, arith, append_assoc}
+use Rattle.std.proofs.Common.{◌≡◌, ℕ, suc, ◌+◌, ◌≤◌, Bool, true, false, cond, List, [], ◌∷◌, ◌++◌, length, map, sym, ap}
+use Rattle.std.proofs.Common.{ap₂, subst, ◌∙◌, arith, append_assoc}
 use Rattle.std.specs.Prelude.{fold, take, drop}
 use Rattle.std.specs.List.{insert, list_any, remove}
 use Rattle.std.proofs.lemmas.List.{map-append, length-append, length-map, length-take-le, take-append-drop}
@@ -9,7 +10,8 @@ use Rattle.std.proofs.Math.Seq.{take-append-add, drop-append-add}
 use Rattle.keep_types.specs.declared.node.NodeInfo.{NodeInfo}
 use Rattle.keep_types.specs.declared.node.Kind.{Kind}
 use Rattle.keep_syntax.specs.Tree.{Document}
-use Rattle.keep_path.specs.NodeInfos.{NodeInfos, LineNumbers, earlier_number, later_number, renumbered, with_node, without_node}
+use Rattle.keep_path.specs.NodeInfos.{NodeInfos, LineNumbers, earlier_number, later_number, renumbered, with_node}
+use Rattle.keep_path.specs.NodeInfos.{without_node}
 use Rattle.keep_path.specs.Path.{Part, key, same_path}
 use Rattle.keep_path.proofs.Shared.{infos_back}
 use Rattle.keep_meaning.specs.Marks.{Mention, Reading, keyval, value as mentions_value, start, reading_after}
@@ -17,10 +19,12 @@ use Rattle.keep_meaning.specs.Meaning.{mentions_in}
 use Rattle.keep_meaning.specs.Counts.{Count, Numbered, count_from, no_count, numbered_from, numbered_in}
 use Rattle.keep_meaning.specs.Laws.{LineAddsNode, LineTakesNode}
 use Rattle.keep_meaning.specs.LinesMore.{HasLineMore, nodes_after, node_infos, numbers_after, path_after}
-use Rattle.keep_meaning.specs.Nodes.{fact_kind, is_node, mention_of, node_info, node_path, node_paths, nodes_in, paths_with}
+use Rattle.keep_meaning.specs.Nodes.{fact_kind, is_node, mention_of, node_info, node_path, node_paths, nodes_in}
+use Rattle.keep_meaning.specs.Nodes.{paths_with}
 use Rattle.keep_meaning.proofs.CountLemmas.{mentions-numbered_from, mentions-numbered_in, paths-nodes_in}
 use Rattle.keep_meaning.proofs.LineNodeLemmas.{infos_of, line_of, node_more, path_of}
-use Rattle.keep_meaning.proofs.LineNumberLemmas.{AllOf, IsHigher, IsLower, IsValued, all_left, higher_from, later, later_numbered, lower_from, numbered_later, valued_statements}
+use Rattle.keep_meaning.proofs.LineNumberLemmas.{AllOf, IsHigher, IsLower, IsValued, all_left, higher_from, later}
+use Rattle.keep_meaning.proofs.LineNumberLemmas.{later_numbered, lower_from, numbered_later, valued_statements}
 use Rattle.keep_meaning.proofs.NumberLemmas.{numbered_from-append}
 
 -- ---- what the line says, among the rest
@@ -59,27 +63,36 @@ module _ (d more : Document) (line : HasLineMore d more) where
   pub numbered_new : numbered_in more ≡ before_line ++ said_there ∷ map later_numbered after_line
   numbered_new =
       ap (numbered_from no_count start) line.new
-      ∙ numbered_from-append no_count start line.before (keyval (record { path = key line.text ∷ []; kind = mentions_value line.fact } ∷ []) ∷ line.after)
+      ∙ numbered_from-append no_count start line.before
+      (keyval (record { path = key line.text ∷ []; kind = mentions_value line.fact } ∷ []) ∷ line.after)
       ∙ ap (λ (x : Count). before_line ++ said_there ∷ numbered_from x r line.after) next_is
       ∙ ap (λ (l : List Numbered). before_line ++ said_there ∷ l) (numbered_later c r line.after)
 
   pub before_lower : AllOf (IsLower c) before_line
-  before_lower = lower_from no_count start line.before (all_left IsValued line.before line.after (subst (AllOf IsValued) line.old (valued_statements d)))
+  before_lower =
+      lower_from no_count start line.before
+      (all_left IsValued line.before line.after (subst (AllOf IsValued) line.old (valued_statements d)))
 
   pub after_higher : AllOf (IsHigher c) after_line
   after_higher = higher_from c r line.after
 
   pub mentions_old : mentions_in d ≡ map mention_of before_line ++ map mention_of after_line
-  mentions_old = sym (mentions-numbered_in d) ∙ ap (map mention_of) numbered_old ∙ map-append mention_of before_line after_line
+  mentions_old =
+      sym (mentions-numbered_in d) ∙ ap (map mention_of) numbered_old ∙ map-append mention_of before_line after_line
 
   pub met_before_line : length (node_paths (map mention_of before_line)) ≡ nodes_after line.before
-  met_before_line = ap (λ (ms : List Mention). length (node_paths ms)) (mentions-numbered_from no_count start line.before)
+  met_before_line =
+      ap (λ (ms : List Mention). length (node_paths ms)) (mentions-numbered_from no_count start line.before)
 
-  pub adds_node : is_node path (mentions_in d) ≡ false → node_infos more ≡ with_node (node_infos d) (nodes_after line.before) (numbers_after line.before) path (fact_kind line.fact)
+  pub adds_node : is_node path (mentions_in d) ≡ false
+      → node_infos more ≡ with_node (node_infos d) (nodes_after line.before) (numbers_after line.before) path (fact_kind
+      line.fact)
   adds_node fresh =
       ap infos_of numbered_new
-      ∙ node_more c before_line after_line before_lower after_higher path line.fact (ap (is_node path) (sym mentions_old) ∙ fresh)
-      ∙ ap₂ (λ (t : NodeInfos) (n : ℕ). with_node t n (line_of c) path (fact_kind line.fact)) (ap infos_of (sym numbered_old)) met_before_line
+      ∙ node_more c before_line after_line before_lower after_higher path line.fact
+      (ap (is_node path) (sym mentions_old) ∙ fresh)
+      ∙ ap₂ (λ (t : NodeInfos) (n : ℕ). with_node t n (line_of c) path (fact_kind line.fact))
+      (ap infos_of (sym numbered_old)) met_before_line
 
 pub line_adds_node : LineAddsNode
 line_adds_node d more line fresh = adds_node d more line fresh
@@ -97,27 +110,34 @@ removed_again xs i x low =
     ∙ append_assoc (take i xs) [] (drop i xs)
     ∙ take-append-drop i xs
 
-node_back : (t : NodeInfos) (at : ℕ) (l : LineNumbers) (p : List Part) (k : Kind) → at ≤ length t.paths → at ≤ length t.infos → without_node (with_node t at l p k) at l ≡ t
+node_back : (t : NodeInfos) (at : ℕ) (l : LineNumbers) (p : List Part) (k : Kind) → at ≤ length t.paths
+    → at ≤ length t.infos → without_node (with_node t at l p k) at l ≡ t
 node_back t at l p k low low' =
     ap₂ (λ (ps : List (List Part)) (is : List NodeInfo). record { paths = ps; infos = is })
     (removed_again t.paths at p low)
-    (ap (map (renumbered earlier_number l)) (removed_again (map (renumbered later_number l) t.infos) at _ (omega (arith, low', length-map t.infos (renumbered later_number l)))) ∙ infos_back l t.infos)
+    (ap (map (renumbered earlier_number l))
+    (removed_again (map (renumbered later_number l) t.infos) at _
+    (omega (arith, low', length-map t.infos (renumbered later_number l)))) ∙ infos_back l t.infos)
 
 paths_grow : (ps qs : List (List Part)) → length ps ≤ length (fold paths_with ps qs)
 paths_grow ps [] = omega arith
 paths_grow ps (q ∷ qs) = by (list_any (same_path q) ps) (λ more. paths_grow more qs)
   where
-    by : (b : Bool) → ((more : List (List Part)) → length more ≤ length (fold paths_with more qs)) → length ps ≤ length (fold paths_with (cond b ps (ps ++ q ∷ [])) qs)
+    by : (b : Bool) → ((more : List (List Part)) → length more ≤ length (fold paths_with more qs))
+        → length ps ≤ length (fold paths_with (cond b ps (ps ++ q ∷ [])) qs)
     by true grow = grow ps
     by false grow = omega (arith, grow (ps ++ q ∷ []), length-append ps (q ∷ []))
 
 module _ (d more : Document) (line : HasLineMore d more) where
-  paths_old : (node_infos d).paths ≡ fold paths_with (node_paths (map mention_of (before_line d more line))) (map path_of (map mention_of (after_line d more line)))
+  paths_old : (node_infos d).paths
+      ≡ fold paths_with (node_paths (map mention_of (before_line d more line)))
+      (map path_of (map mention_of (after_line d more line)))
   paths_old =
       let xs : List Mention = map mention_of (before_line d more line) in
       let ys : List Mention = map mention_of (after_line d more line) in
       paths-nodes_in d ∙ ap node_paths (mentions_old d more line)
-      ∙ ap (fold paths_with ([] ∷ [])) (map-append path_of xs ys) ∙ fold-append paths_with ([] ∷ []) (map path_of xs) (map path_of ys)
+      ∙ ap (fold paths_with ([] ∷ [])) (map-append path_of xs ys)
+      ∙ fold-append paths_with ([] ∷ []) (map path_of xs) (map path_of ys)
 
   pub few_before : nodes_after line.before ≤ length (node_infos d).paths
   few_before =
@@ -125,17 +145,20 @@ module _ (d more : Document) (line : HasLineMore d more) where
         arith,
         met_before_line d more line,
         ap length paths_old,
-        paths_grow (node_paths (map mention_of (before_line d more line))) (map path_of (map mention_of (after_line d more line))),
+        paths_grow (node_paths (map mention_of (before_line d more line)))
+            (map path_of (map mention_of (after_line d more line))),
       )
 
   pub as_many : length (node_infos d).infos ≡ length (node_infos d).paths
   as_many = length-map (nodes_in d) node_info ∙ sym (length-map (nodes_in d) node_path)
 
-  pub takes_node : is_node (path_after line.before line.text) (mentions_in d) ≡ false → node_infos d ≡ without_node (node_infos more) (nodes_after line.before) (numbers_after line.before)
+  pub takes_node : is_node (path_after line.before line.text) (mentions_in d) ≡ false
+      → node_infos d ≡ without_node (node_infos more) (nodes_after line.before) (numbers_after line.before)
   takes_node fresh =
       let at : ℕ = nodes_after line.before in
       let l : LineNumbers = numbers_after line.before in
-      sym (node_back (node_infos d) at l (path_after line.before line.text) (fact_kind line.fact) few_before (omega (arith, few_before, as_many)))
+      sym (node_back (node_infos d) at l (path_after line.before line.text) (fact_kind line.fact) few_before
+      (omega (arith, few_before, as_many)))
       ∙ ap (λ (t : NodeInfos). without_node t at l) (sym (adds_node d more line fresh))
 
 pub line_takes_node : LineTakesNode

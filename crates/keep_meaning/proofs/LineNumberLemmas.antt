@@ -3,18 +3,25 @@
 --
 -- That a number of a value is lower needs that each key part from which a keyval continues is followed by the keyval's
 -- value (`AreValued`).
-use Rattle.std.proofs.Common.{◌≡◌, ℕ, suc, ◌+◌, ◌<◌, ◌≤◌, Bool, true, false, List, [], ◌∷◌, ◌++◌, length, map, refl, sym, ap, ap₂, ◌∙◌, arith, Option, Some, None}
+use Rattle.std.proofs.Common.{◌≡◌, ℕ, suc, ◌+◌, ◌<◌, ◌≤◌, Bool, true, false, List, [], ◌∷◌, ◌++◌, length, map, refl}
+use Rattle.std.proofs.Common.{sym, ap, ap₂, ◌∙◌, arith, Option, Some, None}
 use Rattle.std.specs.Prelude.{⊤, ◌==◌, ◌||◌, if◌then◌else◌}
 use Rattle.std.specs.List.{filter_map, cons_option}
 use Rattle.std.proofs.lemmas.List.{map-append}
 use Rattle.keep_syntax.specs.Tree.{Name, Entries, none, entry, Content, blank, keyval, header, element, Line, Document}
 use Rattle.keep_path.specs.Path.{Part, key, index}
 use Rattle.keep_meaning.specs.Fact.{Fact}
-use Rattle.keep_meaning.specs.Marks.{through, past, define, passed, value as mentions_value, Mention, Statement, below, Reading, statement_mentions, next_reading, mentions_from, marks, elements_of, entered_path, passing_mentions, header_prefixes, header_path}
-use Rattle.keep_meaning.specs.Meaning.{key_value, further_value, keys_of, body_fact, keyed_mentions, entry_mentions, entries_mentions, statement_of, lines}
-use Rattle.keep_meaning.specs.Counts.{Count, Numbered, is_value, is_mark, one_if, count_with_mention, numbered_mentions, count_after, next_count, count_from, numbered_from, line_statement, statements_in}
+use Rattle.keep_meaning.specs.Marks.{through, past, define, passed, value as mentions_value, Mention, Statement, below}
+use Rattle.keep_meaning.specs.Marks.{Reading, statement_mentions, next_reading, mentions_from, marks, elements_of}
+use Rattle.keep_meaning.specs.Marks.{entered_path, passing_mentions, header_prefixes, header_path}
+use Rattle.keep_meaning.specs.Meaning.{key_value, further_value, keys_of, body_fact, keyed_mentions, entry_mentions}
+use Rattle.keep_meaning.specs.Meaning.{entries_mentions, statement_of, lines}
+use Rattle.keep_meaning.specs.Counts.{Count, Numbered, is_value, is_mark, one_if, count_with_mention, numbered_mentions}
+use Rattle.keep_meaning.specs.Counts.{count_after, next_count, count_from, numbered_from, line_statement, statements_in}
 use Rattle.keep_meaning.specs.Nodes.{is_dotted}
-use Rattle.keep_meaning.proofs.NumberLemmas.{valued, valued-append, valued-below, valued-keyed, one_mark, count_after-keys, count_after-values, count_after-statements, count_from-keys, count_from-statements}
+use Rattle.keep_meaning.proofs.NumberLemmas.{valued, valued-append, valued-below, valued-keyed, one_mark}
+use Rattle.keep_meaning.proofs.NumberLemmas.{count_after-keys, count_after-values, count_after-statements}
+use Rattle.keep_meaning.proofs.NumberLemmas.{count_from-keys, count_from-statements}
 
 abbrev pub AllOf : {A : Type 0} → (A → Type 0) → List A → Type 0
 AllOf P [] = ⊤
@@ -61,16 +68,21 @@ later_next c ms =
     ap (λ (x : Count). record { statements = x.statements + 1; values = x.values; keys = x.keys }) (later_after c ms)
     ∙ ap (λ (n : ℕ). record { statements = n; values = suc d.values; keys = suc d.keys }) statements
 
-later_mentions : (c : Count) (ms : List Mention) → numbered_mentions (later c) ms ≡ map later_numbered (numbered_mentions c ms)
+later_mentions : (c : Count) (ms : List Mention)
+    → numbered_mentions (later c) ms ≡ map later_numbered (numbered_mentions c ms)
 later_mentions c [] = refl
 later_mentions c (m ∷ ms) =
-    ap (λ (ns : List Numbered). record { mention = m; before = later c } ∷ ns) (ap (λ (d : Count). numbered_mentions d ms) (later_with c m) ∙ later_mentions (count_with_mention c m) ms)
+    ap (λ (ns : List Numbered). record { mention = m; before = later c } ∷ ns)
+    (ap (λ (d : Count). numbered_mentions d ms) (later_with c m) ∙ later_mentions (count_with_mention c m) ms)
 
-pub numbered_later : (c : Count) (r : Reading) (ss : List Statement) → numbered_from (later c) r ss ≡ map later_numbered (numbered_from c r ss)
+pub numbered_later : (c : Count) (r : Reading) (ss : List Statement)
+    → numbered_from (later c) r ss ≡ map later_numbered (numbered_from c r ss)
 numbered_later c r [] = refl
 numbered_later c r (s ∷ ss) =
     let ms : List Mention = statement_mentions r s in
-    ap₂ (λ (xs ys : List Numbered). xs ++ ys) (later_mentions c ms) (ap (λ (d : Count). numbered_from d (next_reading r s) ss) (later_next c ms) ∙ numbered_later (next_count c ms) (next_reading r s) ss)
+    ap₂ (λ (xs ys : List Numbered). xs ++ ys) (later_mentions c ms)
+    (ap (λ (d : Count). numbered_from d (next_reading r s) ss) (later_next c ms)
+    ∙ numbered_later (next_count c ms) (next_reading r s) ss)
     ∙ sym (map-append later_numbered (numbered_mentions c ms) (numbered_from (next_count c ms) (next_reading r s) ss))
 
 -- ---- a keyval that continues has a value
@@ -87,49 +99,63 @@ valued_under : (at : List Part) (ms : List Mention) → AreValued ms → AreValu
 valued_under at [] h = tt
 valued_under at (m ∷ ms) h = ((λ e. omega (arith, h.0 e, valued-below at ms)), valued_under at ms h.1)
 
-valued_keys : (k : List ℕ) (ks : List (List ℕ)) (ms : List Mention) → 0 < valued ms → AreValued ms → AreValued (keyed_mentions (k ∷ ks) ms)
+valued_keys : (k : List ℕ) (ks : List (List ℕ)) (ms : List Mention) → 0 < valued ms → AreValued ms
+    → AreValued (keyed_mentions (k ∷ ks) ms)
 valued_keys k [] ms some h = valued_under (key k ∷ []) ms h
-valued_keys k (l ∷ ks) ms some h =
-    ((λ e. omega (arith, some, valued-below (key k ∷ []) (keyed_mentions (l ∷ ks) ms), valued-keyed l ks ms)), valued_under (key k ∷ []) (keyed_mentions (l ∷ ks) ms) (valued_keys l ks ms some h))
+valued_keys k (l ∷ ks) ms some h = (
+  (λ e. omega (arith, some, valued-below (key k ∷ []) (keyed_mentions (l ∷ ks) ms), valued-keyed l ks ms)),
+  valued_under (key k ∷ []) (keyed_mentions (l ∷ ks) ms) (valued_keys l ks ms some h),
+)
 
-valued_entry : (n : ℕ) (name : Option Name) (f : Fact) (nested : List Mention) → AreValued nested → AreValued (entry_mentions n name f nested)
+valued_entry : (n : ℕ) (name : Option Name) (f : Fact) (nested : List Mention) → AreValued nested
+    → AreValued (entry_mentions n name f nested)
 valued_entry n None f nested h = ((λ e. cc), valued_under (index n ∷ []) nested h)
 valued_entry n (Some name) f nested h =
-    valued_keys (key_value name.key.first) (map further_value name.key.more) (record { path = []; kind = mentions_value f } ∷ nested) (omega arith) ((λ e. cc), h)
+    valued_keys (key_value name.key.first) (map further_value name.key.more)
+    (record { path = []; kind = mentions_value f } ∷ nested) (omega arith) ((λ e. cc), h)
 
 valued_inside : (n : ℕ) (es : Entries) → AreValued (entries_mentions n es)
 valued_inside n none = tt
 valued_inside n (entry name body nested after comma rest) =
     valued_join (entry_mentions n name (body_fact body) (entries_mentions 0 nested)) (entries_mentions (n + 1) rest)
-    (valued_entry n name (body_fact body) (entries_mentions 0 nested) (valued_inside 0 nested)) (valued_inside (n + 1) rest)
+    (valued_entry n name (body_fact body) (entries_mentions 0 nested) (valued_inside 0 nested))
+    (valued_inside (n + 1) rest)
 
-valued_prefixes : (tables : List (List Part)) (at : List Part) (ks : List (List ℕ)) → AreValued (header_prefixes tables at ks)
+valued_prefixes : (tables : List (List Part)) (at : List Part) (ks : List (List ℕ))
+    → AreValued (header_prefixes tables at ks)
 valued_prefixes tables at [] = tt
 valued_prefixes tables at (k ∷ []) = tt
 valued_prefixes tables at (k ∷ l ∷ ks) =
     let path : List Part = at ++ key k ∷ [] in
-    valued_join (passing_mentions tables path) (header_prefixes tables (entered_path tables path) (l ∷ ks)) (by (0 == elements_of path tables)) (valued_prefixes tables (entered_path tables path) (l ∷ ks))
+    valued_join (passing_mentions tables path) (header_prefixes tables (entered_path tables path) (l ∷ ks))
+    (by (0 == elements_of path tables)) (valued_prefixes tables (entered_path tables path) (l ∷ ks))
   where
     by : (b : Bool) → (let path : List Part = at ++ key k ∷ [] in
-        AreValued (if b then record { path = path; kind = through } ∷ [] else record { path = path; kind = past } ∷ record { path = entered_path tables path; kind = passed } ∷ []))
+        AreValued (if b then record { path = path; kind = through } ∷ [] else record { path = path; kind = past }
+        ∷ record { path = entered_path tables path; kind = passed } ∷ []))
     by true = ((λ e. cc), tt)
     by false = ((λ e. cc), ((λ e. cc), tt))
 
 abbrev pub IsValued : Statement → Type 0
 IsValued s = (r : Reading) → AreValued (statement_mentions r s)
 
-valued_content : (c : Content) (ss : List Statement) → AllOf IsValued ss → AllOf IsValued (cons_option (statement_of c) ss)
+valued_content : (c : Content) (ss : List Statement) → AllOf IsValued ss
+    → AllOf IsValued (cons_option (statement_of c) ss)
 valued_content blank ss h = h
 valued_content (keyval name v) ss h = (
-  λ r. valued_under r.body _ (valued_entry 0 (Some name) (body_fact v.body) (entries_mentions 0 v.nested) (valued_inside 0 v.nested)),
+  λ r. valued_under r.body _ (valued_entry 0 (Some name) (body_fact v.body) (entries_mentions 0 v.nested)
+      (valued_inside 0 v.nested)),
   h,
 )
 valued_content (header before k after) ss h = (
-  λ r. valued_join (header_prefixes r.tables [] (keys_of k)) (record { path = header_path r.tables [] (keys_of k); kind = define } ∷ []) (valued_prefixes r.tables [] (keys_of k)) ((λ e. cc), tt),
+  λ r. valued_join (header_prefixes r.tables [] (keys_of k))
+      (record { path = header_path r.tables [] (keys_of k); kind = define } ∷ [])
+      (valued_prefixes r.tables [] (keys_of k)) ((λ e. cc), tt),
   h,
 )
 valued_content (element before k after) ss h = (
-  λ r. valued_join (header_prefixes r.tables [] (keys_of k)) _ (valued_prefixes r.tables [] (keys_of k)) ((λ e. cc), ((λ e. cc), tt)),
+  λ r. valued_join (header_prefixes r.tables [] (keys_of k)) _ (valued_prefixes r.tables [] (keys_of k))
+      ((λ e. cc), ((λ e. cc), tt)),
   h,
 )
 
@@ -147,7 +173,9 @@ pub record IsLower (c : Count) (n : Numbered) : Type 0 where
   pub value : (is_value n.mention.kind || is_dotted n.mention.kind) ≡ true → n.before.values < c.values
   pub key : is_mark n.mention.kind ≡ true → n.before.keys < c.keys
 
-lower_value : (m : Mention) (ms : List Mention) (before end : ℕ) → (is_dotted m.kind ≡ true → 0 < valued ms) → before + (one_if (is_value m.kind) + valued ms) ≤ end → (is_value m.kind || is_dotted m.kind) ≡ true → before < end
+lower_value : (m : Mention) (ms : List Mention) (before end : ℕ) → (is_dotted m.kind ≡ true → 0 < valued ms)
+    → before + (one_if (is_value m.kind) + valued ms) ≤ end → (is_value m.kind || is_dotted m.kind) ≡ true
+    → before < end
 lower_value m ms before end more low e = by (is_value m.kind) refl (is_dotted m.kind) refl
   where
     by : (b : Bool) → is_value m.kind ≡ b → (c : Bool) → is_dotted m.kind ≡ c → before < end
@@ -155,17 +183,21 @@ lower_value m ms before end more low e = by (is_value m.kind) refl (is_dotted m.
     by false v true d = omega (arith, low, more d)
     by false v false d = absurd (let k : false ≡ true = sym (ap₂ (λ (a b : Bool). a || b) v d) ∙ e in cc)
 
-lower_key : (m : Mention) (ms : List Mention) (before end : ℕ) → before + length (marks (m ∷ ms)) ≤ end → is_mark m.kind ≡ true → before < end
+lower_key : (m : Mention) (ms : List Mention) (before end : ℕ) → before + length (marks (m ∷ ms)) ≤ end
+    → is_mark m.kind ≡ true → before < end
 lower_key m ms before end low e = omega (arith, low, one_mark m.kind m.path (marks ms), ap one_if e)
 
-lower_mentions : (c : Count) (ms : List Mention) (d : Count) → AreValued ms → c.statements < d.statements → c.values + valued ms ≤ d.values → c.keys + length (marks ms) ≤ d.keys → AllOf (IsLower d) (numbered_mentions c ms)
+lower_mentions : (c : Count) (ms : List Mention) (d : Count) → AreValued ms → c.statements < d.statements
+    → c.values + valued ms ≤ d.values → c.keys + length (marks ms) ≤ d.keys → AllOf (IsLower d) (numbered_mentions c ms)
 lower_mentions c [] d h s v k = tt
 lower_mentions c (m ∷ ms) d h s v k = (
   record { statement = s; value = lower_value m ms c.values d.values h.0 v; key = lower_key m ms c.keys d.keys k },
-  lower_mentions (count_with_mention c m) ms d h.1 s (omega (arith, v)) (omega (arith, k, one_mark m.kind m.path (marks ms))),
+  lower_mentions (count_with_mention c m) ms d h.1 s (omega (arith, v))
+      (omega (arith, k, one_mark m.kind m.path (marks ms))),
 )
 
-count_from-values : (c : Count) (r : Reading) (ss : List Statement) → (count_from c r ss).values ≡ c.values + valued (mentions_from r ss)
+count_from-values : (c : Count) (r : Reading) (ss : List Statement)
+    → (count_from c r ss).values ≡ c.values + valued (mentions_from r ss)
 count_from-values c r [] = omega arith
 count_from-values c r (s ∷ ss) =
     omega (
@@ -175,7 +207,8 @@ count_from-values c r (s ∷ ss) =
       valued-append (statement_mentions r s) (mentions_from (next_reading r s) ss),
     )
 
-pub lower_from : (c : Count) (r : Reading) (ss : List Statement) → AllOf IsValued ss → AllOf (IsLower (count_from c r ss)) (numbered_from c r ss)
+pub lower_from : (c : Count) (r : Reading) (ss : List Statement) → AllOf IsValued ss
+    → AllOf (IsLower (count_from c r ss)) (numbered_from c r ss)
 lower_from c r [] h = tt
 lower_from c r (s ∷ ss) h =
     let ms : List Mention = statement_mentions r s in
@@ -203,14 +236,17 @@ higher_mentions : (c d : Count) (ms : List Mention) → IsUpTo c d → AllOf (Is
 higher_mentions c d [] h = tt
 higher_mentions c d (m ∷ ms) h = (
   record { statement = h.statement; value = h.value; key = h.key },
-  higher_mentions c (count_with_mention d m) ms (record { statement = h.statement; value = omega (arith, h.value); key = omega (arith, h.key) }),
+  higher_mentions c (count_with_mention d m) ms
+      (record { statement = h.statement; value = omega (arith, h.value); key = omega (arith, h.key) }),
 )
 
-higher_after : (c d : Count) (r : Reading) (ss : List Statement) → IsUpTo c d → AllOf (IsHigher c) (numbered_from d r ss)
+higher_after : (c d : Count) (r : Reading) (ss : List Statement) → IsUpTo c d
+    → AllOf (IsHigher c) (numbered_from d r ss)
 higher_after c d r [] h = tt
 higher_after c d r (s ∷ ss) h =
     let ms : List Mention = statement_mentions r s in
-    all_join (IsHigher c) (numbered_mentions d ms) (numbered_from (next_count d ms) (next_reading r s) ss) (higher_mentions c d ms h)
+    all_join (IsHigher c) (numbered_mentions d ms) (numbered_from (next_count d ms) (next_reading r s) ss)
+    (higher_mentions c d ms h)
     (higher_after c (next_count d ms) (next_reading r s) ss (record {
       statement = omega (arith, h.statement, count_after-statements d ms);
       value = omega (arith, h.value, count_after-values d ms);

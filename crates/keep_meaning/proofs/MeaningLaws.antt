@@ -18,7 +18,8 @@ means_wide Strict l text value h = means_wider l text value h
 means_wide Wide l text value h = h
 
 -- each string has a meaning
-meant : (profile : Profile) (l : Leaf) (text : List ℕ) → IsTrue (is_string_leaf l) → IsLeaf profile l text → (value : List ℕ) × Means profile l text value
+meant : (profile : Profile) (l : Leaf) (text : List ℕ) → IsTrue (is_string_leaf l) → IsLeaf profile l text
+    → (value : List ℕ) × Means profile l text value
 meant profile leaf.BareKey text kind h = (text, refl)
 meant profile leaf.Basic text kind (ps, h) = (value_of ps, (ps, h, refl))
 meant profile leaf.Literal text kind (ps, h) = (value_of ps, (ps, h, refl))
@@ -39,4 +40,5 @@ string_value_is_meaning profile l text value kind h = (found, means)
         subst (λ (x : List ℕ). Means profile l text x) same m
 
 pub nodes_are_few : NodesAreFew
-nodes_are_few profile limit bytes d r = omega (arith, nodes_few profile d r.valid, ap (λ (b : List ℕ). length b) r.spelled)
+nodes_are_few profile limit bytes d r =
+    omega (arith, nodes_few profile d r.valid, ap (λ (b : List ℕ). length b) r.spelled)

@@ -14,7 +14,9 @@ or_assoc true b c = refl
 or_assoc false b c = refl
 
 pub same_turned : (p q : List Part) → same_path p q ≡ same_path q p
-same_turned p q = by (same_path p q) (same_path q p) (λ e. (path_decides q p).1 (sym ((path_decides p q).0 e))) (λ e. (path_decides p q).1 (sym ((path_decides q p).0 e)))
+same_turned p q =
+    by (same_path p q) (same_path q p) (λ e. (path_decides q p).1 (sym ((path_decides p q).0 e)))
+    (λ e. (path_decides p q).1 (sym ((path_decides q p).0 e)))
   where
     by : (a b : Bool) → (a ≡ true → b ≡ true) → (b ≡ true → a ≡ true) → a ≡ b
     by true b f g = sym (f refl)
@@ -22,15 +24,23 @@ same_turned p q = by (same_path p q) (same_path q p) (λ e. (path_decides q p).1
     by false false f g = refl
 
 -- a path is among others and one more
-met_with : (paths : List (List Part)) (p q : List Part) → list_any (same_path p) (paths_with paths q) ≡ (list_any (same_path p) paths || same_path q p)
+met_with : (paths : List (List Part)) (p q : List Part)
+    → list_any (same_path p) (paths_with paths q) ≡ (list_any (same_path p) paths || same_path q p)
 met_with paths p q = by (list_any (same_path q) paths) refl (same_path q p) refl
   where
-    by : (b : Bool) → list_any (same_path q) paths ≡ b → (c : Bool) → same_path q p ≡ c → list_any (same_path p) (if b then paths else paths ++ q ∷ []) ≡ (list_any (same_path p) paths || c)
-    by true e true f = subst (λ (r : List Part). list_any (same_path r) paths ≡ (list_any (same_path r) paths || true)) ((path_decides q p).0 f) (rw e refl)
+    by : (b : Bool) → list_any (same_path q) paths ≡ b → (c : Bool) → same_path q p ≡ c
+        → list_any (same_path p) (if b then paths else paths ++ q ∷ []) ≡ (list_any (same_path p) paths || c)
+    by true e true f =
+        subst (λ (r : List Part). list_any (same_path r) paths ≡ (list_any (same_path r) paths || true))
+        ((path_decides q p).0 f) (rw e refl)
     by true e false f = sym (or-false (list_any (same_path p) paths))
-    by false e c f = list_any-append (same_path p) paths (q ∷ []) ∙ ap (λ b. list_any (same_path p) paths || b) (or-false (same_path p q) ∙ same_turned p q ∙ f)
+    by false e c f =
+        list_any-append (same_path p) paths (q ∷ [])
+        ∙ ap (λ b. list_any (same_path p) paths || b) (or-false (same_path p q) ∙ same_turned p q ∙ f)
 
-met_by : (paths : List (List Part)) (p : List Part) (ms : List Mention) → list_any (same_path p) (fold paths_with paths (map (λ (m : Mention). m.path) ms)) ≡ (list_any (same_path p) paths || list_any (is_at p) ms)
+met_by : (paths : List (List Part)) (p : List Part) (ms : List Mention)
+    → list_any (same_path p) (fold paths_with paths (map (λ (m : Mention). m.path) ms))
+    ≡ (list_any (same_path p) paths || list_any (is_at p) ms)
 met_by paths p [] = sym (or-false (list_any (same_path p) paths))
 met_by paths p (m ∷ ms) =
     met_by (paths_with paths m.path) p ms

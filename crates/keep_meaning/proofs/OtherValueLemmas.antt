@@ -6,7 +6,8 @@
 -- those met after it are the same with either run (`further`). The paths in a run, and their numbers, are those of
 -- the value alone, with the value's path before each (`run_moved`). The facts about a node go by what is said of it,
 -- in its order: with other numbers for that they have these numbers, and nothing else changes (`info_moved`).
-use Rattle.std.proofs.Common.{◌≡◌, ℕ, suc, ◌+◌, ◌-◌, ◌<◌, ◌≤◌, Bool, true, false, cond, ◌||◌, List, [], ◌∷◌, ◌++◌, map, refl, sym, ap, ap₂, ◌∙◌, arith, append-nil, append_assoc, Option, Some, None}
+use Rattle.std.proofs.Common.{◌≡◌, ℕ, suc, ◌+◌, ◌-◌, ◌<◌, ◌≤◌, Bool, true, false, cond, ◌||◌, List, [], ◌∷◌, ◌++◌, map}
+use Rattle.std.proofs.Common.{refl, sym, ap, ap₂, ◌∙◌, arith, append-nil, append_assoc, Option, Some, None}
 use Rattle.std.specs.Prelude.{fold, if◌then◌else◌}
 use Rattle.std.specs.List.{list_any, AllByRecursion}
 use Rattle.std.specs.Option.{option_map}
@@ -24,9 +25,13 @@ use Rattle.keep_path.specs.Path.{Part, key, index, same_path, strip}
 use Rattle.keep_path.proofs.Shared.{path_decides, strip_append}
 use Rattle.keep_meaning.specs.Fact.{Fact}
 use Rattle.keep_meaning.specs.Marks.{MentionKind, Mention, below, dotted, value as mentions_value}
-use Rattle.keep_meaning.specs.Meaning.{key_value, further_value, body_fact, keyed_mentions, entry_mentions, entries_mentions}
+use Rattle.keep_meaning.specs.Meaning.{key_value, further_value, body_fact, keyed_mentions, entry_mentions}
+use Rattle.keep_meaning.specs.Meaning.{entries_mentions}
 use Rattle.keep_meaning.specs.Counts.{Count, Numbered, is_value, is_mark, one_if, count_with_mention, numbered_mentions}
-use Rattle.keep_meaning.specs.Nodes.{is_begun, is_define, is_dotted, is_element, is_numbered_at, is_passed, is_root, is_through, first_number, last_number, key_number, mention_kind_of, mention_of, mentioned_kind, mentioned_node, mentioned_origin, node_info, node_paths, numbered_at, paths_with, statement_number, value_number}
+use Rattle.keep_meaning.specs.Nodes.{is_begun, is_define, is_dotted, is_element, is_numbered_at, is_passed, is_root}
+use Rattle.keep_meaning.specs.Nodes.{is_through, first_number, last_number, key_number, mention_kind_of, mention_of}
+use Rattle.keep_meaning.specs.Nodes.{mentioned_kind, mentioned_node, mentioned_origin, node_info, node_paths}
+use Rattle.keep_meaning.specs.Nodes.{numbered_at, paths_with, statement_number, value_number}
 use Rattle.keep_meaning.specs.OtherValues.{IsApart, said_by_value}
 use Rattle.keep_meaning.proofs.CountLemmas.{mentions-numbered_mentions}
 use Rattle.keep_meaning.proofs.LineNodeLemmas.{fitting, fitting_later, map_twice, path_of}
@@ -96,20 +101,27 @@ further_with front met q = if list_any (same_path q) (front ++ met) then met els
 abbrev pub further : List (List Part) → List (List Part) → List (List Part)
 further front qs = fold (further_with front) [] qs
 
-met_after : (front met qs : List (List Part)) → fold paths_with (front ++ met) qs ≡ front ++ fold (further_with front) met qs
+met_after : (front met qs : List (List Part))
+    → fold paths_with (front ++ met) qs ≡ front ++ fold (further_with front) met qs
 met_after front met [] = refl
 met_after front met (q ∷ qs) = by (list_any (same_path q) (front ++ met)) (λ more. met_after front more qs)
   where
-    by : (b : Bool) → ((more : List (List Part)) → fold paths_with (front ++ more) qs ≡ front ++ fold (further_with front) more qs)
-        → fold paths_with (cond b (front ++ met) ((front ++ met) ++ q ∷ [])) qs ≡ front ++ fold (further_with front) (cond b met (met ++ q ∷ [])) qs
+    by : (b : Bool)
+        → ((more : List (List Part)) → fold paths_with (front ++ more) qs ≡ front ++ fold (further_with front) more qs)
+        → fold paths_with (cond b (front ++ met) ((front ++ met) ++ q ∷ [])) qs ≡ front
+        ++ fold (further_with front) (cond b met (met ++ q ∷ [])) qs
     by true more = more met
-    by false more = ap (λ (l : List (List Part)). fold paths_with l qs) (append_assoc front met (q ∷ [])) ∙ more (met ++ q ∷ [])
+    by false more =
+        ap (λ (l : List (List Part)). fold paths_with l qs) (append_assoc front met (q ∷ [])) ∙ more (met ++ q ∷ [])
 
-pub all_further : (P : List Part → Type 0) (front met qs : List (List Part)) → AllOf P met → AllOf P qs → AllOf P (fold (further_with front) met qs)
+pub all_further : (P : List Part → Type 0) (front met qs : List (List Part)) → AllOf P met → AllOf P qs
+    → AllOf P (fold (further_with front) met qs)
 all_further P front met [] h g = h
-all_further P front met (q ∷ qs) h g = by (list_any (same_path q) (front ++ met)) (λ more r. all_further P front more qs r g.1)
+all_further P front met (q ∷ qs) h g =
+    by (list_any (same_path q) (front ++ met)) (λ more r. all_further P front more qs r g.1)
   where
-    by : (b : Bool) → ((more : List (List Part)) → AllOf P more → AllOf P (fold (further_with front) more qs)) → AllOf P (fold (further_with front) (cond b met (met ++ q ∷ [])) qs)
+    by : (b : Bool) → ((more : List (List Part)) → AllOf P more → AllOf P (fold (further_with front) more qs))
+        → AllOf P (fold (further_with front) (cond b met (met ++ q ∷ [])) qs)
     by true more = more met h
     by false more = more (met ++ q ∷ []) (all_join P met (q ∷ []) h (g.0, tt))
 
@@ -117,20 +129,25 @@ all_further P front met (q ∷ qs) h g = by (list_any (same_path q) (front ++ me
 abbrev IsNoneOf : List (List Part) → List Part → Type 0
 IsNoneOf ps q = list_any (same_path q) ps ≡ false
 
-without_middle : (front middle met : List (List Part)) (q : List Part) → IsNoneOf middle q → list_any (same_path q) ((front ++ middle) ++ met) ≡ list_any (same_path q) (front ++ met)
+without_middle : (front middle met : List (List Part)) (q : List Part) → IsNoneOf middle q
+    → list_any (same_path q) ((front ++ middle) ++ met) ≡ list_any (same_path q) (front ++ met)
 without_middle front middle met q h =
     list_any-append (same_path q) (front ++ middle) met
-    ∙ ap (λ (b : Bool). b || list_any (same_path q) met) (list_any-append (same_path q) front middle ∙ ap (λ (b : Bool). list_any (same_path q) front || b) h ∙ or_none (list_any (same_path q) front))
+    ∙ ap (λ (b : Bool). b || list_any (same_path q) met)
+    (list_any-append (same_path q) front middle ∙ ap (λ (b : Bool). list_any (same_path q) front || b) h
+    ∙ or_none (list_any (same_path q) front))
     ∙ sym (list_any-append (same_path q) front met)
   where
     or_none : (b : Bool) → (b || false) ≡ b
     or_none true = refl
     or_none false = refl
 
-further_same : (front middle met qs : List (List Part)) → AllOf (IsNoneOf middle) qs → fold (further_with (front ++ middle)) met qs ≡ fold (further_with front) met qs
+further_same : (front middle met qs : List (List Part)) → AllOf (IsNoneOf middle) qs
+    → fold (further_with (front ++ middle)) met qs ≡ fold (further_with front) met qs
 further_same front middle met [] h = refl
 further_same front middle met (q ∷ qs) h =
-    ap (λ (b : Bool). fold (further_with (front ++ middle)) (cond b met (met ++ q ∷ [])) qs) (without_middle front middle met q h.0)
+    ap (λ (b : Bool). fold (further_with (front ++ middle)) (cond b met (met ++ q ∷ [])) qs)
+    (without_middle front middle met q h.0)
     ∙ further_same front middle (cond (list_any (same_path q) (front ++ met)) met (met ++ q ∷ [])) qs h.1
 
 -- ---- the paths of a run
@@ -141,7 +158,8 @@ pub record FirstMet (path : List Part) (before : List (List Part)) : Type 0 wher
   pub off : AllOf (IsOff path) front
   pub met : fold paths_with ([] ∷ []) (before ++ path ∷ []) ≡ front ++ path ∷ []
 
-none_is : (path : List Part) (ps : List (List Part)) → AllOf (IsOff path) ps → (more : List Part) → IsNoneOf ps (path ++ more)
+none_is : (path : List Part) (ps : List (List Part)) → AllOf (IsOff path) ps → (more : List Part)
+    → IsNoneOf ps (path ++ more)
 none_is path [] h more = refl
 none_is path (p ∷ ps) h more = ap₂ (λ (a b : Bool). a || b) (off_turned path p more h.0) (none_is path ps h.1 more)
 
@@ -151,22 +169,29 @@ first_met [] (b ∷ before) h = absurd (let e = h.0 in cc)
 first_met (p ∷ path) before h =
     let front : List (List Part) = fold paths_with ([] ∷ []) before in
     let off : AllOf (IsOff (p ∷ path)) front = all_further (IsOff (p ∷ path)) [] ([] ∷ []) before (refl, tt) h in
-    let new : list_any (same_path (p ∷ path)) front ≡ false = ap (λ (q : List Part). list_any (same_path q) front) (sym (append-nil (p ∷ path))) ∙ none_is (p ∷ path) front off [] in
+    let new : list_any (same_path (p ∷ path)) front ≡ false =
+    ap (λ (q : List Part). list_any (same_path q) front) (sym (append-nil (p ∷ path)))
+    ∙ none_is (p ∷ path) front off [] in
     record {
       front = front;
       off = off;
-      met = fold-append paths_with ([] ∷ []) before ((p ∷ path) ∷ []) ∙ ap (λ (b : Bool). cond b front (front ++ (p ∷ path) ∷ [])) new;
+      met = fold-append paths_with ([] ∷ []) before ((p ∷ path) ∷ [])
+          ∙ ap (λ (b : Bool). cond b front (front ++ (p ∷ path) ∷ [])) new;
     }
 
-any_below : (path r : List Part) (rs : List (List Part)) → list_any (same_path (path ++ r)) (map (λ (x : List Part). path ++ x) rs) ≡ list_any (same_path r) rs
+any_below : (path r : List Part) (rs : List (List Part))
+    → list_any (same_path (path ++ r)) (map (λ (x : List Part). path ++ x) rs) ≡ list_any (same_path r) rs
 any_below path r [] = refl
 any_below path r (x ∷ rs) = ap₂ (λ (a b : Bool). a || b) (same_below path r x) (any_below path r rs)
 
 -- the paths below it are met as they are alone
-met_below : (path : List Part) (front rs qs : List (List Part)) → AllOf (IsOff path) front → fold paths_with (front ++ map (λ (x : List Part). path ++ x) rs) (map (λ (x : List Part). path ++ x) qs) ≡ front ++ map (λ (x : List Part). path ++ x) (fold paths_with rs qs)
+met_below : (path : List Part) (front rs qs : List (List Part)) → AllOf (IsOff path) front
+    → fold paths_with (front ++ map (λ (x : List Part). path ++ x) rs) (map (λ (x : List Part). path ++ x) qs) ≡ front
+    ++ map (λ (x : List Part). path ++ x) (fold paths_with rs qs)
 met_below path front rs [] h = refl
 met_below path front rs (q ∷ qs) h =
-    ap (λ (b : Bool). fold paths_with (cond b (front ++ under rs) ((front ++ under rs) ++ (path ++ q) ∷ [])) (under qs)) known
+    ap (λ (b : Bool). fold paths_with (cond b (front ++ under rs) ((front ++ under rs) ++ (path ++ q) ∷ [])) (under qs))
+    known
     ∙ by (list_any (same_path q) rs) (λ more. met_below path front more qs h)
   where
     under : List (List Part) → List (List Part)
@@ -177,11 +202,16 @@ met_below path front rs (q ∷ qs) h =
         list_any-append (same_path (path ++ q)) front (under rs)
         ∙ ap₂ (λ (a b : Bool). a || b) (none_is path front h q) (any_below path q rs)
 
-    by : (b : Bool) → ((more : List (List Part)) → fold paths_with (front ++ under more) (under qs) ≡ front ++ under (fold paths_with more qs))
-        → fold paths_with (cond b (front ++ under rs) ((front ++ under rs) ++ (path ++ q) ∷ [])) (under qs) ≡ front ++ under (fold paths_with (cond b rs (rs ++ q ∷ [])) qs)
+    by : (b : Bool)
+        → ((more : List (List Part))
+        → fold paths_with (front ++ under more) (under qs) ≡ front ++ under (fold paths_with more qs))
+        → fold paths_with (cond b (front ++ under rs) ((front ++ under rs) ++ (path ++ q) ∷ [])) (under qs) ≡ front
+        ++ under (fold paths_with (cond b rs (rs ++ q ∷ [])) qs)
     by true more = more rs
     by false more =
-        ap (λ (l : List (List Part)). fold paths_with l (under qs)) (append_assoc front (under rs) ((path ++ q) ∷ []) ∙ ap (λ (l : List (List Part)). front ++ l) (sym (map-append (λ (x : List Part). path ++ x) rs (q ∷ []))))
+        ap (λ (l : List (List Part)). fold paths_with l (under qs))
+        (append_assoc front (under rs) ((path ++ q) ∷ [])
+        ∙ ap (λ (l : List (List Part)). front ++ l) (sym (map-append (λ (x : List Part). path ++ x) rs (q ∷ []))))
         ∙ more (rs ++ q ∷ [])
 
 -- the paths below the root that are met, of these
@@ -191,24 +221,32 @@ deeper qs = further ([] ∷ []) qs
 pub paths_alone : (ms : List Mention) → node_paths ms ≡ [] ∷ deeper (map path_of ms)
 paths_alone ms = met_after ([] ∷ []) [] (map path_of ms)
 
-none_below : (path : List Part) (rs : List (List Part)) (q : List Part) → IsOff path q → IsNoneOf (map (λ (x : List Part). path ++ x) rs) q
+none_below : (path : List Part) (rs : List (List Part)) (q : List Part) → IsOff path q
+    → IsNoneOf (map (λ (x : List Part). path ++ x) rs) q
 none_below path [] q h = refl
 none_below path (r ∷ rs) q h = ap₂ (λ (a b : Bool). a || b) (off_differs path q r h) (none_below path rs q h)
 
-pub run_paths : (path : List Part) (before after inner : List (List Part)) (first : FirstMet path before) → AllOf (IsOff path) after
-    → fold paths_with ([] ∷ []) (before ++ (path ∷ (map (λ (x : List Part). path ++ x) inner ++ after))) ≡ first.front ++ (path ∷ (map (λ (x : List Part). path ++ x) (deeper inner) ++ further first.front after))
+pub run_paths : (path : List Part) (before after inner : List (List Part)) (first : FirstMet path before)
+    → AllOf (IsOff path) after
+    → fold paths_with ([] ∷ []) (before ++ (path ∷ (map (λ (x : List Part). path ++ x) inner ++ after))) ≡ first.front
+    ++ (path ∷ (map (λ (x : List Part). path ++ x) (deeper inner) ++ further first.front after))
 run_paths path before after inner first off =
     let under : List (List Part) → List (List Part) = λ (l : List (List Part)). map (λ (x : List Part). path ++ x) l in
     let run : List (List Part) = [] ∷ deeper inner in
     let front : List (List Part) = first.front in
     ap (fold paths_with ([] ∷ [])) (sym (append_assoc before (path ∷ []) (under inner ++ after)))
     ∙ fold-append paths_with ([] ∷ []) (before ++ path ∷ []) (under inner ++ after)
-    ∙ ap (λ (l : List (List Part)). fold paths_with l (under inner ++ after)) (first.met ∙ ap (λ (p : List Part). front ++ p ∷ []) (sym (append-nil path)))
+    ∙ ap (λ (l : List (List Part)). fold paths_with l (under inner ++ after))
+    (first.met ∙ ap (λ (p : List Part). front ++ p ∷ []) (sym (append-nil path)))
     ∙ fold-append paths_with (front ++ (path ++ []) ∷ []) (under inner) after
-    ∙ ap (λ (l : List (List Part)). fold paths_with l after) (met_below path front ([] ∷ []) inner first.off ∙ ap (λ (l : List (List Part)). front ++ under l) (met_after ([] ∷ []) [] inner))
+    ∙ ap (λ (l : List (List Part)). fold paths_with l after)
+    (met_below path front ([] ∷ []) inner first.off
+    ∙ ap (λ (l : List (List Part)). front ++ under l) (met_after ([] ∷ []) [] inner))
     ∙ ap (λ (l : List (List Part)). fold paths_with l after) (sym (append-nil (front ++ under run)))
     ∙ met_after (front ++ under run) [] after
-    ∙ ap (λ (l : List (List Part)). (front ++ under run) ++ l) (further_same front (under run) [] after (all_of (IsOff path) (IsNoneOf (under run)) (none_below path run) after off))
+    ∙ ap (λ (l : List (List Part)). (front ++ under run) ++ l)
+    (further_same front (under run) [] after
+    (all_of (IsOff path) (IsNoneOf (under run)) (none_below path run) after off))
     ∙ append_assoc front (under run) (further front after)
     ∙ ap (λ (p : List Part). front ++ (p ∷ (under (deeper inner) ++ further front after))) (append-nil path)
 
@@ -232,29 +270,41 @@ deeper_under p (m ∷ ms) h = ((refl, h.0), deeper_under p ms h.1)
 of_body : (ms : List Mention) → AllOf IsDeeper ms → AllOf IsOfBody ms
 of_body ms h = all_of IsDeeper IsOfBody (λ m g. g.1) ms h
 
-deeper_keys : (k : List ℕ) (ks : List (List ℕ)) (ms : List Mention) → AllOf IsOfBody ms → AllOf IsDeeper (keyed_mentions (k ∷ ks) ms)
+deeper_keys : (k : List ℕ) (ks : List (List ℕ)) (ms : List Mention) → AllOf IsOfBody ms
+    → AllOf IsDeeper (keyed_mentions (k ∷ ks) ms)
 deeper_keys k [] ms h = deeper_under (key k) ms h
-deeper_keys k (l ∷ ks) ms h = deeper_under (key k) (record { path = []; kind = dotted } ∷ keyed_mentions (l ∷ ks) ms) (refl, of_body (keyed_mentions (l ∷ ks) ms) (deeper_keys l ks ms h))
+deeper_keys k (l ∷ ks) ms h =
+    deeper_under (key k) (record { path = []; kind = dotted } ∷ keyed_mentions (l ∷ ks) ms)
+    (refl, of_body (keyed_mentions (l ∷ ks) ms) (deeper_keys l ks ms h))
 
-deeper_entry : (n : ℕ) (name : Option Name) (f : Fact) (nested : List Mention) → AllOf IsDeeper nested → AllOf IsDeeper (entry_mentions n name f nested)
+deeper_entry : (n : ℕ) (name : Option Name) (f : Fact) (nested : List Mention) → AllOf IsDeeper nested
+    → AllOf IsDeeper (entry_mentions n name f nested)
 deeper_entry n None f nested h = ((refl, refl), deeper_under (index n) nested (of_body nested h))
-deeper_entry n (Some name) f nested h = deeper_keys (key_value name.key.first) (map further_value name.key.more) (record { path = []; kind = mentions_value f } ∷ nested) (refl, of_body nested h)
+deeper_entry n (Some name) f nested h =
+    deeper_keys (key_value name.key.first) (map further_value name.key.more)
+    (record { path = []; kind = mentions_value f } ∷ nested) (refl, of_body nested h)
 
 pub deeper_inside : (n : ℕ) (es : Entries) → AllOf IsDeeper (entries_mentions n es)
 deeper_inside n none = tt
 deeper_inside n (entry name body nested after comma rest) =
-    all_join IsDeeper (entry_mentions n name (body_fact body) (entries_mentions 0 nested)) (entries_mentions (n + 1) rest)
-    (deeper_entry n name (body_fact body) (entries_mentions 0 nested) (deeper_inside 0 nested)) (deeper_inside (n + 1) rest)
+    all_join IsDeeper (entry_mentions n name (body_fact body) (entries_mentions 0 nested))
+    (entries_mentions (n + 1) rest)
+    (deeper_entry n name (body_fact body) (entries_mentions 0 nested) (deeper_inside 0 nested))
+    (deeper_inside (n + 1) rest)
 
 all_paths : (ms : List Mention) → AllOf IsDeeper ms → AllOf (λ (q : List Part). is_root q ≡ false) (map path_of ms)
 all_paths [] h = tt
 all_paths (m ∷ ms) h = (h.0.0, all_paths ms h.1)
 
 -- so the paths that are met in it are longer ones
-pub deeper_met : (es : Entries) → AllOf (λ (q : List Part). is_root q ≡ false) (deeper (map path_of (entries_mentions 0 es)))
-deeper_met es = all_further (λ (q : List Part). is_root q ≡ false) ([] ∷ []) [] (map path_of (entries_mentions 0 es)) tt (all_paths (entries_mentions 0 es) (deeper_inside 0 es))
+pub deeper_met : (es : Entries)
+    → AllOf (λ (q : List Part). is_root q ≡ false) (deeper (map path_of (entries_mentions 0 es)))
+deeper_met es =
+    all_further (λ (q : List Part). is_root q ≡ false) ([] ∷ []) [] (map path_of (entries_mentions 0 es)) tt
+    (all_paths (entries_mentions 0 es) (deeper_inside 0 es))
 
-pub all_numbered : (P : Mention → Type 0) (c : Count) (ms : List Mention) → AllOf P ms → AllOf (λ (n : Numbered). P n.mention) (numbered_mentions c ms)
+pub all_numbered : (P : Mention → Type 0) (c : Count) (ms : List Mention) → AllOf P ms
+    → AllOf (λ (n : Numbered). P n.mention) (numbered_mentions c ms)
 all_numbered P c [] h = tt
 all_numbered P c (m ∷ ms) h = (h.0, all_numbered P (count_with_mention c m) ms h.1)
 
@@ -274,22 +324,29 @@ module _ (at : List Part) (statement value key_part : ℕ → ℕ) where
   abbrev known_by : (MentionKind → Bool) → (Count → ℕ) → Option ℕ → Numbered → Option ℕ
   known_by is number known n = cond (is n.mention.kind) (Some (number n.before)) known
 
-  last_moved : (is : MentionKind → Bool) (number : Count → ℕ) (f : ℕ → ℕ) → ((c : Count) → number (moved_count c) ≡ f (number c)) → (ns : List Numbered) (known : Option ℕ)
-      → fold (known_by is number) (option_map f known) (map moved ns) ≡ option_map f (fold (known_by is number) known ns)
+  last_moved : (is : MentionKind → Bool) (number : Count → ℕ) (f : ℕ → ℕ)
+      → ((c : Count) → number (moved_count c) ≡ f (number c)) → (ns : List Numbered) (known : Option ℕ)
+      → fold (known_by is number) (option_map f known) (map moved ns)
+      ≡ option_map f (fold (known_by is number) known ns)
   last_moved is number f other [] known = refl
   last_moved is number f other (n ∷ ns) known =
-      ap (λ (k : Option ℕ). fold (known_by is number) k (map moved ns)) (by (is n.mention.kind)) ∙ last_moved is number f other ns (known_by is number known n)
+      ap (λ (k : Option ℕ). fold (known_by is number) k (map moved ns)) (by (is n.mention.kind))
+      ∙ last_moved is number f other ns (known_by is number known n)
     where
-      by : (b : Bool) → cond b (Some (number (moved_count n.before))) (option_map f known) ≡ option_map f (cond b (Some (number n.before)) known)
+      by : (b : Bool)
+          → cond b (Some (number (moved_count n.before))) (option_map f known)
+          ≡ option_map f (cond b (Some (number n.before)) known)
       by true = ap Some (other n.before)
       by false = refl
 
-  first_moved : (is : MentionKind → Bool) (ns : List Numbered) → first_number is key_number (map moved ns) ≡ option_map key_part (first_number is key_number ns)
+  first_moved : (is : MentionKind → Bool) (ns : List Numbered)
+      → first_number is key_number (map moved ns) ≡ option_map key_part (first_number is key_number ns)
   first_moved is [] = refl
   first_moved is (n ∷ ns) = by (is n.mention.kind) (first_moved is ns)
     where
       by : (b : Bool) → first_number is key_number (map moved ns) ≡ option_map key_part (first_number is key_number ns)
-          → cond b (Some (key_part n.before.keys)) (first_number is key_number (map moved ns)) ≡ option_map key_part (cond b (Some n.before.keys) (first_number is key_number ns))
+          → cond b (Some (key_part n.before.keys)) (first_number is key_number (map moved ns))
+          ≡ option_map key_part (cond b (Some n.before.keys) (first_number is key_number ns))
       by true rest = refl
       by false rest = rest
 
@@ -297,7 +354,9 @@ module _ (at : List Part) (statement value key_part : ℕ → ℕ) where
   kinds_moved [] = refl
   kinds_moved (n ∷ ns) = ap (λ (l : List MentionKind). n.mention.kind ∷ l) (kinds_moved ns)
 
-  passed_moved : (ns : List Numbered) → list_any (λ (n : Numbered). is_passed n.mention.kind) (map moved ns) ≡ list_any (λ (n : Numbered). is_passed n.mention.kind) ns
+  passed_moved : (ns : List Numbered)
+      → list_any (λ (n : Numbered). is_passed n.mention.kind) (map moved ns)
+      ≡ list_any (λ (n : Numbered). is_passed n.mention.kind) ns
   passed_moved [] = refl
   passed_moved (n ∷ ns) = ap (λ (b : Bool). is_passed n.mention.kind || b) (passed_moved ns)
 
@@ -308,64 +367,104 @@ module _ (at : List Part) (statement value key_part : ℕ → ℕ) where
   marks_moved n [] = refl
   marks_moved n (m ∷ ns) = marks_moved (marks_by n m) ns
 
-  origin_moved : (ns : List Numbered) → mentioned_origin (map moved ns) ≡ renumbered_origin statement value (mentioned_origin ns)
+  origin_moved : (ns : List Numbered)
+      → mentioned_origin (map moved ns) ≡ renumbered_origin statement value (mentioned_origin ns)
   origin_moved ns =
       let ms : List Numbered = map moved ns in
-      let s : (is : MentionKind → Bool) → last_number is statement_number ms ≡ option_map statement (last_number is statement_number ns) = λ is. last_moved is statement_number statement (λ c. refl) ns None in
-      let v : (is : MentionKind → Bool) → last_number is value_number ms ≡ option_map value (last_number is value_number ns) = λ is. last_moved is value_number value (λ c. refl) ns None in
-      ap₂ (λ (o p : Option ℕ). fitting o p (last_number is_begun statement_number ms) (last_number is_define statement_number ms) (last_number is_dotted value_number ms) (last_number is_through statement_number ms)) (v is_value) (s is_element)
-      ∙ ap₂ (λ (o p : Option ℕ). fitting (option_map value (last_number is_value value_number ns)) (option_map statement (last_number is_element statement_number ns)) o p (last_number is_dotted value_number ms) (last_number is_through statement_number ms)) (s is_begun) (s is_define)
-      ∙ ap₂ (λ (o p : Option ℕ). fitting (option_map value (last_number is_value value_number ns)) (option_map statement (last_number is_element statement_number ns)) (option_map statement (last_number is_begun statement_number ns)) (option_map statement (last_number is_define statement_number ns)) o p) (v is_dotted) (s is_through)
-      ∙ fitting_later statement value (last_number is_value value_number ns) (last_number is_element statement_number ns) (last_number is_begun statement_number ns) (last_number is_define statement_number ns) (last_number is_dotted value_number ns) (last_number is_through statement_number ns)
+      let s : (is : MentionKind → Bool)
+      → last_number is statement_number ms ≡ option_map statement (last_number is statement_number ns) =
+      λ is. last_moved is statement_number statement (λ c. refl) ns None in
+      let v : (is : MentionKind → Bool)
+      → last_number is value_number ms ≡ option_map value (last_number is value_number ns) =
+      λ is. last_moved is value_number value (λ c. refl) ns None in
+      ap₂ (λ (o p : Option ℕ).
+      fitting o p (last_number is_begun statement_number ms) (last_number is_define statement_number ms)
+      (last_number is_dotted value_number ms) (last_number is_through statement_number ms)) (v is_value) (s is_element)
+      ∙ ap₂ (λ (o p : Option ℕ).
+      fitting (option_map value (last_number is_value value_number ns))
+      (option_map statement (last_number is_element statement_number ns)) o p (last_number is_dotted value_number ms)
+      (last_number is_through statement_number ms)) (s is_begun) (s is_define)
+      ∙ ap₂ (λ (o p : Option ℕ).
+      fitting (option_map value (last_number is_value value_number ns))
+      (option_map statement (last_number is_element statement_number ns))
+      (option_map statement (last_number is_begun statement_number ns))
+      (option_map statement (last_number is_define statement_number ns)) o p) (v is_dotted) (s is_through)
+      ∙ fitting_later statement value (last_number is_value value_number ns)
+      (last_number is_element statement_number ns) (last_number is_begun statement_number ns)
+      (last_number is_define statement_number ns) (last_number is_dotted value_number ns)
+      (last_number is_through statement_number ns)
 
-  pub info_moved : (q p : List Part) (ns : List Numbered) → node_info (mentioned_node q (map moved ns)) ≡ moved_info (node_info (mentioned_node p ns))
+  pub info_moved : (q p : List Part) (ns : List Numbered)
+      → node_info (mentioned_node q (map moved ns)) ≡ moved_info (node_info (mentioned_node p ns))
   info_moved q p ns =
       let new : NodeInfo = node_info (mentioned_node q (map moved ns)) in
       let old : NodeInfo = node_info (mentioned_node p ns) in
-      ap (λ (ks : List MentionKind). record { kind = mentioned_kind ks; key = new.key; marks = new.marks; passed = new.passed; origin = new.origin }) (kinds_moved ns)
-      ∙ ap₂ (λ (k : Option ℕ) (m : ℕ). record { kind = old.kind; key = k; marks = m; passed = new.passed; origin = new.origin }) (first_moved is_mark ns) (marks_moved 0 ns)
-      ∙ ap₂ (λ (b : Bool) (o : Origin). record { kind = old.kind; key = option_map key_part old.key; marks = old.marks; passed = b; origin = o }) (passed_moved ns) (origin_moved ns)
+      ap (λ (ks : List MentionKind).
+      record { kind = mentioned_kind ks; key = new.key; marks = new.marks; passed = new.passed; origin = new.origin })
+      (kinds_moved ns)
+      ∙ ap₂ (λ (k : Option ℕ) (m : ℕ).
+      record { kind = old.kind; key = k; marks = m; passed = new.passed; origin = new.origin }) (first_moved is_mark ns)
+      (marks_moved 0 ns)
+      ∙ ap₂ (λ (b : Bool) (o : Origin).
+      record { kind = old.kind; key = option_map key_part old.key; marks = old.marks; passed = b; origin = o })
+      (passed_moved ns) (origin_moved ns)
 
   -- those at one path are those at another
-  pub numbered_moved : (q p : List Part) → ((m : Mention) → same_path (at ++ m.path) q ≡ same_path m.path p) → (ns : List Numbered) → numbered_at q (map moved ns) ≡ map moved (numbered_at p ns)
+  pub numbered_moved : (q p : List Part) → ((m : Mention) → same_path (at ++ m.path) q ≡ same_path m.path p)
+      → (ns : List Numbered) → numbered_at q (map moved ns) ≡ map moved (numbered_at p ns)
   numbered_moved q p same [] = refl
   numbered_moved q p same (n ∷ ns) =
-      ap (λ (b : Bool). cond b (moved n ∷ numbered_at q (map moved ns)) (numbered_at q (map moved ns))) (same n.mention) ∙ by (same_path n.mention.path p) (numbered_moved q p same ns)
+      ap (λ (b : Bool). cond b (moved n ∷ numbered_at q (map moved ns)) (numbered_at q (map moved ns))) (same n.mention)
+      ∙ by (same_path n.mention.path p) (numbered_moved q p same ns)
     where
       by : (b : Bool) → numbered_at q (map moved ns) ≡ map moved (numbered_at p ns)
-          → cond b (moved n ∷ numbered_at q (map moved ns)) (numbered_at q (map moved ns)) ≡ map moved (cond b (n ∷ numbered_at p ns) (numbered_at p ns))
+          → cond b (moved n ∷ numbered_at q (map moved ns)) (numbered_at q (map moved ns))
+          ≡ map moved (cond b (n ∷ numbered_at p ns) (numbered_at p ns))
       by true e = ap (λ (l : List Numbered). moved n ∷ l) e
       by false e = e
 
 -- where nothing is said by headers, no number of a statement shows
-none_last : (is : MentionKind → Bool) (ns : List Numbered) → AllOf (λ (n : Numbered). is n.mention.kind ≡ false) ns → last_number is statement_number ns ≡ None
+none_last : (is : MentionKind → Bool) (ns : List Numbered) → AllOf (λ (n : Numbered). is n.mention.kind ≡ false) ns
+    → last_number is statement_number ns ≡ None
 none_last is [] h = refl
-none_last is (n ∷ ns) h = ap (λ (b : Bool). fold (λ (known : Option ℕ) (m : Numbered). cond (is m.mention.kind) (Some (statement_number m.before)) known) (cond b (Some n.before.statements) None) ns) h.0 ∙ none_last is ns h.1
+none_last is (n ∷ ns) h =
+    ap (λ (b : Bool).
+    fold (λ (known : Option ℕ) (m : Numbered). cond (is m.mention.kind) (Some (statement_number m.before)) known)
+    (cond b (Some n.before.statements) None) ns) h.0 ∙ none_last is ns h.1
 
-body_origin : (s t v : ℕ → ℕ) (value dot : Option ℕ) → renumbered_origin s v (fitting value None None None dot None) ≡ renumbered_origin t v (fitting value None None None dot None)
+body_origin : (s t v : ℕ → ℕ) (value dot : Option ℕ)
+    → renumbered_origin s v (fitting value None None None dot None)
+    ≡ renumbered_origin t v (fitting value None None None dot None)
 body_origin s t v (Some n) dot = refl
 body_origin s t v None (Some n) = refl
 body_origin s t v None None = refl
 
-body_parts : (k : MentionKind) → is_of_header k ≡ false → (is_element k ≡ false) × (is_begun k ≡ false) × (is_define k ≡ false) × (is_through k ≡ false)
+body_parts : (k : MentionKind) → is_of_header k ≡ false
+    → (is_element k ≡ false) × (is_begun k ≡ false) × (is_define k ≡ false) × (is_through k ≡ false)
 body_parts k h =
     let e = or_parts (is_element k) (is_begun k || (is_define k || is_through k)) h in
     let b = or_parts (is_begun k) (is_define k || is_through k) e.1 in
     let d = or_parts (is_define k) (is_through k) b.1 in
     (e.0, b.0, d.0, d.1)
 
-pub statements_unseen : (s t v : ℕ → ℕ) (ns : List Numbered) → AllOf (λ (n : Numbered). IsOfBody n.mention) ns → renumbered_origin s v (mentioned_origin ns) ≡ renumbered_origin t v (mentioned_origin ns)
+pub statements_unseen : (s t v : ℕ → ℕ) (ns : List Numbered) → AllOf (λ (n : Numbered). IsOfBody n.mention) ns
+    → renumbered_origin s v (mentioned_origin ns) ≡ renumbered_origin t v (mentioned_origin ns)
 statements_unseen s t v ns h =
     let value : Option ℕ = last_number is_value value_number ns in
     let dot : Option ℕ = last_number is_dotted value_number ns in
     let is : mentioned_origin ns ≡ fitting value None None None dot None =
-    ap₂ (λ (o p : Option ℕ). fitting value o p (last_number is_define statement_number ns) dot (last_number is_through statement_number ns))
+    ap₂ (λ (o p : Option ℕ).
+    fitting value o p (last_number is_define statement_number ns) dot (last_number is_through statement_number ns))
     (none is_element (λ k e. (body_parts k e).0)) (none is_begun (λ k e. (body_parts k e).1))
-    ∙ ap₂ (λ (o p : Option ℕ). fitting value None None o dot p) (none is_define (λ k e. (body_parts k e).2)) (none is_through (λ k e. (body_parts k e).3)) in
+    ∙ ap₂ (λ (o p : Option ℕ). fitting value None None o dot p) (none is_define (λ k e. (body_parts k e).2))
+    (none is_through (λ k e. (body_parts k e).3)) in
     ap (renumbered_origin s v) is ∙ body_origin s t v value dot ∙ ap (renumbered_origin t v) (sym is)
   where
-    none : (is : MentionKind → Bool) → ((k : MentionKind) → is_of_header k ≡ false → is k ≡ false) → last_number is statement_number ns ≡ None
-    none is never = none_last is ns (all_of (λ (n : Numbered). IsOfBody n.mention) (λ (n : Numbered). is n.mention.kind ≡ false) (λ n e. never n.mention.kind e) ns h)
+    none : (is : MentionKind → Bool) → ((k : MentionKind) → is_of_header k ≡ false → is k ≡ false)
+        → last_number is statement_number ns ≡ None
+    none is never =
+        none_last is ns (all_of (λ (n : Numbered). IsOfBody n.mention) (λ (n : Numbered). is n.mention.kind ≡ false)
+        (λ n e. never n.mention.kind e) ns h)
 
 -- ---- numbers beside a value, and in it
 
@@ -391,18 +490,21 @@ none_said : (q : List Part) (ns : List Numbered) → AllOf (IsNotAt q) ns → nu
 none_said q [] h = refl
 none_said q (n ∷ ns) h = ap (λ (b : Bool). cond b (n ∷ numbered_at q ns) (numbered_at q ns)) h.0 ∙ none_said q ns h.1
 
-none_under : (q path : List Part) (P : Mention → Type 0) → ((m : Mention) → P m → same_path (path ++ m.path) q ≡ false) → (c : Count) (ms : List Mention) → AllOf P ms → numbered_at q (numbered_mentions c (map (below path) ms)) ≡ []
+none_under : (q path : List Part) (P : Mention → Type 0) → ((m : Mention) → P m → same_path (path ++ m.path) q ≡ false)
+    → (c : Count) (ms : List Mention) → AllOf P ms → numbered_at q (numbered_mentions c (map (below path) ms)) ≡ []
 none_under q path P apart c [] h = refl
 none_under q path P apart c (m ∷ ms) h =
     let rest : List Numbered = numbered_mentions (count_with_mention c (below path m)) (map (below path) ms) in
-    ap (λ (b : Bool). cond b (record { mention = below path m; before = c } ∷ numbered_at q rest) (numbered_at q rest)) (apart m h.0)
+    ap (λ (b : Bool). cond b (record { mention = below path m; before = c } ∷ numbered_at q rest) (numbered_at q rest))
+    (apart m h.0)
     ∙ none_under q path P apart (count_with_mention c (below path m)) ms h.1
 
 all_any : {A : Type 0} (P : A → Type 0) → ((x : A) → P x) → (xs : List A) → AllOf P xs
 all_any P f [] = tt
 all_any P f (x ∷ xs) = (f x, all_any P f xs)
 
-pub off_paths : (path : List Part) (ns : List Numbered) → AllOf (IsApart path) ns → AllOf (IsOff path) (map path_of (map mention_of ns))
+pub off_paths : (path : List Part) (ns : List Numbered) → AllOf (IsApart path) ns
+    → AllOf (IsOff path) (map path_of (map mention_of ns))
 off_paths path [] h = tt
 off_paths path (n ∷ ns) h = (h.0, off_paths path ns h.1)
 
@@ -414,30 +516,40 @@ module _ (path : List Part) (c : Count) where
   abbrev pub count_in_value : Count → Count
   count_in_value = moved_count path (λ (s : ℕ). c.statements) (shifted 0 0 c.values) (shifted 0 0 (suc c.keys))
 
-  count_grows : (d : Count) (m : Mention) → count_with_mention (count_in_value d) (below path m) ≡ count_in_value (count_with_mention d m)
+  count_grows : (d : Count) (m : Mention)
+      → count_with_mention (count_in_value d) (below path m) ≡ count_in_value (count_with_mention d m)
   count_grows d m =
       let v : ℕ = one_if (is_value m.kind) in
       let k : ℕ = one_if (is_mark m.kind) in
-      let values : shifted 0 0 c.values d.values + v ≡ shifted 0 0 c.values (d.values + v) = omega (arith, inner_grows c.values d.values, inner_grows c.values (d.values + v)) in
-      let keys : shifted 0 0 (suc c.keys) d.keys + k ≡ shifted 0 0 (suc c.keys) (d.keys + k) = omega (arith, inner_grows (suc c.keys) d.keys, inner_grows (suc c.keys) (d.keys + k)) in
+      let values : shifted 0 0 c.values d.values + v ≡ shifted 0 0 c.values (d.values + v) =
+      omega (arith, inner_grows c.values d.values, inner_grows c.values (d.values + v)) in
+      let keys : shifted 0 0 (suc c.keys) d.keys + k ≡ shifted 0 0 (suc c.keys) (d.keys + k) =
+      omega (arith, inner_grows (suc c.keys) d.keys, inner_grows (suc c.keys) (d.keys + k)) in
       ap₂ (λ (v k : ℕ). record { statements = c.statements; values = v; keys = k }) values keys
 
-  run_from : (d : Count) (ms : List Mention) → numbered_mentions (count_in_value d) (map (below path) ms) ≡ map in_value (numbered_mentions d ms)
+  run_from : (d : Count) (ms : List Mention)
+      → numbered_mentions (count_in_value d) (map (below path) ms) ≡ map in_value (numbered_mentions d ms)
   run_from d [] = refl
   run_from d (m ∷ ms) =
       ap (λ (ns : List Numbered). record { mention = below path m; before = count_in_value d } ∷ ns)
-      (ap (λ (e : Count). numbered_mentions e (map (below path) ms)) (count_grows d m) ∙ run_from (count_with_mention d m) ms)
+      (ap (λ (e : Count). numbered_mentions e (map (below path) ms)) (count_grows d m)
+      ∙ run_from (count_with_mention d m) ms)
 
   abbrev own : Fact → Mention
   own f = record { path = path; kind = mentions_value f }
 
-  run_moved : (f : Fact) (ms : List Mention) → numbered_mentions (count_with_mention c (own f)) (map (below path) ms) ≡ map in_value (numbered_mentions alone ms)
+  run_moved : (f : Fact) (ms : List Mention)
+      → numbered_mentions (count_with_mention c (own f)) (map (below path) ms)
+      ≡ map in_value (numbered_mentions alone ms)
   run_moved f ms =
       let values : c.values + 1 ≡ shifted 0 0 c.values 1 = omega (arith, inner_grows c.values 1) in
       let keys : c.keys + 1 ≡ shifted 0 0 (suc c.keys) 0 = omega (arith, inner_grows (suc c.keys) 0) in
-      ap₂ (λ (v k : ℕ). numbered_mentions (record { statements = c.statements; values = v; keys = k }) (map (below path) ms)) values keys ∙ run_from alone ms
+      ap₂ (λ (v k : ℕ).
+      numbered_mentions (record { statements = c.statements; values = v; keys = k }) (map (below path) ms)) values keys
+      ∙ run_from alone ms
 
-  module _ (f : Fact) (es : Entries) (xs ys : List Numbered) (off_xs : AllOf (IsApart path) xs) (off_ys : AllOf (IsApart path) ys) where
+  module _ (f : Fact) (es : Entries) (xs ys : List Numbered) (off_xs : AllOf (IsApart path) xs)
+      (off_ys : AllOf (IsApart path) ys) where
     abbrev pub all_said : List Numbered
     all_said = xs ++ (said_by_value c path f es ++ ys)
 
@@ -450,13 +562,18 @@ module _ (path : List Part) (c : Count) where
     abbrev rest : List Numbered
     rest = numbered_mentions (count_with_mention c (own f)) (map (below path) nested)
 
-    parts_at : (q : List Part) → numbered_at q all_said ≡ numbered_at q xs ++ (numbered_at q (said_by_value c path f es) ++ numbered_at q ys)
+    parts_at : (q : List Part)
+        → numbered_at q all_said ≡ numbered_at q xs ++ (numbered_at q (said_by_value c path f es) ++ numbered_at q ys)
     parts_at q =
         filter-append (is_numbered_at q) xs (said_by_value c path f es ++ ys)
-        ∙ ap (λ (l : List Numbered). numbered_at q xs ++ l) (filter-append (is_numbered_at q) (said_by_value c path f es) ys)
+        ∙ ap (λ (l : List Numbered). numbered_at q xs ++ l)
+        (filter-append (is_numbered_at q) (said_by_value c path f es) ys)
 
-    off_numbered : (more : List Part) (ns : List Numbered) → AllOf (IsApart path) ns → numbered_at (path ++ more) ns ≡ []
-    off_numbered more ns h = none_said (path ++ more) ns (all_of (IsApart path) (IsNotAt (path ++ more)) (λ n g. off_differs path n.mention.path more g) ns h)
+    off_numbered : (more : List Part) (ns : List Numbered) → AllOf (IsApart path) ns
+        → numbered_at (path ++ more) ns ≡ []
+    off_numbered more ns h =
+        none_said (path ++ more) ns (all_of (IsApart path) (IsNotAt (path ++ more)) (λ n g.
+        off_differs path n.mention.path more g) ns h)
 
     off_own : (ns : List Numbered) → AllOf (IsApart path) ns → numbered_at path ns ≡ []
     off_own ns h = none_said path ns (all_of (IsApart path) (IsNotAt path) (λ n g. off_self path n.mention.path g) ns h)
@@ -465,47 +582,61 @@ module _ (path : List Part) (c : Count) where
     pub here : numbered_at path all_said ≡ first ∷ []
     here =
         parts_at path
-        ∙ ap₂ (λ (l m : List Numbered). l ++ (numbered_at path (said_by_value c path f es) ++ m)) (off_own xs off_xs) (off_own ys off_ys)
+        ∙ ap₂ (λ (l m : List Numbered). l ++ (numbered_at path (said_by_value c path f es) ++ m)) (off_own xs off_xs)
+        (off_own ys off_ys)
         ∙ append-nil (numbered_at path (said_by_value c path f es))
         ∙ ap (λ (b : Bool). cond b (first ∷ numbered_at path rest) (numbered_at path rest)) (same_self path)
-        ∙ ap (λ (l : List Numbered). first ∷ l) (none_under path path IsDeeper (λ m g. deeper_not path m.path g.0) (count_with_mention c (own f)) nested (deeper_inside 0 es))
+        ∙ ap (λ (l : List Numbered). first ∷ l)
+        (none_under path path IsDeeper (λ m g. deeper_not path m.path g.0) (count_with_mention c (own f)) nested
+        (deeper_inside 0 es))
 
     -- of another path that is not below it, the value says nothing
     pub elsewhere : (q : List Part) → IsOff path q → numbered_at q all_said ≡ numbered_at q xs ++ numbered_at q ys
     elsewhere q off =
-        let differs : same_path path q ≡ false = ap (λ (p : List Part). same_path p q) (sym (append-nil path)) ∙ off_turned path q [] off in
+        let differs : same_path path q ≡ false =
+        ap (λ (p : List Part). same_path p q) (sym (append-nil path)) ∙ off_turned path q [] off in
         parts_at q
         ∙ ap (λ (l : List Numbered). numbered_at q xs ++ (l ++ numbered_at q ys))
         (ap (λ (b : Bool). cond b (first ∷ numbered_at q rest) (numbered_at q rest)) differs
-        ∙ none_under q path (λ (m : Mention). same_path (path ++ m.path) q ≡ false) (λ m g. g) (count_with_mention c (own f)) nested (all_any (λ (m : Mention). same_path (path ++ m.path) q ≡ false) (λ m. off_turned path q m.path off) nested))
+        ∙ none_under q path (λ (m : Mention). same_path (path ++ m.path) q ≡ false) (λ m g. g)
+        (count_with_mention c (own f)) nested
+        (all_any (λ (m : Mention). same_path (path ++ m.path) q ≡ false) (λ m. off_turned path q m.path off) nested))
 
     -- of a path below it, what the value alone says
-    pub inside : (more : List Part) → is_root more ≡ false → numbered_at (path ++ more) all_said ≡ map in_value (numbered_at more (numbered_mentions alone nested))
+    pub inside : (more : List Part) → is_root more ≡ false
+        → numbered_at (path ++ more) all_said ≡ map in_value (numbered_at more (numbered_mentions alone nested))
     inside more longer =
         let q : List Part = path ++ more in
         let differs : same_path path q ≡ false = same_turned path q ∙ deeper_not path more longer in
         parts_at q
-        ∙ ap₂ (λ (l m : List Numbered). l ++ (numbered_at q (said_by_value c path f es) ++ m)) (off_numbered more xs off_xs) (off_numbered more ys off_ys)
+        ∙ ap₂ (λ (l m : List Numbered). l ++ (numbered_at q (said_by_value c path f es) ++ m))
+        (off_numbered more xs off_xs) (off_numbered more ys off_ys)
         ∙ append-nil (numbered_at q (said_by_value c path f es))
         ∙ ap (λ (b : Bool). cond b (first ∷ numbered_at q rest) (numbered_at q rest)) differs
         ∙ ap (numbered_at q) (run_moved f nested)
-        ∙ numbered_moved path (λ (s : ℕ). c.statements) (shifted 0 0 c.values) (shifted 0 0 (suc c.keys)) q more (λ m. same_below path m.path more) (numbered_mentions alone nested)
+        ∙ numbered_moved path (λ (s : ℕ). c.statements) (shifted 0 0 c.values) (shifted 0 0 (suc c.keys)) q more
+        (λ m. same_below path m.path more) (numbered_mentions alone nested)
 
     said_paths : map mention_of all_said ≡ map mention_of xs ++ (own f ∷ (map (below path) nested ++ map mention_of ys))
     said_paths =
         map-append mention_of xs (said_by_value c path f es ++ ys)
         ∙ ap (λ (l : List Mention). map mention_of xs ++ l) (map-append mention_of (said_by_value c path f es) ys)
-        ∙ ap (λ (l : List Mention). map mention_of xs ++ (own f ∷ (l ++ map mention_of ys))) (mentions-numbered_mentions (count_with_mention c (own f)) (map (below path) nested))
+        ∙ ap (λ (l : List Mention). map mention_of xs ++ (own f ∷ (l ++ map mention_of ys)))
+        (mentions-numbered_mentions (count_with_mention c (own f)) (map (below path) nested))
 
     -- the paths in the value are met together, after its own
     pub paths_are : (met : FirstMet path (map path_of (map mention_of xs)))
-        → node_paths (map mention_of all_said) ≡ met.front ++ (path ∷ (map (λ (x : List Part). path ++ x) (deeper (map path_of nested)) ++ further met.front (map path_of (map mention_of ys))))
+        → node_paths (map mention_of all_said) ≡ met.front
+        ++ (path ∷ (map (λ (x : List Part). path ++ x) (deeper (map path_of nested))
+        ++ further met.front (map path_of (map mention_of ys))))
     paths_are met =
         let before : List (List Part) = map path_of (map mention_of xs) in
         let after : List (List Part) = map path_of (map mention_of ys) in
         ap node_paths said_paths
         ∙ ap (fold paths_with ([] ∷ [])) (
         map-append path_of (map mention_of xs) (own f ∷ (map (below path) nested ++ map mention_of ys))
-        ∙ ap (λ (l : List (List Part)). before ++ (path ∷ l)) (map-append path_of (map (below path) nested) (map mention_of ys))
-        ∙ ap (λ (l : List (List Part)). before ++ (path ∷ (l ++ after))) (map_twice path_of (below path) nested ∙ sym (map_twice (λ (x : List Part). path ++ x) path_of nested)))
+        ∙ ap (λ (l : List (List Part)). before ++ (path ∷ l))
+        (map-append path_of (map (below path) nested) (map mention_of ys))
+        ∙ ap (λ (l : List (List Part)). before ++ (path ∷ (l ++ after)))
+        (map_twice path_of (below path) nested ∙ sym (map_twice (λ (x : List Part). path ++ x) path_of nested)))
         ∙ run_paths path before after (map path_of nested) met (off_paths path ys off_ys)

@@ -21,7 +21,8 @@ HasBytes (index n ∷ parts) = HasBytes parts
 
 steps_have_bytes : (steps : List Step) → HasBytes (map part_of steps)
 steps_have_bytes [] = tt
-steps_have_bytes (Key text ∷ steps) = (text_bytes (string_bytes text) (IsUtf8-string_bytes text), steps_have_bytes steps)
+steps_have_bytes (Key text ∷ steps) =
+    (text_bytes (string_bytes text) (IsUtf8-string_bytes text), steps_have_bytes steps)
 steps_have_bytes (Index n ∷ steps) = steps_have_bytes steps
 
 encoded_leaf_is_key : (value : List ℕ) → is_key_leaf (encoded_key_leaf value) ≡ true
@@ -32,14 +33,21 @@ key_stated value h = (encoded_key_leaf value, encoded_leaf_is_key value, key_is_
 
 steps_stated : (parts : List Part) → HasBytes parts → HasSmallIndexes parts → StepsText parts (flat_map part_text parts)
 steps_stated [] h small = refl
-steps_stated (key value ∷ parts) h small =
-    (part_text (key value), flat_map part_text parts, refl, (0x2E ∷ [], encoded_key value, refl, refl, key_stated value h.0), steps_stated parts h.1 small)
+steps_stated (key value ∷ parts) h small = (
+  part_text (key value),
+  flat_map part_text parts,
+  refl,
+  (0x2E ∷ [], encoded_key value, refl, refl, key_stated value h.0),
+  steps_stated parts h.1 small,
+)
 steps_stated (index n ∷ parts) h small =
     (part_text (index n), flat_map part_text parts, refl, (small.0, refl), steps_stated parts h small.1)
 
-path_stated : (parts : List Part) → IsRooted parts → HasBytes parts → HasSmallIndexes parts → IsPathText (encoded_path parts) parts
+path_stated : (parts : List Part) → IsRooted parts → HasBytes parts → HasSmallIndexes parts
+    → IsPathText (encoded_path parts) parts
 path_stated [] r h small = refl
-path_stated (key value ∷ parts) r h small = (encoded_key value, flat_map part_text parts, refl, key_stated value h.0, steps_stated parts h.1 small)
+path_stated (key value ∷ parts) r h small =
+    (encoded_key value, flat_map part_text parts, refl, key_stated value h.0, steps_stated parts h.1 small)
 path_stated (index n ∷ parts) r h small = absurd r
 
 pub encoded_stated : (steps : List Step) → IsRooted (map part_of steps) → HasSmallIndexes (map part_of steps)

@@ -1,12 +1,17 @@
 -- A path's text stops where no step can be read: no longer prefix is a path's text.
 --
--- Of the key parts that begin a text, each that is the longest of its kind is the one that the scan finds: so none is longer.
--- A longer prefix of the text goes on with steps after a key part, and then its key part is the one that was found, since no
--- step begins with a byte of bare keys. So while steps are read, each longer prefix that is a path's text goes on with steps
+-- Of the key parts that begin a text, each that is the longest of its kind is the one that the scan finds: so none is
+-- longer.
+-- A longer prefix of the text goes on with steps after a key part, and then its key part is the one that was found,
+-- since no
+-- step begins with a byte of bare keys. So while steps are read, each longer prefix that is a path's text goes on with
+-- steps
 -- after what was read (`PathGoesOn`); and where no step begins, there is none.
 --
 -- Theorems: `stops_first`, `stops_at`.
-use Rattle.std.proofs.Common.{◌≡◌, ℕ, zero, suc, ◌+◌, ◌-◌, ◌<◌, ◌≤◌, true, List, [], ◌∷◌, ◌++◌, length, take, drop, refl, sym, ap, ◌∙◌, subst, inl, inr, arith, append_assoc, append-nil, length-drop, length-append, Option, Some, Result, Ok, Err}
+use Rattle.std.proofs.Common.{◌≡◌, ℕ, zero, suc, ◌+◌, ◌-◌, ◌<◌, ◌≤◌, true, List, [], ◌∷◌, ◌++◌, length, take, drop}
+use Rattle.std.proofs.Common.{refl, sym, ap, ◌∙◌, subst, inl, inr, arith, append_assoc, append-nil, length-drop}
+use Rattle.std.proofs.Common.{length-append, Option, Some, Result, Ok, Err}
 use Rattle.std.proofs.lemmas.Bool.{cases_lt}
 use Rattle.std.proofs.lemmas.List.{drop-drop, drop_at, length-take-le, take-append-drop, take_all, take_at}
 use Rattle.std.specs.Fmt.{decimal}
@@ -26,7 +31,8 @@ use Rattle.keep_path.specs.PathText.{KeyText, StepsText, IsPathText, SomePath, S
 
 -- where each longest one of a kind has at most n bytes; by how many bytes more there may be
 keys_by : (text : List ℕ) (n d : ℕ) → ((l : Leaf) (m : ℕ) → KeyLeaf Strict text l m → m ≤ n)
-    → (l : Leaf) (m : ℕ) → length text < m + d → is_key_leaf l ≡ true → m ≤ length text → IsLeaf Strict l (take m text) → m ≤ n
+    → (l : Leaf) (m : ℕ) → length text < m + d → is_key_leaf l ≡ true → m ≤ length text → IsLeaf Strict l (take m text)
+    → m ≤ n
 keys_by text n zero one l m far k le h = absurd (omega arith)
 keys_by text n (suc d) one l m far k le h =
     elim (cases_lt n m) [
@@ -60,17 +66,21 @@ keys_of_none {E} text r fault is only = keys_within text 0 (λ l m h. never l m 
 -- ---- a prefix of the text that goes on after a key part
 
 split : (text : List ℕ) (k : ℕ) (part more : List ℕ) → take k text ≡ part ++ more → text ≡ part ++ (more ++ drop k text)
-split text k part more e = sym (take-append-drop k text) ∙ ap (λ (t : List ℕ). t ++ drop k text) e ∙ append_assoc part more (drop k text)
+split text k part more e =
+    sym (take-append-drop k text) ∙ ap (λ (t : List ℕ). t ++ drop k text) e ∙ append_assoc part more (drop k text)
 
 -- what is left of the prefix
-left_of : (text part more : List ℕ) (k n : ℕ) → k ≤ length text → length part ≡ n → take k text ≡ part ++ more → take (k - n) (drop n text) ≡ more
+left_of : (text part more : List ℕ) (k n : ℕ) → k ≤ length text → length part ≡ n → take k text ≡ part ++ more
+    → take (k - n) (drop n text) ≡ more
 left_of text part more k n le count e =
     let len : k ≡ length part + length more = sym (length-take-le k text le) ∙ ap length e ∙ length-append part more in
-    let rest : drop n text ≡ more ++ drop k text = ap (drop n) (split text k part more e) ∙ drop_at part (more ++ drop k text) n count in
+    let rest : drop n text ≡ more ++ drop k text =
+    ap (drop n) (split text k part more e) ∙ drop_at part (more ++ drop k text) n count in
     rw rest (take_at more (drop k text) (k - n) (omega arith))
 
 key_goes_on : (text : List ℕ) (l : Leaf) (n : ℕ) → key_at Strict text ≡ Some (l, n) → KeysWithin text n
-    → (value part rest : List ℕ) (parts : List Part) (k : ℕ) → n < k → k ≤ length text → take k text ≡ part ++ rest → KeyText value part → StepsText parts rest
+    → (value part rest : List ℕ) (parts : List Part) (k : ℕ) → n < k → k ≤ length text → take k text ≡ part ++ rest
+    → KeyText value part → StepsText parts rest
     → SomeSteps (take (k - n) (drop n text))
 key_goes_on text l n at within value part [] parts k gt le e (kind, is, h, m) steps =
     let whole : take k text ≡ part = e ∙ append-nil part in
@@ -78,19 +88,23 @@ key_goes_on text l n at within value part [] parts k gt le e (kind, is, h, m) st
 key_goes_on text l n at within value part (b ∷ bs) parts k gt le e (kind, is, h, m) steps =
     let spelled = split text k part (b ∷ bs) e in
     let again = key_again Strict kind part ((b ∷ bs) ++ drop k text) is h (steps_stop parts (b ∷ bs) steps) in
-    let found : ◌≡◌ {A = Option (Leaf × ℕ)} (Some (kind, length part)) (Some (l, n)) = sym again ∙ ap (key_at Strict) (sym spelled) ∙ at in
+    let found : ◌≡◌ {A = Option (Leaf × ℕ)} (Some (kind, length part)) (Some (l, n)) =
+    sym again ∙ ap (key_at Strict) (sym spelled) ∙ at in
     let pair : ◌≡◌ {A = Leaf × ℕ} (kind, length part) (l, n) = some_injective found in
     (parts, rw (left_of text part (b ∷ bs) k n le (ap (λ (p : Leaf × ℕ). p.1) pair) e) steps)
 
 -- a key part has a byte
 key_some : (value part : List ℕ) → KeyText value part → 0 < length part
-key_some value part (kind, is, h, m) = (key_found Strict (part ++ []) kind (length part) (key_again Strict kind part [] is h refl)).1
+key_some value part (kind, is, h, m) =
+    (key_found Strict (part ++ []) kind (length part) (key_again Strict kind part [] is h refl)).1
 
-no_key : (text value part more : List ℕ) (k : ℕ) → KeysWithin text 0 → k ≤ length text → take k text ≡ part ++ more → KeyText value part → ⊥
+no_key : (text value part more : List ℕ) (k : ℕ) → KeysWithin text 0 → k ≤ length text → take k text ≡ part ++ more
+    → KeyText value part → ⊥
 no_key text value part more k within le e (kind, is, h, m) =
     let spelled = split text k part more e in
     let fits : length part ≤ length text = omega (arith, ap length spelled, length-append part (more ++ drop k text)) in
-    let same : take (length part) text ≡ part = ap (take (length part)) spelled ∙ take_at part (more ++ drop k text) (length part) refl in
+    let same : take (length part) text ≡ part =
+    ap (take (length part)) spelled ∙ take_at part (more ++ drop k text) (length part) refl in
     omega (arith, within kind (length part) is fits (rw same h), key_some value part (kind, is, h, m))
 
 -- ---- steps go on after the first, or there is none
@@ -98,20 +112,24 @@ no_key text value part more k within le e (kind, is, h, m) =
 less_one : (k n : ℕ) → suc k - suc n ≡ k - n
 less_one k n = omega arith
 
-pub dot_on : (more : List ℕ) (l : Leaf) (n : ℕ) → key_at Strict more ≡ Some (l, n) → KeysWithin more n → StepsGoOn (0x2E ∷ more) (suc n)
+pub dot_on : (more : List ℕ) (l : Leaf) (n : ℕ) → key_at Strict more ≡ Some (l, n) → KeysWithin more n
+    → StepsGoOn (0x2E ∷ more) (suc n)
 dot_on more l n at within = λ k gt le steps. by_len k gt le steps
   where
-    by_parts : (k : ℕ) → n < k → k ≤ length more → (parts : List Part) → StepsText parts (0x2E ∷ take k more) → SomeSteps (take (k - n) (drop n more))
+    by_parts : (k : ℕ) → n < k → k ≤ length more → (parts : List Part) → StepsText parts (0x2E ∷ take k more)
+        → SomeSteps (take (k - n) (drop n more))
     by_parts k gt le [] h = absurd cc
     by_parts k gt le (index i ∷ parts) h =
-        let never : ◌≡◌ {A = ℕ} 0x2E 0x5B = ap (λ (t : List ℕ). first t) (index_first i parts (0x2E ∷ take k more) h).spelled in
+        let never : ◌≡◌ {A = ℕ} 0x2E 0x5B =
+        ap (λ (t : List ℕ). first t) (index_first i parts (0x2E ∷ take k more) h).spelled in
         absurd (omega (arith, never))
     by_parts k gt le (key v ∷ parts) h =
         let f = key_first v parts (0x2E ∷ take k more) h in
         let e : take k more ≡ f.part ++ f.after = ap (λ (t : List ℕ). drop 1 t) f.spelled in
         key_goes_on more l n at within v f.part f.after parts k gt le e f.is_key f.more
 
-    by_len : (k : ℕ) → suc n < k → k ≤ length (0x2E ∷ more) → SomeSteps (take k (0x2E ∷ more)) → SomeSteps (take (k - suc n) (drop (suc n) (0x2E ∷ more)))
+    by_len : (k : ℕ) → suc n < k → k ≤ length (0x2E ∷ more) → SomeSteps (take k (0x2E ∷ more))
+        → SomeSteps (take (k - suc n) (drop (suc n) (0x2E ∷ more)))
     by_len zero gt le steps = absurd (omega arith)
     by_len (suc k) gt le (parts, h) = rw (less_one k n) (by_parts k (omega arith) (omega arith) parts h)
 
@@ -121,7 +139,8 @@ dot_none more within = λ k gt le steps. by_len k gt le steps
     by_parts : (k : ℕ) → k ≤ length more → (parts : List Part) → StepsText parts (0x2E ∷ take k more) → ⊥
     by_parts k le [] h = absurd cc
     by_parts k le (index i ∷ parts) h =
-        let never : ◌≡◌ {A = ℕ} 0x2E 0x5B = ap (λ (t : List ℕ). first t) (index_first i parts (0x2E ∷ take k more) h).spelled in
+        let never : ◌≡◌ {A = ℕ} 0x2E 0x5B =
+        ap (λ (t : List ℕ). first t) (index_first i parts (0x2E ∷ take k more) h).spelled in
         omega (arith, never)
     by_parts k le (key v ∷ parts) h =
         let f = key_first v parts (0x2E ∷ take k more) h in
@@ -132,14 +151,16 @@ dot_none more within = λ k gt le steps. by_len k gt le steps
     by_len zero gt le steps = omega arith
     by_len (suc k) gt le (parts, h) = by_parts k (omega arith) parts h
 
-pub bracket_on : (more : List ℕ) (n c : ℕ) → n < 1_000_000_000 → more ≡ (decimal n ++ 0x5D ∷ []) ++ drop c more → c ≡ length (decimal n ++ 0x5D ∷ [])
-    → StepsGoOn (0x5B ∷ more) (suc c)
+pub bracket_on : (more : List ℕ) (n c : ℕ) → n < 1_000_000_000 → more ≡ (decimal n ++ 0x5D ∷ []) ++ drop c more
+    → c ≡ length (decimal n ++ 0x5D ∷ []) → StepsGoOn (0x5B ∷ more) (suc c)
 bracket_on more n c small is count = λ k gt le steps. by_len k gt le steps
   where
-    by_parts : (k : ℕ) → c < k → k ≤ length more → (parts : List Part) → StepsText parts (0x5B ∷ take k more) → SomeSteps (take (k - c) (drop c more))
+    by_parts : (k : ℕ) → c < k → k ≤ length more → (parts : List Part) → StepsText parts (0x5B ∷ take k more)
+        → SomeSteps (take (k - c) (drop c more))
     by_parts k gt le [] h = absurd cc
     by_parts k gt le (key v ∷ parts) h =
-        let never : ◌≡◌ {A = ℕ} 0x5B 0x2E = ap (λ (t : List ℕ). first t) (key_first v parts (0x5B ∷ take k more) h).spelled in
+        let never : ◌≡◌ {A = ℕ} 0x5B 0x2E =
+        ap (λ (t : List ℕ). first t) (key_first v parts (0x5B ∷ take k more) h).spelled in
         absurd (omega (arith, never))
     by_parts k gt le (index i ∷ parts) h =
         let (rest, few, e, steps) = index_after (take k more) i parts h in
@@ -150,17 +171,20 @@ bracket_on more n c small is count = λ k gt le steps. by_len k gt le steps
         let len : length (decimal i ++ 0x5D ∷ []) ≡ c = rw same.0 (sym count) in
         (parts, rw (left_of more (decimal i ++ 0x5D ∷ []) rest k c le len e2) steps)
 
-    by_len : (k : ℕ) → suc c < k → k ≤ length (0x5B ∷ more) → SomeSteps (take k (0x5B ∷ more)) → SomeSteps (take (k - suc c) (drop (suc c) (0x5B ∷ more)))
+    by_len : (k : ℕ) → suc c < k → k ≤ length (0x5B ∷ more) → SomeSteps (take k (0x5B ∷ more))
+        → SomeSteps (take (k - suc c) (drop (suc c) (0x5B ∷ more)))
     by_len zero gt le steps = absurd (omega arith)
     by_len (suc k) gt le (parts, h) = rw (less_one k c) (by_parts k (omega arith) (omega arith) parts h)
 
-pub bracket_none : (more : List ℕ) → ((n : ℕ) (rest : List ℕ) → n < 1_000_000_000 → more ≡ decimal n ++ 0x5D ∷ rest → ⊥) → NoSteps (0x5B ∷ more)
+pub bracket_none : (more : List ℕ) → ((n : ℕ) (rest : List ℕ) → n < 1_000_000_000 → more ≡ decimal n ++ 0x5D ∷ rest → ⊥)
+    → NoSteps (0x5B ∷ more)
 bracket_none more none = λ k gt le steps. by_len k gt le steps
   where
     by_parts : (k : ℕ) → k ≤ length more → (parts : List Part) → StepsText parts (0x5B ∷ take k more) → ⊥
     by_parts k le [] h = absurd cc
     by_parts k le (key v ∷ parts) h =
-        let never : ◌≡◌ {A = ℕ} 0x5B 0x2E = ap (λ (t : List ℕ). first t) (key_first v parts (0x5B ∷ take k more) h).spelled in
+        let never : ◌≡◌ {A = ℕ} 0x5B 0x2E =
+        ap (λ (t : List ℕ). first t) (key_first v parts (0x5B ∷ take k more) h).spelled in
         omega (arith, never)
     by_parts k le (index i ∷ parts) h =
         let (rest, few, e, steps) = index_after (take k more) i parts h in
@@ -175,27 +199,33 @@ pub other_none : (text : List ℕ) → (first text ≡ 0x2E → ⊥) → (first 
 other_none [] dot bracket k gt le steps = omega arith
 other_none (c ∷ cs) dot bracket zero gt le steps = omega arith
 other_none (c ∷ cs) dot bracket (suc k) gt le ([], h) = cc
-other_none (c ∷ cs) dot bracket (suc k) gt le ((key v ∷ parts), h) = dot (ap (λ (t : List ℕ). first t) (key_first v parts (c ∷ take k cs) h).spelled)
-other_none (c ∷ cs) dot bracket (suc k) gt le ((index i ∷ parts), h) = bracket (ap (λ (t : List ℕ). first t) (index_first i parts (c ∷ take k cs) h).spelled)
+other_none (c ∷ cs) dot bracket (suc k) gt le ((key v ∷ parts), h) =
+    dot (ap (λ (t : List ℕ). first t) (key_first v parts (c ∷ take k cs) h).spelled)
+other_none (c ∷ cs) dot bracket (suc k) gt le ((index i ∷ parts), h) =
+    bracket (ap (λ (t : List ℕ). first t) (index_first i parts (c ∷ take k cs) h).spelled)
 
 -- ---- a path goes on after what is read
 
 -- a prefix of more than so many bytes that is a path's text goes on with steps after these bytes
 abbrev pub PathGoesOn : List ℕ → ℕ → Type 0
-PathGoesOn text at = (m : ℕ) → at < m → m ≤ length text → SomePath (take m text) → SomeSteps (take (m - at) (drop at text))
+PathGoesOn text at =
+    (m : ℕ) → at < m → m ≤ length text → SomePath (take m text) → SomeSteps (take (m - at) (drop at text))
 
 no_text : (text : List ℕ) (m : ℕ) → m ≤ length text → take m text ≡ [] → m ≡ 0
 no_text text m le e = sym (length-take-le m text le) ∙ ap length e
 
-pub path_on_first : (text : List ℕ) (l : Leaf) (n : ℕ) → key_at Strict text ≡ Some (l, n) → KeysWithin text n → PathGoesOn text n
+pub path_on_first : (text : List ℕ) (l : Leaf) (n : ℕ) → key_at Strict text ≡ Some (l, n) → KeysWithin text n
+    → PathGoesOn text n
 path_on_first text l n at within = λ m gt le (path, h). by_path m gt le path h
   where
-    by_path : (m : ℕ) → n < m → m ≤ length text → (path : List Part) → IsPathText (take m text) path → SomeSteps (take (m - n) (drop n text))
+    by_path : (m : ℕ) → n < m → m ≤ length text → (path : List Part) → IsPathText (take m text) path
+        → SomeSteps (take (m - n) (drop n text))
     by_path m gt le [] h = absurd (omega (arith, no_text text m le h))
     by_path m gt le (index i ∷ parts) h = absurd h
     by_path m gt le (key v ∷ parts) (a, b, e, k, steps) = key_goes_on text l n at within v a b parts m gt le e k steps
 
-pub path_on_more : (text : List ℕ) (at n : ℕ) → PathGoesOn text at → StepsGoOn (drop at text) n → PathGoesOn text (at + n)
+pub path_on_more : (text : List ℕ) (at n : ℕ) → PathGoesOn text at → StepsGoOn (drop at text) n
+    → PathGoesOn text (at + n)
 path_on_more text at n path steps m gt le h =
     let inner = path m (omega arith) le h in
     let after = steps (m - at) (omega arith) (omega (arith, length-drop at text)) inner in
@@ -205,15 +235,18 @@ path_on_more text at n path steps m gt le h =
 -- ---- where the text stops
 
 pub stops_first : (text : List ℕ) → 0 < length text → KeysWithin text 0 → StopsAt text 0
-stops_first text some within = (record { within = omega arith; belongs = ([], refl); longest = λ m le (path, h). by_path m le path h }, some)
+stops_first text some within =
+    (record { within = omega arith; belongs = ([], refl); longest = λ m le (path, h). by_path m le path h }, some)
   where
     by_path : (m : ℕ) → m ≤ length text → (path : List Part) → IsPathText (take m text) path → m ≤ 0
     by_path m le [] h = omega (arith, no_text text m le h)
     by_path m le (index i ∷ parts) h = absurd h
     by_path m le (key v ∷ parts) (a, b, e, k, steps) = absurd (no_key text v a b m within le e k)
 
-pub stops_at : (text : List ℕ) (path : List Part) (at : ℕ) → at < length text → SoFar text path at → PathGoesOn text at → NoSteps (drop at text) → StopsAt text at
-stops_at text path at more so_far on none = (record { within = so_far.within; belongs = (path, so_far.stated); longest = longest }, more)
+pub stops_at : (text : List ℕ) (path : List Part) (at : ℕ) → at < length text → SoFar text path at → PathGoesOn text at
+    → NoSteps (drop at text) → StopsAt text at
+stops_at text path at more so_far on none =
+    (record { within = so_far.within; belongs = (path, so_far.stated); longest = longest }, more)
   where
     longest : (m : ℕ) → m ≤ length text → SomePath (take m text) → m ≤ at
     longest m le h =

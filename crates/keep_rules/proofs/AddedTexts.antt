@@ -13,13 +13,15 @@ pub grown : (old new more : List ℕ) → new ≡ old ++ more → take (length o
 grown old new more e = ap (take (length old)) e ∙ take-append_seam old more
 
 -- what was added to in two steps
-pub grown_then : (old mid new : List ℕ) → take (length old) mid ≡ old → take (length mid) new ≡ mid → take (length old) new ≡ old
+pub grown_then : (old mid new : List ℕ) → take (length old) mid ≡ old → take (length mid) new ≡ mid
+    → take (length old) new ≡ old
 grown_then old mid new h k =
     let fits : length old ≤ length mid = omega (arith, length-take (length old) mid, ap length h) in
     sym (take-take (length old) (length mid) new fits) ∙ (ap (take (length old)) k ∙ h)
 
 -- the old text ends where a character does
-pub old_ends : (old new : List ℕ) → IsUtf8 old → IsUtf8 new → take (length old) new ≡ old → IsSplitPoint new (length old)
+pub old_ends : (old new : List ℕ) → IsUtf8 old → IsUtf8 new → take (length old) new ≡ old
+    → IsSplitPoint new (length old)
 old_ends old new utf8 utf8_new e =
     let fits : length old ≤ length new = omega (arith, length-take (length old) new, ap length e) in
     let cut = IsCharBoundary-from_take new (length old) utf8_new fits (subst IsUtf8 (sym e) utf8) in

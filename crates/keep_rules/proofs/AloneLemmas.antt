@@ -1,5 +1,6 @@
 -- A value alone.
-use Rattle.std.proofs.Common.{◌≡◌, ℕ, zero, suc, ◌+◌, ◌<◌, ◌^◌, List, [], ◌∷◌, ◌++◌, length, map, get_or, slice_get, refl, sym, ◌∙◌, ap, subst, arith, Some, None}
+use Rattle.std.proofs.Common.{◌≡◌, ℕ, zero, suc, ◌+◌, ◌<◌, ◌^◌, List, [], ◌∷◌, ◌++◌, length, map, get_or, slice_get}
+use Rattle.std.proofs.Common.{refl, sym, ◌∙◌, ap, subst, arith, Some, None}
 use Rattle.std.specs.List.{AllZip}
 use Rattle.std.proofs.lemmas.List.{append-nil}
 use Rattle.keep_types.specs.declared.leaf.Profile.{Profile}
@@ -48,7 +49,8 @@ some_info : (a b : ValueInfo) → Some a ≡ Some b → a ≡ b
 some_info a b e = cc
 
 -- the root represents the value
-root_nesting : (t : TrieNode) (f : Fact) → t.state ≡ None → t.holds ≡ holding_of f → AreValueNodes (t ∷ []) (0 ∷ []) (value_nesting f)
+root_nesting : (t : TrieNode) (f : Fact) → t.state ≡ None → t.holds ≡ holding_of f
+    → AreValueNodes (t ∷ []) (0 ∷ []) (value_nesting f)
 root_nesting t f state holds = record {
   paths = refl;
   holdings = refl;
@@ -58,61 +60,98 @@ root_nesting t f state holds = record {
 }
   where
     one : (j : ℕ) → j < 1 → IsValueNode (t ∷ []) (get_or (0 ∷ []) j 0) (value_nesting f) j
-    one zero low = record { nested = omega arith; here = refl; held = holds; plain = ap is_tables state; listed = λ is. refl }
+    one zero low =
+        record { nested = omega arith; here = refl; held = holds; plain = ap is_tables state; listed = λ is. refl }
     one (suc j) low = absurd (omega (arith, low))
 
-module _ (bytes : List ℕ) (profile : Profile) (v : Value) (is : IsValue profile v) (spelled : bytes ≡ value_text v) (f : Flat) (keys : f.keys ≡ parts_alone v) (values : f.values ≡ values_alone v)
-    (nodes : TrieInfos) (first : ValueInfo) (here : slice_get f.values 0 ≡ Some first) (h : Holding) (holds : h ≡ leaf_holding first.leaf) (root : IsRoot h nodes) where
-  pub alone_next : AreNext bytes f nodes.trie (0 ∷ []) 1 1 0 (value_nesting (body_fact v.body)) (nested_values 0 1 v.nested)
+module _ (bytes : List ℕ) (profile : Profile) (v : Value) (is : IsValue profile v) (spelled : bytes ≡ value_text v)
+    (f : Flat) (keys : f.keys ≡ parts_alone v) (values : f.values ≡ values_alone v)
+    (nodes : TrieInfos) (first : ValueInfo) (here : slice_get f.values 0 ≡ Some first) (h : Holding)
+    (holds : h ≡ leaf_holding first.leaf) (root : IsRoot h nodes) where
+  pub alone_next : AreNext bytes f nodes.trie (0 ∷ []) 1 1 0 (value_nesting (body_fact v.body))
+      (nested_values 0 1 v.nested)
   alone_next =
       let matches : MatchAlone bytes (parts_alone v) v (values_alone v) = alone_matches bytes profile v is spelled in
       let own : ValueInfo = info alone 0 0 v.body v.nested None in
       let inner : List ValueInfo = entries_values (nested_of alone 0 0 v.body) v.nested in
       let ts : List NestedValue = nested_values 0 1 v.nested in
       let same : own ≡ first = some_info own first (sym (ap (λ vs. slice_get vs 0) values) ∙ here) in
-      let is_open : AreFrom f.values 1 inner = λ i other at. ap (λ vs. slice_get vs (1 + i)) values ∙ subst (λ (n : ℕ). slice_get (own ∷ inner) n ≡ Some other) (let e : suc i ≡ 1 + i = omega arith in e) at in
-      let ends : EndsAt f.values (1 + length ts) = past_ends f.values (1 + length ts) (omega (arith, ap length values, length-entries_values (nested_of alone 0 0 v.body) v.nested, nested_count 0 1 v.nested)) in
+      let is_open : AreFrom f.values 1 inner =
+      λ i other at. ap (λ vs. slice_get vs (1 + i)) values
+      ∙ subst (λ (n : ℕ). slice_get (own ∷ inner) n ≡ Some other) (let e : suc i ≡ 1 + i = omega arith in e) at in
+      let ends : EndsAt f.values (1 + length ts) =
+      past_ends f.values (1 + length ts)
+      (omega (
+        arith,
+        ap length values,
+        length-entries_values (nested_of alone 0 0 v.body) v.nested,
+        nested_count 0 1 v.nested,
+      )) in
       record {
-        nested = subst (λ (t : List TrieNode). AreValueNodes t (0 ∷ []) (value_nesting (body_fact v.body))) (sym root.alone)
-            (root_nesting root.root (body_fact v.body) root.state (root.holds ∙ holds ∙ ap (λ (i : ValueInfo). leaf_holding i.leaf) (sym same) ∙ sym matches.0.holds));
+        nested =
+            subst (λ (t : List TrieNode). AreValueNodes t (0 ∷ []) (value_nesting (body_fact v.body))) (sym root.alone)
+            (root_nesting root.root (body_fact v.body) root.state
+            (root.holds ∙ holds ∙ ap (λ (i : ValueInfo). leaf_holding i.leaf) (sym same) ∙ sym matches.0.holds));
         suit = value_suits profile v is;
-        matches = match_nested bytes f 1 1 0 ts inner (subst (λ (ks : List KeyPart). AllZip (MatchesNested bytes ks 1) ts inner) (sym keys) matches.1) (first_keys 0 1 (nested_of alone 0 0 v.body) v.nested) is_open ends;
+        matches =
+            match_nested bytes f 1 1 0 ts inner
+            (subst (λ (ks : List KeyPart). AllZip (MatchesNested bytes ks 1) ts inner) (sym keys) matches.1)
+            (first_keys 0 1 (nested_of alone 0 0 v.body) v.nested) is_open ends;
       }
 
-  mentions_nested : all_nested_mentions (value_nesting (body_fact v.body)) (nested_values 0 1 v.nested) ≡ entries_mentions 0 v.nested
+  mentions_nested : all_nested_mentions (value_nesting (body_fact v.body)) (nested_values 0 1 v.nested)
+      ≡ entries_mentions 0 v.nested
   mentions_nested = value_nested-mentions v
 
-  pub alone_obeys : (new : TrieInfos) (ids : List ℕ) → NestedValuesRead bytes f 1 1 nodes (0 ∷ []) new ids → ValueObeys v
+  pub alone_obeys : (new : TrieInfos) (ids : List ℕ) → NestedValuesRead bytes f 1 1 nodes (0 ∷ []) new ids
+      → ValueObeys v
   alone_obeys new ids was_read =
       let all = was_read (value_nesting (body_fact v.body)) (nested_values 0 1 v.nested) 0 alone_next in
-      subst (λ (ms : List Mention). ObeysRules (marks.marks ms)) mentions_nested (all.represents [] [] (rooted_represents nodes h root)).index.states_represent.obeys
+      subst (λ (ms : List Mention). ObeysRules (marks.marks ms)) mentions_nested
+      (all.represents [] [] (rooted_represents nodes h root)).index.states_represent.obeys
 
-  alone_breaks : (at : ℕ) (why : Why) → NestedValuesFault bytes f 1 1 nodes (0 ∷ []) at why → IsFirstFaulty (marks.marks (mentions_of_value v)) at why
+  alone_breaks : (at : ℕ) (why : Why) → NestedValuesFault bytes f 1 1 nodes (0 ∷ []) at why
+      → IsFirstFaulty (marks.marks (mentions_of_value v)) at why
   alone_breaks at why faults =
-      let one = faults (value_nesting (body_fact v.body)) (nested_values 0 1 v.nested) 0 alone_next [] [] (rooted_represents nodes h root) in
+      let one =
+      faults (value_nesting (body_fact v.body)) (nested_values 0 1 v.nested) 0 alone_next [] []
+      (rooted_represents nodes h root) in
       let more : List Mention = all_nested_mentions (value_nesting (body_fact v.body)) (nested_values 0 1 v.nested) in
       subst (λ (ms : List Mention). IsFirstFaulty (marks.marks ms) at why) (append-nil more ∙ mentions_nested)
-      (subst (λ (n : ℕ). IsFirstFaulty (marks.marks (more ++ [])) n why) (let e : 0 + one.within ≡ at = omega (arith, one.sum) in e) (fault_is_first [] more [] one.within why one.fault))
+      (subst (λ (n : ℕ). IsFirstFaulty (marks.marks (more ++ [])) n why)
+      (let e : 0 + one.within ≡ at = omega (arith, one.sum) in e) (fault_is_first [] more [] one.within why one.fault))
 
-  pub alone_within : (g : DefineFault) → FaultMeets g (NestedValuesFault bytes f 1 1 nodes (0 ∷ [])) → FaultMeets g (λ n w. n < length f.keys)
+  pub alone_within : (g : DefineFault) → FaultMeets g (NestedValuesFault bytes f 1 1 nodes (0 ∷ []))
+      → FaultMeets g (λ n w. n < length f.keys)
   alone_within g meets =
       meets_weaker g (NestedValuesFault bytes f 1 1 nodes (0 ∷ [])) (λ n w. n < length f.keys)
-      (λ n w faults. let low = first_low (marks.marks (mentions_of_value v)) n w (alone_breaks n w faults) in omega (arith, low, marked-parts_in v, ap length keys)) meets
+      (λ n w faults. let low = first_low (marks.marks (mentions_of_value v)) n w (alone_breaks n w faults) in
+      omega (arith, low, marked-parts_in v, ap length keys)) meets
 
-  pub alone_refused : (g : DefineFault) (r : ReadFault) → IsFaultAt f.keys g r → FaultMeets g (NestedValuesFault bytes f 1 1 nodes (0 ∷ [])) → IsValueRefusal v r
+  pub alone_refused : (g : DefineFault) (r : ReadFault) → IsFaultAt f.keys g r
+      → FaultMeets g (NestedValuesFault bytes f 1 1 nodes (0 ∷ [])) → IsValueRefusal v r
   alone_refused g r at meets =
-      fault_placed (parts_in v) (marks.marks (mentions_of_value v)) (IsValueRefusal v) g r (subst (λ (ks : List KeyPart). IsFaultAt ks g r) keys at)
-      (meets_weaker g (NestedValuesFault bytes f 1 1 nodes (0 ∷ [])) (λ n w. IsFirstFaulty (marks.marks (mentions_of_value v)) n w) alone_breaks meets) (λ place why fault. fault) tt
+      fault_placed (parts_in v) (marks.marks (mentions_of_value v)) (IsValueRefusal v) g r
+      (subst (λ (ks : List KeyPart). IsFaultAt ks g r) keys at)
+      (meets_weaker g (NestedValuesFault bytes f 1 1 nodes (0 ∷ []))
+      (λ n w. IsFirstFaulty (marks.marks (mentions_of_value v)) n w) alone_breaks meets) (λ place why fault. fault) tt
 
   -- the nodes are those in the value
-  pub alone_nodes : length f.keys < 2 ^ 64 → (new : TrieInfos) (ids : List ℕ) → NestedValuesRead bytes f 1 1 nodes (0 ∷ []) new ids → node_infos new ≡ nodes_in_value v
+  pub alone_nodes : length f.keys < 2 ^ 64 → (new : TrieInfos) (ids : List ℕ)
+      → NestedValuesRead bytes f 1 1 nodes (0 ∷ []) new ids → node_infos new ≡ nodes_in_value v
   alone_nodes few new ids was_read =
       let c : Count = record { statements = 0; values = 1; keys = 0 } in
       let said : List Mention = all_nested_mentions (value_nesting (body_fact v.body)) (nested_values 0 1 v.nested) in
       let inside : List Numbered = numbered_mentions c (entries_mentions 0 v.nested) in
       let all = was_read (value_nesting (body_fact v.body)) (nested_values 0 1 v.nested) 0 alone_next in
       let few_marks : length (marks.marks (map mention_of inside)) < 2 ^ 64 =
-      omega (arith, few, ap length keys, marked-parts_in v, ap (λ ms. length (marks.marks ms)) (mentions-numbered_mentions c (entries_mentions 0 v.nested))) in
+      omega (
+        arith,
+        few,
+        ap length keys,
+        marked-parts_in v,
+        ap (λ ms. length (marks.marks ms)) (mentions-numbered_mentions c (entries_mentions 0 v.nested)),
+      ) in
       let fresh : ValuesAreNew ([] ∷ []) inside =
       subst (λ (ms : List Mention). ValuesAreNew ([] ∷ []) (numbered_mentions c ms)) mentions_nested
       (subst (λ (t : NodeInfos). ValuesAreNew t.paths (numbered_mentions c said)) root.facts (all.fresh c refl refl)) in

@@ -5,7 +5,8 @@
 -- item is said of its number, and a keyval of each of its keys. Each is an induction over the entries.
 --
 -- Theorems: `inside_told` and `inside_closed`.
-use Rattle.std.proofs.Common.{◌≡◌, ℕ, ◌+◌, Bool, true, false, ◌&&◌, ◌||◌, List, [], ◌∷◌, ◌++◌, map, refl, sym, ap, ap₂, ◌∙◌, ◌⊎◌, inl, inr, Option, Some, None}
+use Rattle.std.proofs.Common.{◌≡◌, ℕ, ◌+◌, Bool, true, false, ◌&&◌, ◌||◌, List, [], ◌∷◌, ◌++◌, map, refl, sym, ap, ap₂}
+use Rattle.std.proofs.Common.{◌∙◌, ◌⊎◌, inl, inr, Option, Some, None}
 use Rattle.std.specs.List.{AllByRecursion, cons_option, list_any}
 use Rattle.std.proofs.lemmas.Bool.{and_parts, or_cases, or_left, or_right}
 use Rattle.std.proofs.lemmas.List.Folds.{list_any-append}
@@ -13,7 +14,8 @@ use Rattle.keep_syntax.specs.Tree.{Entries, Name, entry, none}
 use Rattle.keep_path.specs.Path.{Part, index, key, last_part, same_part}
 use Rattle.keep_meaning.specs.Fact.{Fact}
 use Rattle.keep_meaning.specs.Marks.{Mention, MentionKind, below, dotted, item, role_of, value}
-use Rattle.keep_meaning.specs.Meaning.{body_fact, entries_mentions, entry_mentions, further_value, key_value, keyed_mentions}
+use Rattle.keep_meaning.specs.Meaning.{body_fact, entries_mentions, entry_mentions, further_value, key_value}
+use Rattle.keep_meaning.specs.Meaning.{keyed_mentions}
 use Rattle.keep_meaning.specs.Nodes.{is_at, is_element}
 use Rattle.keep_rules.proofs.LineNestedLaws.{may_follow}
 

@@ -1,12 +1,17 @@
--- With one line more the nodes are nested as before, and so they are without it (`line_is_nested`, `line_leaves_nested`).
+-- With one line more the nodes are nested as before, and so they are without it (`line_is_nested`,
+-- `line_leaves_nested`).
 --
--- The paths are those of before, and the line's path in one place, so a node's number is that of before, or greater by one
+-- The paths are those of before, and the line's path in one place, so a node's number is that of before, or greater by
+-- one
 -- (`number_more`). What is said of any other path is the same, and so are the `[[..]]` lines. The line's node is in the
--- table that its header opens, which is a node and no array of tables; so it is below a node, and is not the last element
+-- table that its header opens, which is a node and no array of tables; so it is below a node, and is not the last
+-- element
 -- that a header may enter.
 --
 -- Theorems: `line_is_nested` and `line_leaves_nested`.
-use Rattle.std.proofs.Common.{◌≡◌, ℕ, ◌-◌, ◌<◌, Bool, true, false, cond, List, [], ◌∷◌, ◌++◌, length, get_or, map, refl, sym, ap, subst, ◌∙◌, ◌⊎◌, inl, inr, arith, append_assoc, append-nil, length-append, Option, Some, None}
+use Rattle.std.proofs.Common.{◌≡◌, ℕ, ◌-◌, ◌<◌, Bool, true, false, cond, List, [], ◌∷◌, ◌++◌, length, get_or, map, refl}
+use Rattle.std.proofs.Common.{sym, ap, subst, ◌∙◌, ◌⊎◌, inl, inr, arith, append_assoc, append-nil, length-append}
+use Rattle.std.proofs.Common.{Option, Some, None}
 use Rattle.std.specs.Prelude.{filter, slice_get, take, drop}
 use Rattle.std.specs.List.{cons_option, filter_map, list_all, insert}
 use Rattle.std.specs.Option.{option_map, option_and_then}
@@ -23,11 +28,13 @@ use Rattle.keep_path.proofs.Shared.{key_back, last_pushed, path_decides}
 use Rattle.keep_meaning.specs.Counts.{statements_in}
 use Rattle.keep_meaning.specs.Fact.{Fact}
 use Rattle.keep_meaning.specs.LinesMore.{HasLineMore, nodes_after, path_after}
-use Rattle.keep_meaning.specs.Marks.{MentionKind, Mention, Reading, Statement, elements_of, entered_path, keyval, marks, mentions_from, next_reading, reading_after, role_of, start, value}
+use Rattle.keep_meaning.specs.Marks.{MentionKind, Mention, Reading, Statement, elements_of, entered_path, keyval, marks}
+use Rattle.keep_meaning.specs.Marks.{mentions_from, next_reading, reading_after, role_of, start, value}
 use Rattle.keep_meaning.specs.Meaning.{mentions_in}
 use Rattle.keep_meaning.specs.Nodes.{children, is_at, is_child, is_node, node_number, node_paths}
 use Rattle.keep_meaning.specs.Rules.{ObeysRules, allows}
-use Rattle.keep_meaning.proofs.Shared.{body_has_no_element, body_is_node, line_adds_node, mentions_in-statements, node_met, paths-nodes_in, tables_are_nodes}
+use Rattle.keep_meaning.proofs.Shared.{body_has_no_element, body_is_node, line_adds_node, mentions_in-statements}
+use Rattle.keep_meaning.proofs.Shared.{node_met, paths-nodes_in, tables_are_nodes}
 use Rattle.keep_rules.specs.LinesNested.{LineIsNested, LineLeavesNested}
 use Rattle.keep_rules.specs.Nested.{AreNested}
 use Rattle.keep_rules.specs.RoleStates.{mention_roles}
@@ -40,7 +47,8 @@ pub differ : (b : Bool) → b ≡ true → b ≡ false → ⊥
 differ true h g = cc
 differ false h g = cc
 
-pub reading_after-append : (r : Reading) (ss ts : List Statement) → reading_after r (ss ++ ts) ≡ reading_after (reading_after r ss) ts
+pub reading_after-append : (r : Reading) (ss ts : List Statement)
+    → reading_after r (ss ++ ts) ≡ reading_after (reading_after r ss) ts
 reading_after-append r [] ts = refl
 reading_after-append r (s ∷ ss) ts = reading_after-append (next_reading r s) ss ts
 
@@ -49,7 +57,8 @@ pub snoc_view : (xs : List Part) → (xs ≡ []) ⊎ ((m : List Part) × (x : Pa
 snoc_view [] = inl refl
 snoc_view (a ∷ xs) = inr (by (snoc_view xs))
   where
-    by : (xs ≡ []) ⊎ ((m : List Part) × (x : Part) × (xs ≡ m ++ x ∷ [])) → (m : List Part) × (x : Part) × (a ∷ xs ≡ m ++ x ∷ [])
+    by : (xs ≡ []) ⊎ ((m : List Part) × (x : Part) × (xs ≡ m ++ x ∷ []))
+        → (m : List Part) × (x : Part) × (a ∷ xs ≡ m ++ x ∷ [])
     by (inl e) = ([], a, ap (λ (l : List Part). a ∷ l) e)
     by (inr h) = (a ∷ h.0, h.1, ap (λ (l : List Part). a ∷ l) h.2)
 
@@ -68,24 +77,36 @@ kind_of m = m.kind
 abbrev pub may_follow : List Role → Bool
 may_follow roles = list_all (λ role. allows role Element) roles
 
-not_open : (p : List Part) (f : Fact) (before after : List Mention) → may_follow (mention_roles p (before ++ record { path = p; kind = value f } ∷ after)) ≡ true → ⊥
+not_open : (p : List Part) (f : Fact) (before after : List Mention)
+    → may_follow (mention_roles p (before ++ record { path = p; kind = value f } ∷ after)) ≡ true → ⊥
 not_open p f [] after h =
     let here : may_follow (mention_roles p (record { path = p; kind = value f } ∷ after)) ≡ false =
-    ap (λ (b : Bool). may_follow (filter_map role_of (map kind_of (cond b (record { path = p; kind = value f } ∷ filter (is_at p) after) (filter (is_at p) after))))) ((path_decides p p).1 refl) in
+    ap (λ (b : Bool).
+    may_follow (filter_map role_of
+    (map kind_of (cond b (record { path = p; kind = value f } ∷ filter (is_at p) after) (filter (is_at p) after)))))
+    ((path_decides p p).1 refl) in
     differ (may_follow (mention_roles p (record { path = p; kind = value f } ∷ after))) h here
 not_open p f (m ∷ before) after h = by (is_at p m) h (not_open p f before after)
   where
-    said : (o : Option Role) → may_follow (cons_option o (mention_roles p (before ++ record { path = p; kind = value f } ∷ after))) ≡ true
+    said : (o : Option Role)
+        → may_follow (cons_option o (mention_roles p (before ++ record { path = p; kind = value f } ∷ after))) ≡ true
         → (may_follow (mention_roles p (before ++ record { path = p; kind = value f } ∷ after)) ≡ true → ⊥) → ⊥
     said None h more = more h
-    said (Some s) h more = more (and_parts (allows s Element) (may_follow (mention_roles p (before ++ record { path = p; kind = value f } ∷ after))) h).1
+    said (Some s) h more =
+        more (and_parts (allows s Element)
+        (may_follow (mention_roles p (before ++ record { path = p; kind = value f } ∷ after))) h).1
 
-    by : (b : Bool) → may_follow (filter_map role_of (map kind_of (cond b (m ∷ filter (is_at p) (before ++ record { path = p; kind = value f } ∷ after)) (filter (is_at p) (before ++ record { path = p; kind = value f } ∷ after))))) ≡ true
+    by : (b : Bool)
+        → may_follow (filter_map role_of
+        (map kind_of (cond b (m ∷ filter (is_at p) (before ++ record { path = p; kind = value f } ∷ after))
+        (filter (is_at p) (before ++ record { path = p; kind = value f } ∷ after))))) ≡ true
         → (may_follow (mention_roles p (before ++ record { path = p; kind = value f } ∷ after)) ≡ true → ⊥) → ⊥
     by true h more = said (role_of m.kind) h more
     by false h more = more h
 
-module _ (d more : Document) (line : HasLineMore d more) (fresh : is_node (path_after line.before line.text) (mentions_in d) ≡ false) (obeys : ObeysRules (marks (mentions_in d))) where
+module _ (d more : Document) (line : HasLineMore d more)
+    (fresh : is_node (path_after line.before line.text) (mentions_in d) ≡ false)
+    (obeys : ObeysRules (marks (mentions_in d))) where
   abbrev p : List Part
   p = path_after line.before line.text
 
@@ -119,17 +140,21 @@ module _ (d more : Document) (line : HasLineMore d more) (fresh : is_node (path_
   own = record { path = p; kind = value line.fact }
 
   said_old : mentions_in d ≡ mx ++ my
-  said_old = mentions_in-statements d ∙ ap (mentions_from start) line.old ∙ mentions_from-append start line.before line.after
+  said_old =
+      mentions_in-statements d ∙ ap (mentions_from start) line.old ∙ mentions_from-append start line.before line.after
 
   said_new : mentions_in more ≡ mx ++ own ∷ my
   said_new =
       mentions_in-statements more ∙ ap (mentions_from start) line.new
-      ∙ mentions_from-append start line.before (keyval (record { path = key line.text ∷ []; kind = value line.fact } ∷ []) ∷ line.after)
+      ∙ mentions_from-append start line.before
+      (keyval (record { path = key line.text ∷ []; kind = value line.fact } ∷ []) ∷ line.after)
 
   tables_same : (reading_after start (statements_in more)).tables ≡ tables
   tables_same =
       ap (λ (ss : List Statement). (reading_after start ss).tables) line.new
-      ∙ ap (λ (r : Reading). r.tables) (reading_after-append start line.before (keyval (record { path = key line.text ∷ []; kind = value line.fact } ∷ []) ∷ line.after))
+      ∙ ap (λ (r : Reading). r.tables)
+      (reading_after-append start line.before
+      (keyval (record { path = key line.text ∷ []; kind = value line.fact } ∷ []) ∷ line.after))
       ∙ sym (ap (λ (r : Reading). r.tables) (reading_after-append start line.before line.after))
       ∙ ap (λ (ss : List Statement). (reading_after start ss).tables) (sym line.old)
 
@@ -143,14 +168,16 @@ module _ (d more : Document) (line : HasLineMore d more) (fresh : is_node (path_
 
   -- ---- the numbers
 
-  number_more : (q : List Part) → same_path q p ≡ false → node_number qs q ≡ option_map (later_number (length low)) (node_number ps q)
+  number_more : (q : List Part) → same_path q p ≡ false
+      → node_number qs q ≡ option_map (later_number (length low)) (node_number ps q)
   number_more q e =
       ap (λ (l : List (List Part)). node_number l q) paths_new ∙ number_put (same_path q) low high p e
       ∙ ap (λ (l : List (List Part)). option_map (later_number (length low)) (node_number l q)) (sym paths_old)
 
   not_old : node_number ps p ≡ None
   not_old = number_none ps p (λ there. differ (is_node p (mentions_in d))
-      (sym (node_met p (mentions_in d)) ∙ list_any_at (same_path p) ps there.0 p there.1 ((path_decides p (get_or ps there.0 p)).1 (sym there.2))) fresh)
+      (sym (node_met p (mentions_in d))
+      ∙ list_any_at (same_path p) ps there.0 p there.1 ((path_decides p (get_or ps there.0 p)).1 (sym there.2))) fresh)
 
   is_new : node_number qs p ≡ None → ⊥
   is_new none =
@@ -163,19 +190,24 @@ module _ (d more : Document) (line : HasLineMore d more) (fresh : is_node (path_
       let clash : Some j ≡ None = sym is ∙ ap (node_number ps) ((path_decides q p).0 e) ∙ not_old in cc)
 
   none_other : (q : List Part) → node_number qs q ≡ None → same_path q p ≡ false
-  none_other q none = false_from_ne_true (same_path q p) (λ e. is_new (ap (node_number qs) (sym ((path_decides q p).0 e)) ∙ none))
+  none_other q none =
+      false_from_ne_true (same_path q p) (λ e. is_new (ap (node_number qs) (sym ((path_decides q p).0 e)) ∙ none))
 
   none_old : (q : List Part) → node_number qs q ≡ None → node_number ps q ≡ None
-  none_old q none = map_none (later_number (length low)) (node_number ps q) (sym (number_more q (none_other q none)) ∙ none)
+  none_old q none =
+      map_none (later_number (length low)) (node_number ps q) (sym (number_more q (none_other q none)) ∙ none)
 
   none_new : (q : List Part) → same_path q p ≡ false → node_number ps q ≡ None → node_number qs q ≡ None
   none_new q other none = number_more q other ∙ ap (option_map (later_number (length low))) none
 
   -- ---- what is said of another path
 
-  roles_same : (q : List Part) → same_path q p ≡ false → mention_roles q (mentions_in more) ≡ mention_roles q (mentions_in d)
+  roles_same : (q : List Part) → same_path q p ≡ false
+      → mention_roles q (mentions_in more) ≡ mention_roles q (mentions_in d)
   roles_same q e =
-      let other : is_at q own ≡ false = false_from_ne_true (is_at q own) (λ is. differ (same_path q p) ((path_decides q p).1 (sym ((path_decides p q).0 is))) e) in
+      let other : is_at q own ≡ false =
+      false_from_ne_true (is_at q own)
+      (λ is. differ (same_path q p) ((path_decides q p).1 (sym ((path_decides p q).0 is))) e) in
       ap (mention_roles q) said_new
       ∙ ap (λ (ms : List Mention). filter_map role_of (map kind_of ms)) (filter_put (is_at q) mx my own other)
       ∙ ap (mention_roles q) (sym said_old)
@@ -189,50 +221,67 @@ module _ (d more : Document) (line : HasLineMore d more) (fresh : is_node (path_
 
   children_same : (path : List Part) → 0 < elements_of path tables → children path qs ≡ children path ps
   children_same path some =
-      ap (children path) paths_new ∙ filter_put (is_child path) low high p (not_below path some) ∙ ap (children path) (sym paths_old)
+      ap (children path) paths_new ∙ filter_put (is_child path) low high p (not_below path some)
+      ∙ ap (children path) (sym paths_old)
 
   entered_other : (path : List Part) → 0 < elements_of path tables → same_path (entered_path tables path) p ≡ false
   entered_other path some = false_from_ne_true (same_path (entered_path tables path) p) (λ is.
       let n : ℕ = elements_of path tables - 1 in
-      let same : path ++ index n ∷ [] ≡ body ++ key line.text ∷ [] = sym (enters tables path (elements_of path tables) refl some) ∙ (path_decides (entered_path tables path) p).0 is in
-      let clash : Some (index n) ≡ Some (key line.text) = sym (last_pushed path (index n)) ∙ ap last_part same ∙ last_pushed body (key line.text) in
+      let same : path ++ index n ∷ [] ≡ body ++ key line.text ∷ [] =
+      sym (enters tables path (elements_of path tables) refl some) ∙ (path_decides (entered_path tables path) p).0 is in
+      let clash : Some (index n) ≡ Some (key line.text) =
+      sym (last_pushed path (index n)) ∙ ap last_part same ∙ last_pushed body (key line.text) in
       cc)
 
   -- the number of the last node below
   last_number : (path : List Part) → 0 < elements_of path tables → (i : ℕ)
-      → option_and_then (node_number qs) (slice_get (children path ps) i) ≡ option_map (later_number (length low)) (option_and_then (node_number ps) (slice_get (children path ps) i))
+      → option_and_then (node_number qs) (slice_get (children path ps) i)
+      ≡ option_map (later_number (length low)) (option_and_then (node_number ps) (slice_get (children path ps) i))
   last_number path some i = by (slice_get (children path ps) i) refl
     where
-      by : (o : Option (List Part)) → slice_get (children path ps) i ≡ o → option_and_then (node_number qs) o ≡ option_map (later_number (length low)) (option_and_then (node_number ps) o)
+      by : (o : Option (List Part)) → slice_get (children path ps) i ≡ o
+          → option_and_then (node_number qs) o
+          ≡ option_map (later_number (length low)) (option_and_then (node_number ps) o)
       by None is = refl
       by (Some q) is = number_more q (false_from_ne_true (same_path q p) (λ e.
-          differ (is_child path p) (ap (is_child path) (sym ((path_decides q p).0 e)) ∙ filter_get (is_child path) ps i q is) (not_below path some)))
+          differ (is_child path p) (ap (is_child path) (sym ((path_decides q p).0 e))
+          ∙ filter_get (is_child path) ps i q is) (not_below path some)))
 
   last_entered : (path : List Part) → 0 < elements_of path tables
       → option_and_then (node_number qs) (slice_get (children path qs) (length (children path qs) - 1))
-      ≡ option_map (later_number (length low)) (option_and_then (node_number ps) (slice_get (children path ps) (length (children path ps) - 1)))
+      ≡ option_map (later_number (length low))
+      (option_and_then (node_number ps) (slice_get (children path ps) (length (children path ps) - 1)))
   last_entered path some =
-      ap (λ (l : List (List Part)). option_and_then (node_number qs) (slice_get l (length l - 1))) (children_same path some) ∙ last_number path some (length (children path ps) - 1)
+      ap (λ (l : List (List Part)). option_and_then (node_number qs) (slice_get l (length l - 1)))
+      (children_same path some) ∙ last_number path some (length (children path ps) - 1)
 
-  last_same : (path : List Part) → 0 < elements_of path tables → option_map (later_number (length low)) (node_number ps (entered_path tables path)) ≡ node_number qs (entered_path tables path)
+  last_same : (path : List Part) → 0 < elements_of path tables
+      → option_map (later_number (length low)) (node_number ps (entered_path tables path))
+      ≡ node_number qs (entered_path tables path)
   last_same path some = sym (number_more (entered_path tables path) (entered_other path some))
 
   -- ---- with the line
 
   body_there : node_number ps body ≡ None → ⊥
   body_there none =
-      none_there ps body none (Contains-from_any (λ x y e. (path_decides x y).0 e) body ps (node_met body (mentions_in d) ∙ body_is_node d more line))
+      none_there ps body none (Contains-from_any (λ x y e. (path_decides x y).0 e) body ps
+      (node_met body (mentions_in d) ∙ body_is_node d more line))
 
   -- a path above the line's is that of a node
-  not_above : AreNested (mentions_in d) tables → (path rest : List Part) → node_number qs path ≡ None → path ++ rest ≡ p → ⊥
+  not_above : AreNested (mentions_in d) tables → (path rest : List Part) → node_number qs path ≡ None → path ++ rest ≡ p
+      → ⊥
   not_above nested path rest none is = by (snoc_view rest)
     where
       by : (rest ≡ []) ⊎ ((m : List Part) × (x : Part) × (rest ≡ m ++ x ∷ [])) → ⊥
       by (inl e) = is_new (ap (node_number qs) (sym is ∙ ap (λ (l : List Part). path ++ l) e ∙ append-nil path) ∙ none)
       by (inr h) =
-          let longer : (path ++ h.0) ++ h.1 ∷ [] ≡ p = append_assoc path h.0 (h.1 ∷ []) ∙ ap (λ (l : List Part). path ++ l) (sym h.2) ∙ is in
-          let child : is_child (path ++ h.0) p ≡ true = ap (is_child (path ++ h.0)) (sym longer) ∙ child_push (path ++ h.0) (path ++ h.0) h.1 ∙ (path_decides (path ++ h.0) (path ++ h.0)).1 refl in
-          let same : path ++ h.0 ≡ body = (path_decides (path ++ h.0) body).0 (sym (child_push (path ++ h.0) body (key line.text)) ∙ child) in
+          let longer : (path ++ h.0) ++ h.1 ∷ [] ≡ p =
+          append_assoc path h.0 (h.1 ∷ []) ∙ ap (λ (l : List Part). path ++ l) (sym h.2) ∙ is in
+          let child : is_child (path ++ h.0) p ≡ true =
+          ap (is_child (path ++ h.0)) (sym longer) ∙ child_push (path ++ h.0) (path ++ h.0) h.1
+          ∙ (path_decides (path ++ h.0) (path ++ h.0)).1 refl in
+          let same : path ++ h.0 ≡ body =
+          (path_decides (path ++ h.0) body).0 (sym (child_push (path ++ h.0) body (key line.text)) ∙ child) in
           body_there (ap (node_number ps) (sym same) ∙ nested.closed path h.0 (none_old path none))
 
   pub nested_more : AreNested (mentions_in d) tables → AreNested (mentions_in more) tables
@@ -240,36 +289,47 @@ module _ (d more : Document) (line : HasLineMore d more) (fresh : is_node (path_
     where
       closed : (path rest : List Part) → node_number qs path ≡ None → node_number qs (path ++ rest) ≡ None
       closed path rest none =
-          none_new (path ++ rest) (false_from_ne_true (same_path (path ++ rest) p) (λ e. not_above nested path rest none ((path_decides (path ++ rest) p).0 e)))
+          none_new (path ++ rest) (false_from_ne_true (same_path (path ++ rest) p) (λ e.
+          not_above nested path rest none ((path_decides (path ++ rest) p).0 e)))
           (nested.closed path rest (none_old path none))
 
-      listed : (path : List Part) (k : List ℕ) (i : ℕ) → node_number qs (path ++ key k ∷ []) ≡ Some i → list_all (λ role. allows role Element) (mention_roles (path ++ key k ∷ []) (mentions_in more)) ≡ true
+      listed : (path : List Part) (k : List ℕ) (i : ℕ) → node_number qs (path ++ key k ∷ []) ≡ Some i
+          → list_all (λ role. allows role Element) (mention_roles (path ++ key k ∷ []) (mentions_in more)) ≡ true
           → 0 < elements_of (path ++ key k ∷ []) tables
       listed path k i is open_to =
           let q : List Part = path ++ key k ∷ [] in
           let other : same_path q p ≡ false = false_from_ne_true (same_path q p) (λ e.
-          not_open p line.fact mx my (ap may_follow (sym (ap (mention_roles p) said_new)) ∙ ap (λ (l : List Part). may_follow (mention_roles l (mentions_in more))) (sym ((path_decides q p).0 e)) ∙ open_to)) in
+          not_open p line.fact mx my (ap may_follow (sym (ap (mention_roles p) said_new))
+          ∙ ap (λ (l : List Part). may_follow (mention_roles l (mentions_in more))) (sym ((path_decides q p).0 e))
+          ∙ open_to)) in
           let old = map_some (later_number (length low)) (node_number ps q) i (sym (number_more q other) ∙ is) in
           nested.listed path k old.0 old.1 (ap may_follow (sym (roles_same q other)) ∙ open_to)
 
       entered : (path : List Part) (i : ℕ) → node_number qs path ≡ Some i → 0 < elements_of path tables
-          → option_and_then (node_number qs) (slice_get (children path qs) (length (children path qs) - 1)) ≡ node_number qs (entered_path tables path)
+          → option_and_then (node_number qs) (slice_get (children path qs) (length (children path qs) - 1))
+          ≡ node_number qs (entered_path tables path)
       entered path i is some =
           let other : same_path path p ≡ false = false_from_ne_true (same_path path p) (λ e.
-          differ (is_node p (mentions_in d)) (ap (λ (l : List Part). is_node l (mentions_in d)) (sym ((path_decides path p).0 e)) ∙ tables_are_nodes d more line path some) fresh) in
+          differ (is_node p (mentions_in d))
+          (ap (λ (l : List Part). is_node l (mentions_in d)) (sym ((path_decides path p).0 e))
+          ∙ tables_are_nodes d more line path some) fresh) in
           let old = map_some (later_number (length low)) (node_number ps path) i (sym (number_more path other) ∙ is) in
-          last_entered path some ∙ ap (option_map (later_number (length low))) (nested.entered path old.0 old.1 some) ∙ last_same path some
+          last_entered path some ∙ ap (option_map (later_number (length low))) (nested.entered path old.0 old.1 some)
+          ∙ last_same path some
 
   -- ---- without it
 
-  one_number : (o u : Option ℕ) → option_map (later_number (length low)) o ≡ option_map (later_number (length low)) u → o ≡ u
-  one_number o u e = sym (key_back (length low) o) ∙ ap (option_map (earlier_number (length low))) e ∙ key_back (length low) u
+  one_number : (o u : Option ℕ) → option_map (later_number (length low)) o ≡ option_map (later_number (length low)) u
+      → o ≡ u
+  one_number o u e =
+      sym (key_back (length low) o) ∙ ap (option_map (earlier_number (length low))) e ∙ key_back (length low) u
 
   pub nested_less : children p qs ≡ [] → AreNested (mentions_in more) tables → AreNested (mentions_in d) tables
   nested_less alone nested = record { closed = closed; listed = listed; entered = entered }
     where
       none_less : (q : List Part) → same_path q p ≡ false → node_number qs q ≡ None → node_number ps q ≡ None
-      none_less q other none = map_none (later_number (length low)) (node_number ps q) (sym (number_more q other) ∙ none)
+      none_less q other none =
+          map_none (later_number (length low)) (node_number ps q) (sym (number_more q other) ∙ none)
 
       no_child : (x : Part) → node_number qs (p ++ x ∷ []) ≡ None
       no_child x = by (node_number qs (p ++ x ∷ [])) refl
@@ -278,19 +338,22 @@ module _ (d more : Document) (line : HasLineMore d more) (fresh : is_node (path_
           by None e = refl
           by (Some i) e =
               let there = number_is qs (p ++ x ∷ []) i e in
-              absurd (filter_some (is_child p) qs i [] there.0 (ap (is_child p) there.1 ∙ child_push p p x ∙ (path_decides p p).1 refl) alone)
+              absurd (filter_some (is_child p) qs i [] there.0
+              (ap (is_child p) there.1 ∙ child_push p p x ∙ (path_decides p p).1 refl) alone)
 
       below_none : (rest : List Part) → node_number ps (p ++ rest) ≡ None
       below_none [] = ap (node_number ps) (append-nil p) ∙ not_old
       below_none (x ∷ rest) =
           let whole : (p ++ x ∷ []) ++ rest ≡ p ++ x ∷ rest = append_assoc p (x ∷ []) rest in
-          let none : node_number qs (p ++ x ∷ rest) ≡ None = ap (node_number qs) (sym whole) ∙ nested.closed (p ++ x ∷ []) rest (no_child x) in
+          let none : node_number qs (p ++ x ∷ rest) ≡ None =
+          ap (node_number qs) (sym whole) ∙ nested.closed (p ++ x ∷ []) rest (no_child x) in
           none_less (p ++ x ∷ rest) (none_other (p ++ x ∷ rest) none) none
 
       closed : (path rest : List Part) → node_number ps path ≡ None → node_number ps (path ++ rest) ≡ None
       closed path rest none = by (same_path path p) refl
         where
-          longer : (b : Bool) → same_path (path ++ rest) p ≡ b → same_path path p ≡ false → node_number ps (path ++ rest) ≡ None
+          longer : (b : Bool) → same_path (path ++ rest) p ≡ b → same_path path p ≡ false
+              → node_number ps (path ++ rest) ≡ None
           longer true e other = ap (node_number ps) ((path_decides (path ++ rest) p).0 e) ∙ not_old
           longer false e other = none_less (path ++ rest) e (nested.closed path rest (none_new path other none))
 
@@ -301,20 +364,29 @@ module _ (d more : Document) (line : HasLineMore d more) (fresh : is_node (path_
       now : (q : List Part) (j : ℕ) → node_number ps q ≡ Some j → node_number qs q ≡ Some (later_number (length low) j)
       now q j is = number_more q (old_other q j is) ∙ ap (option_map (later_number (length low))) is
 
-      listed : (path : List Part) (k : List ℕ) (i : ℕ) → node_number ps (path ++ key k ∷ []) ≡ Some i → list_all (λ role. allows role Element) (mention_roles (path ++ key k ∷ []) (mentions_in d)) ≡ true
+      listed : (path : List Part) (k : List ℕ) (i : ℕ) → node_number ps (path ++ key k ∷ []) ≡ Some i
+          → list_all (λ role. allows role Element) (mention_roles (path ++ key k ∷ []) (mentions_in d)) ≡ true
           → 0 < elements_of (path ++ key k ∷ []) tables
       listed path k i is open_to =
           let q : List Part = path ++ key k ∷ [] in
-          nested.listed path k (later_number (length low) i) (now q i is) (ap may_follow (roles_same q (old_other q i is)) ∙ open_to)
+          nested.listed path k (later_number (length low) i) (now q i is)
+          (ap may_follow (roles_same q (old_other q i is)) ∙ open_to)
 
       entered : (path : List Part) (i : ℕ) → node_number ps path ≡ Some i → 0 < elements_of path tables
-          → option_and_then (node_number ps) (slice_get (children path ps) (length (children path ps) - 1)) ≡ node_number ps (entered_path tables path)
+          → option_and_then (node_number ps) (slice_get (children path ps) (length (children path ps) - 1))
+          ≡ node_number ps (entered_path tables path)
       entered path i is some =
-          one_number (option_and_then (node_number ps) (slice_get (children path ps) (length (children path ps) - 1))) (node_number ps (entered_path tables path))
-          (sym (last_entered path some) ∙ nested.entered path (later_number (length low) i) (now path i is) some ∙ sym (last_same path some))
+          one_number (option_and_then (node_number ps) (slice_get (children path ps) (length (children path ps) - 1)))
+          (node_number ps (entered_path tables path))
+          (sym (last_entered path some) ∙ nested.entered path (later_number (length low) i) (now path i is) some
+          ∙ sym (last_same path some))
 
 pub line_is_nested : LineIsNested
-line_is_nested d more line fresh obeys nested = subst (AreNested (mentions_in more)) (sym (tables_same d more line fresh obeys)) (nested_more d more line fresh obeys nested)
+line_is_nested d more line fresh obeys nested =
+    subst (AreNested (mentions_in more)) (sym (tables_same d more line fresh obeys))
+    (nested_more d more line fresh obeys nested)
 
 pub line_leaves_nested : LineLeavesNested
-line_leaves_nested d more line fresh obeys alone nested = nested_less d more line fresh obeys alone (subst (AreNested (mentions_in more)) (tables_same d more line fresh obeys) nested)
+line_leaves_nested d more line fresh obeys alone nested =
+    nested_less d more line fresh obeys alone
+    (subst (AreNested (mentions_in more)) (tables_same d more line fresh obeys) nested)

@@ -7,7 +7,8 @@
 -- later one may be (`later_begun`, `later_define` and the others).
 --
 -- Theorem: `node_joined`: the facts after one more mention are the facts before, joined with its own.
-use Rattle.std.proofs.Common.{◌≡◌, ℕ, ◌+◌, ◌<◌, ◌-◌, Bool, true, false, cond, ◌||◌, List, [], ◌∷◌, ◌++◌, map, refl, sym, ap, ◌∙◌, arith, Option, Some, None}
+use Rattle.std.proofs.Common.{◌≡◌, ℕ, ◌+◌, ◌<◌, ◌-◌, Bool, true, false, cond, ◌||◌, List, [], ◌∷◌, ◌++◌, map, refl, sym}
+use Rattle.std.proofs.Common.{ap, ◌∙◌, arith, Option, Some, None}
 use Rattle.std.specs.Prelude.{◌==◌, ◌^◌, min}
 use Rattle.std.specs.List.{list_any, filter_map, count_by}
 use Rattle.std.specs.Option.{option_map}
@@ -24,9 +25,13 @@ use Rattle.keep_types.specs.declared.node.Origin.TheVariants as origin
 use Rattle.keep_types.specs.declared.node.NodeInfo.{NodeInfo}
 use Rattle.keep_meaning.specs.Fact.{Fact, table}
 use Rattle.keep_path.specs.Path.{Part}
-use Rattle.keep_meaning.specs.Marks.{MentionKind, through, past, define, element, dotted, value, begun, passed, item, fact_of}
+use Rattle.keep_meaning.specs.Marks.{MentionKind, through, past, define, element, dotted, value, begun, passed, item}
+use Rattle.keep_meaning.specs.Marks.{fact_of}
 use Rattle.keep_meaning.specs.Counts.{Count, Numbered, is_value, is_mark}
-use Rattle.keep_meaning.specs.Nodes.{first_of, is_through, is_define, is_element, is_dotted, is_begun, is_passed, kind_or_table, mentioned_kind, mention_kind_of, last_number, first_number, statement_number, value_number, key_number, first_that_fits, mentioned_origin, mentioned_node, node_info}
+use Rattle.keep_meaning.specs.Nodes.{first_of, is_through, is_define, is_element, is_dotted, is_begun, is_passed}
+use Rattle.keep_meaning.specs.Nodes.{kind_or_table, mentioned_kind, mention_kind_of, last_number, first_number}
+use Rattle.keep_meaning.specs.Nodes.{statement_number, value_number, key_number, first_that_fits, mentioned_origin}
+use Rattle.keep_meaning.specs.Nodes.{mentioned_node, node_info}
 use Rattle.keep_index_store.specs.Facts.{later_kind, later_origin, joined_info}
 use Rattle.keep_rules.specs.MentionInfos.{mention_info}
 use Rattle.keep_meaning.proofs.Shared.{marks-more, last_number-more, or_number, first_number-more, passed-more}
@@ -50,7 +55,8 @@ tables_joined true facts = refl
 tables_joined false facts = refl
 
 kind_more : (b : Bool) (facts : List Fact) (s : MentionKind) → is_value s ≡ false
-    → kind_of (b || list_any is_element (s ∷ [])) (facts ++ filter_map fact_of (s ∷ [])) ≡ later_kind (kind_of b facts) (mentioned_kind (s ∷ []))
+    → kind_of (b || list_any is_element (s ∷ [])) (facts ++ filter_map fact_of (s ∷ []))
+    ≡ later_kind (kind_of b facts) (mentioned_kind (s ∷ []))
 kind_more b facts through h = no_fact b facts
 kind_more b facts past h = no_fact b facts
 kind_more b facts define h = table_joined b facts
@@ -61,10 +67,12 @@ kind_more b facts passed h = no_fact b facts
 kind_more b facts (value f) h = cc
 kind_more b facts (item f) h = cc
 
-mentioned_kind-more : (mention_kind : List MentionKind) (s : MentionKind) → is_value s ≡ false → mentioned_kind (mention_kind ++ s ∷ []) ≡ later_kind (mentioned_kind mention_kind) (mentioned_kind (s ∷ []))
+mentioned_kind-more : (mention_kind : List MentionKind) (s : MentionKind) → is_value s ≡ false
+    → mentioned_kind (mention_kind ++ s ∷ []) ≡ later_kind (mentioned_kind mention_kind) (mentioned_kind (s ∷ []))
 mentioned_kind-more mention_kind s h =
     ap (λ b. kind_of b (filter_map fact_of (mention_kind ++ s ∷ []))) (list_any-append is_element mention_kind (s ∷ []))
-    ∙ ap (kind_of (list_any is_element mention_kind || list_any is_element (s ∷ []))) (filter_map-append fact_of mention_kind (s ∷ []))
+    ∙ ap (kind_of (list_any is_element mention_kind || list_any is_element (s ∷ [])))
+    (filter_map-append fact_of mention_kind (s ∷ []))
     ∙ kind_more (list_any is_element mention_kind) (filter_map fact_of mention_kind) s h
 
 -- ---- the first key part that names it
@@ -79,11 +87,14 @@ some_marks k = grind (arith, nat_tests)
 no_more : (k : ℕ) → 0 + k ≡ k
 no_more k = omega arith
 
-unmarked : (ns : List Numbered) → (count_by (λ n. is_mark n.mention.kind) ns == 0) ≡ is_missing (first_number is_mark key_number ns)
+unmarked : (ns : List Numbered)
+    → (count_by (λ n. is_mark n.mention.kind) ns == 0) ≡ is_missing (first_number is_mark key_number ns)
 unmarked [] = refl
 unmarked (n ∷ ns) =
     ap (λ k. k == 0) (sum_by-cons (λ (m : Numbered). cond (is_mark m.mention.kind) 1 0) n ns)
-    ∙ elim (is_mark n.mention.kind) as (λ b. (cond b 1 0 + count_by (λ n. is_mark n.mention.kind) ns == 0) ≡ is_missing (cond b (Some (key_number n.before)) (first_number is_mark key_number ns))) [
+    ∙ elim (is_mark n.mention.kind) as
+    (λ b. (cond b 1 0 + count_by (λ n. is_mark n.mention.kind) ns == 0)
+    ≡ is_missing (cond b (Some (key_number n.before)) (first_number is_mark key_number ns))) [
       | true ↦ some_marks (count_by (λ n. is_mark n.mention.kind) ns)
       | false ↦ ap (λ k. k == 0) (no_more (count_by (λ n. is_mark n.mention.kind) ns)) ∙ unmarked ns
     ]
@@ -104,7 +115,8 @@ placed a b c d e f = first_that_fits (
     ∷ option_map origin.Through f
     ∷ [])
 
-later_element : (a b c d e f : Option ℕ) (i : ℕ) → placed a (Some i) c d e f ≡ later_origin (placed a b c d e f) origin.Tables
+later_element : (a b c d e f : Option ℕ) (i : ℕ)
+    → placed a (Some i) c d e f ≡ later_origin (placed a b c d e f) origin.Tables
 later_element (Some j) b c d e f i = refl
 later_element None (Some j) c d e f i = refl
 later_element None None (Some j) d e f i = refl
@@ -113,7 +125,8 @@ later_element None None None None (Some j) f i = refl
 later_element None None None None None (Some j) i = refl
 later_element None None None None None None i = refl
 
-later_begun : (a b c d e f : Option ℕ) (i : ℕ) → placed a b (Some i) d e f ≡ later_origin (placed a b c d e f) (origin.Element i)
+later_begun : (a b c d e f : Option ℕ) (i : ℕ)
+    → placed a b (Some i) d e f ≡ later_origin (placed a b c d e f) (origin.Element i)
 later_begun (Some j) b c d e f i = refl
 later_begun None (Some j) c d e f i = refl
 later_begun None None (Some j) d e f i = refl
@@ -122,7 +135,8 @@ later_begun None None None None (Some j) f i = refl
 later_begun None None None None None (Some j) i = refl
 later_begun None None None None None None i = refl
 
-later_define : (a b c d e f : Option ℕ) (i : ℕ) → placed a b c (Some i) e f ≡ later_origin (placed a b c d e f) (origin.Header i)
+later_define : (a b c d e f : Option ℕ) (i : ℕ)
+    → placed a b c (Some i) e f ≡ later_origin (placed a b c d e f) (origin.Header i)
 later_define (Some j) b c d e f i = refl
 later_define None (Some j) c d e f i = refl
 later_define None None (Some j) d e f i = refl
@@ -131,7 +145,8 @@ later_define None None None None (Some j) f i = refl
 later_define None None None None None (Some j) i = refl
 later_define None None None None None None i = refl
 
-later_dotted : (a b c d e f : Option ℕ) (i : ℕ) → placed a b c d (Some i) f ≡ later_origin (placed a b c d e f) (origin.Dotted i)
+later_dotted : (a b c d e f : Option ℕ) (i : ℕ)
+    → placed a b c d (Some i) f ≡ later_origin (placed a b c d e f) (origin.Dotted i)
 later_dotted (Some j) b c d e f i = refl
 later_dotted None (Some j) c d e f i = refl
 later_dotted None None (Some j) d e f i = refl
@@ -140,7 +155,8 @@ later_dotted None None None None (Some j) f i = refl
 later_dotted None None None None None (Some j) i = refl
 later_dotted None None None None None None i = refl
 
-later_through : (a b c d e f : Option ℕ) (i : ℕ) → placed a b c d e (Some i) ≡ later_origin (placed a b c d e f) (origin.Through i)
+later_through : (a b c d e f : Option ℕ) (i : ℕ)
+    → placed a b c d e (Some i) ≡ later_origin (placed a b c d e f) (origin.Through i)
 later_through (Some j) b c d e f i = refl
 later_through None (Some j) c d e f i = refl
 later_through None None (Some j) d e f i = refl
@@ -162,9 +178,13 @@ abbrev number_if : Bool → ℕ → Option ℕ → Option ℕ
 number_if b i known = cond b (Some i) known
 
 place_more : (k : Count) (a b c d e f : Option ℕ) (s : MentionKind) → is_value s ≡ false
-    → placed (number_if (is_value s) k.values a) (number_if (is_element s) k.statements b) (number_if (is_begun s) k.statements c) (number_if (is_define s) k.statements d) (number_if (is_dotted s) k.values e) (number_if (is_through s) k.statements f)
+    → placed (number_if (is_value s) k.values a) (number_if (is_element s) k.statements b)
+    (number_if (is_begun s) k.statements c) (number_if (is_define s) k.statements d)
+    (number_if (is_dotted s) k.values e) (number_if (is_through s) k.statements f)
     ≡ later_origin (placed a b c d e f)
-    (placed (number_if (is_value s) k.values None) (number_if (is_element s) k.statements None) (number_if (is_begun s) k.statements None) (number_if (is_define s) k.statements None) (number_if (is_dotted s) k.values None) (number_if (is_through s) k.statements None))
+    (placed (number_if (is_value s) k.values None) (number_if (is_element s) k.statements None)
+    (number_if (is_begun s) k.statements None) (number_if (is_define s) k.statements None)
+    (number_if (is_dotted s) k.values None) (number_if (is_through s) k.statements None))
 place_more k a b c d e f through h = later_through a b c d e f k.statements
 place_more k a b c d e f past h = later_root (placed a b c d e f)
 place_more k a b c d e f define h = later_define a b c d e f k.statements
@@ -175,7 +195,8 @@ place_more k a b c d e f passed h = later_root (placed a b c d e f)
 place_more k a b c d e f (value x) h = cc
 place_more k a b c d e f (item x) h = cc
 
-mentioned_origin-more : (ns : List Numbered) (n : Numbered) → is_value n.mention.kind ≡ false → mentioned_origin (ns ++ n ∷ []) ≡ later_origin (mentioned_origin ns) (mentioned_origin (n ∷ []))
+mentioned_origin-more : (ns : List Numbered) (n : Numbered) → is_value n.mention.kind ≡ false
+    → mentioned_origin (ns ++ n ∷ []) ≡ later_origin (mentioned_origin ns) (mentioned_origin (n ∷ []))
 mentioned_origin-more ns n h = rw (
   last_number-more is_value value_number ns n,
   last_number-more is_element statement_number ns n,
@@ -183,32 +204,42 @@ mentioned_origin-more ns n h = rw (
   last_number-more is_define statement_number ns n,
   last_number-more is_dotted value_number ns n,
   last_number-more is_through statement_number ns n,
-) (place_more n.before (last_number is_value value_number ns) (last_number is_element statement_number ns) (last_number is_begun statement_number ns) (last_number is_define statement_number ns) (last_number is_dotted value_number ns) (last_number is_through statement_number ns) n.mention.kind h)
+) (place_more n.before (last_number is_value value_number ns) (last_number is_element statement_number ns)
+    (last_number is_begun statement_number ns) (last_number is_define statement_number ns)
+    (last_number is_dotted value_number ns) (last_number is_through statement_number ns) n.mention.kind h)
 
 -- ---- all of it
 
-same_info : (a b : NodeInfo) → a.kind ≡ b.kind → a.key ≡ b.key → a.marks ≡ b.marks → a.passed ≡ b.passed → a.origin ≡ b.origin → a ≡ b
+same_info : (a b : NodeInfo) → a.kind ≡ b.kind → a.key ≡ b.key → a.marks ≡ b.marks → a.passed ≡ b.passed
+    → a.origin ≡ b.origin → a ≡ b
 same_info a b k n m p q =
     let fields : record { kind = a.kind; key = a.key; marks = a.marks; passed = a.passed; origin = a.origin }
     ≡ record { kind = b.kind; key = b.key; marks = b.marks; passed = b.passed; origin = b.origin } = cc in
     fields
 
 module _ (p : List Part) (ns : List Numbered) (n : Numbered) (given : is_value n.mention.kind ≡ false) where
-  key_joined : (mentioned_node p (ns ++ n ∷ [])).key ≡ (joined_info (node_info (mentioned_node p ns)) (mention_info n)).key
+  key_joined : (mentioned_node p (ns ++ n ∷ [])).key
+      ≡ (joined_info (node_info (mentioned_node p ns)) (mention_info n)).key
   key_joined =
       first_number-more is_mark key_number ns n
-      ∙ first_key (first_number is_mark key_number ns) (first_number is_mark key_number (n ∷ [])) (count_by (λ n. is_mark n.mention.kind) ns == 0) (unmarked ns)
+      ∙ first_key (first_number is_mark key_number ns) (first_number is_mark key_number (n ∷ []))
+      (count_by (λ n. is_mark n.mention.kind) ns == 0) (unmarked ns)
 
-  marks_joined : (mentioned_node p (ns ++ n ∷ [])).marks < 2 ^ 64 → (mentioned_node p (ns ++ n ∷ [])).marks ≡ min ((mentioned_node p ns).marks + (mention_info n).marks) (2 ^ 64 - 1)
+  marks_joined : (mentioned_node p (ns ++ n ∷ [])).marks < 2 ^ 64
+      → (mentioned_node p (ns ++ n ∷ [])).marks
+      ≡ min ((mentioned_node p ns).marks + (mention_info n).marks) (2 ^ 64 - 1)
   marks_joined h = omega (arith, marks-more p ns n)
 
   passed_joined : (mentioned_node p (ns ++ n ∷ [])).passed ≡ ((mentioned_node p ns).passed || (mention_info n).passed)
-  passed_joined = passed-more p ns n ∙ ap (λ b. (mentioned_node p ns).passed || b) (sym (or-false (is_passed n.mention.kind)))
+  passed_joined =
+      passed-more p ns n ∙ ap (λ b. (mentioned_node p ns).passed || b) (sym (or-false (is_passed n.mention.kind)))
 
-  pub node_joined : (mentioned_node p (ns ++ n ∷ [])).marks < 2 ^ 64 → node_info (mentioned_node p (ns ++ n ∷ [])) ≡ joined_info (node_info (mentioned_node p ns)) (mention_info n)
+  pub node_joined : (mentioned_node p (ns ++ n ∷ [])).marks < 2 ^ 64
+      → node_info (mentioned_node p (ns ++ n ∷ [])) ≡ joined_info (node_info (mentioned_node p ns)) (mention_info n)
   node_joined h =
       same_info _ _
-      (ap mentioned_kind (map-append mention_kind_of ns (n ∷ [])) ∙ mentioned_kind-more (map mention_kind_of ns) n.mention.kind given)
+      (ap mentioned_kind (map-append mention_kind_of ns (n ∷ []))
+      ∙ mentioned_kind-more (map mention_kind_of ns) n.mention.kind given)
       key_joined
       (marks_joined h)
       passed_joined

@@ -11,22 +11,29 @@ use Rattle.keep_rules.proofs.PathStepLemmas.{encoded_more, step_text}
 
 module _ (nodes : List TrieNode) (trie : IsTrie nodes) where
   -- a path has a step more than that of its node's parent
-  pub step_more : (node : ℕ) → 0 < node → node < length nodes → length (path_at nodes node) ≡ length (path_at nodes (parent_at nodes node)) + 1
+  pub step_more : (node : ℕ) → 0 < node → node < length nodes
+      → length (path_at nodes node) ≡ length (path_at nodes (parent_at nodes node)) + 1
   step_more node later within =
-      ap length (path_linked nodes trie node later within) ∙ length-append (path_at nodes (parent_at nodes node)) (part_at nodes node ∷ [])
+      ap length (path_linked nodes trie node later within)
+      ∙ length-append (path_at nodes (parent_at nodes node)) (part_at nodes node ∷ [])
 
   -- and its text is no shorter
-  text_more : (node : ℕ) → 0 < node → node < length nodes → length (encoded_path (path_at nodes (parent_at nodes node))) ≤ length (encoded_path (path_at nodes node))
+  text_more : (node : ℕ) → 0 < node → node < length nodes
+      → length (encoded_path (path_at nodes (parent_at nodes node))) ≤ length (encoded_path (path_at nodes node))
   text_more node later within =
       let above = path_at nodes (parent_at nodes node) in
       let text : encoded_path (path_at nodes node) ≡ encoded_path above ++ step_text above (part_at nodes node) =
       ap encoded_path (path_linked nodes trie node later within) ∙ encoded_more above (part_at nodes node) in
       omega (arith, ap length text, length-append (encoded_path above) (step_text above (part_at nodes node)))
 
-  pub ancestor_text : (id : ℕ) (ancestors : List ℕ) (top : ℕ) → AreAncestors nodes id ancestors top → length (encoded_path (path_at nodes top)) ≤ length (encoded_path (path_at nodes id))
-  ancestor_text id [] top is = let same : length (encoded_path (path_at nodes id)) ≡ length (encoded_path (path_at nodes top)) = ap (λ i. length (encoded_path (path_at nodes i))) is in omega (arith, same)
+  pub ancestor_text : (id : ℕ) (ancestors : List ℕ) (top : ℕ) → AreAncestors nodes id ancestors top
+      → length (encoded_path (path_at nodes top)) ≤ length (encoded_path (path_at nodes id))
+  ancestor_text id [] top is =
+      let same : length (encoded_path (path_at nodes id)) ≡ length (encoded_path (path_at nodes top)) =
+      ap (λ i. length (encoded_path (path_at nodes i))) is in omega (arith, same)
   ancestor_text id (n ∷ ancestors) top is =
-      let same : length (encoded_path (path_at nodes id)) ≡ length (encoded_path (path_at nodes n)) = ap (λ i. length (encoded_path (path_at nodes i))) is.0 in
+      let same : length (encoded_path (path_at nodes id)) ≡ length (encoded_path (path_at nodes n)) =
+      ap (λ i. length (encoded_path (path_at nodes i))) is.0 in
       omega (arith, same, text_more n is.1 is.2, ancestor_text (parent_at nodes n) ancestors top is.3)
 
 -- the root's path has no step

@@ -1,5 +1,6 @@
 -- A node's path as it is written: the text of its parent's path, and the node's own step after it.
-use Rattle.std.proofs.Common.{◌≡◌, ◌≢◌, ℕ, ◌+◌, ◌<◌, List, [], ◌∷◌, ◌++◌, length, length-append, refl, sym, ◌∙◌, ap, append_assoc, append-nil, inl, inr}
+use Rattle.std.proofs.Common.{◌≡◌, ◌≢◌, ℕ, ◌+◌, ◌<◌, List, [], ◌∷◌, ◌++◌, length, length-append, refl, sym, ◌∙◌, ap}
+use Rattle.std.proofs.Common.{append_assoc, append-nil, inl, inr}
 use Rattle.std.specs.Prelude.{◌==◌, if◌then◌else◌}
 use Rattle.std.specs.List.{flat_map}
 use Rattle.std.proofs.lemmas.Bool.Decides.{eqb_tells}
@@ -24,14 +25,17 @@ step_of_index : (path : List Part) (n : ℕ) → step_text path (index n) ≡ in
 step_of_index [] n = refl
 step_of_index (p ∷ ps) n = refl
 
-pub encoded_more : (path : List Part) (part : Part) → encoded_path (path ++ part ∷ []) ≡ encoded_path path ++ step_text path part
+pub encoded_more : (path : List Part) (part : Part)
+    → encoded_path (path ++ part ∷ []) ≡ encoded_path path ++ step_text path part
 encoded_more [] part = append-nil (first_text part)
 encoded_more (p ∷ ps) part =
-    ap (λ t. first_text p ++ t) (flat_map-append part_text ps (part ∷ []) ∙ ap (λ t. flat_map part_text ps ++ t) (append-nil (part_text part)))
+    ap (λ t. first_text p ++ t) (flat_map-append part_text ps (part ∷ [])
+    ∙ ap (λ t. flat_map part_text ps ++ t) (append-nil (part_text part)))
     ∙ sym (append_assoc (first_text p) (flat_map part_text ps) (part_text part))
 
 -- a step is added to a text that ends in the path before it
-added : (before old new : List ℕ) (path longer : List Part) (part : Part) (text : List ℕ) → path ++ part ∷ [] ≡ longer → step_text path part ≡ text
+added : (before old new : List ℕ) (path longer : List Part) (part : Part) (text : List ℕ) → path ++ part ∷ [] ≡ longer
+    → step_text path part ≡ text
     → old ≡ before ++ encoded_path path → new ≡ old ++ text → new ≡ before ++ encoded_path longer
 added before old new path longer part text is seen o n =
     n ∙ ap (λ t. t ++ text) o
@@ -44,25 +48,31 @@ module _ (nodes : List TrieNode) (trie : IsTrie nodes) (id : ℕ) (later : 0 < i
   above : List Part
   above = path_at nodes (parent_at nodes id)
 
-  key_seen : (up : ℕ) (text : List ℕ) → up ≡ parent_at nodes id → step_text above (key text) ≡ (if up == 0 then encoded_key text else 0x2E ∷ encoded_key text)
+  key_seen : (up : ℕ) (text : List ℕ) → up ≡ parent_at nodes id
+      → step_text above (key text) ≡ (if up == 0 then encoded_key text else 0x2E ∷ encoded_key text)
   unfolding above
   key_seen up text is = elim (eqb_tells up 0) [
     | inl same ↦
-        let empty : path_at nodes (parent_at nodes id) ≡ [] = ap (path_at nodes) (sym is ∙ same.1) ∙ path_at-root nodes in
-        ap (λ (p : List Part). step_text p (key text)) empty ∙ ap (λ b. if b then encoded_key text else 0x2E ∷ encoded_key text) (sym same.0)
+        let empty : path_at nodes (parent_at nodes id) ≡ [] =
+        ap (path_at nodes) (sym is ∙ same.1) ∙ path_at-root nodes in
+        ap (λ (p : List Part). step_text p (key text)) empty
+        ∙ ap (λ b. if b then encoded_key text else 0x2E ∷ encoded_key text) (sym same.0)
     | inr other ↦
-        step_after (path_at nodes (parent_at nodes id)) (key text) (λ bare. other.1 (is ∙ root_alone nodes trie id later within bare))
+        step_after (path_at nodes (parent_at nodes id)) (key text)
+        (λ bare. other.1 (is ∙ root_alone nodes trie id later within bare))
         ∙ ap (λ b. if b then encoded_key text else 0x2E ∷ encoded_key text) (sym other.0)
   ]
 
   -- the step is a key
   pub key_added : (up : ℕ) (text before old new : List ℕ) → up ≡ parent_at nodes id → part_at nodes id ≡ key text
-      → old ≡ before ++ encoded_path (path_at nodes (parent_at nodes id)) → new ≡ old ++ (if up == 0 then encoded_key text else 0x2E ∷ encoded_key text)
+      → old ≡ before ++ encoded_path (path_at nodes (parent_at nodes id))
+      → new ≡ old ++ (if up == 0 then encoded_key text else 0x2E ∷ encoded_key text)
       → new ≡ before ++ encoded_path (path_at nodes id)
   unfolding above
   key_added up text before old new is part o n =
       added before old new (path_at nodes (parent_at nodes id)) (path_at nodes id) (key text) _
-      (step_last nodes trie id later within (path_at nodes (parent_at nodes id)) (key text) part refl) (key_seen up text is) o n
+      (step_last nodes trie id later within (path_at nodes (parent_at nodes id)) (key text) part refl)
+      (key_seen up text is) o n
 
   -- the step is an index
   pub index_added : (number : ℕ) (before old new : List ℕ) → part_at nodes id ≡ index number
@@ -70,18 +80,24 @@ module _ (nodes : List TrieNode) (trie : IsTrie nodes) (id : ℕ) (later : 0 < i
       → new ≡ before ++ encoded_path (path_at nodes id)
   index_added number before old new part o n =
       added before old new (path_at nodes (parent_at nodes id)) (path_at nodes id) (index number) (index_text number)
-      (step_last nodes trie id later within (path_at nodes (parent_at nodes id)) (index number) part refl) (step_of_index (path_at nodes (parent_at nodes id)) number) o n
+      (step_last nodes trie id later within (path_at nodes (parent_at nodes id)) (index number) part refl)
+      (step_of_index (path_at nodes (parent_at nodes id)) number) o n
 
   -- how long the text is then
   pub key_size : (up : ℕ) (text before old : List ℕ) → up ≡ parent_at nodes id → part_at nodes id ≡ key text
       → old ≡ before ++ encoded_path (path_at nodes (parent_at nodes id))
-      → length old + length (if up == 0 then encoded_key text else 0x2E ∷ encoded_key text) ≡ length before + length (encoded_path (path_at nodes id))
+      → length old + length (if up == 0 then encoded_key text else 0x2E ∷ encoded_key text) ≡ length before
+      + length (encoded_path (path_at nodes id))
   key_size up text before old is part o =
       let step : List ℕ = if up == 0 then encoded_key text else 0x2E ∷ encoded_key text in
-      sym (length-append old step) ∙ (ap length (key_added up text before old (old ++ step) is part o refl) ∙ length-append before (encoded_path (path_at nodes id)))
+      sym (length-append old step)
+      ∙ (ap length (key_added up text before old (old ++ step) is part o refl)
+      ∙ length-append before (encoded_path (path_at nodes id)))
 
   pub index_size : (number : ℕ) (before old : List ℕ) → part_at nodes id ≡ index number
       → old ≡ before ++ encoded_path (path_at nodes (parent_at nodes id))
       → length old + length (index_text number) ≡ length before + length (encoded_path (path_at nodes id))
   index_size number before old part o =
-      sym (length-append old (index_text number)) ∙ (ap length (index_added number before old (old ++ index_text number) part o refl) ∙ length-append before (encoded_path (path_at nodes id)))
+      sym (length-append old (index_text number))
+      ∙ (ap length (index_added number before old (old ++ index_text number) part o refl)
+      ∙ length-append before (encoded_path (path_at nodes id)))

@@ -7,7 +7,8 @@
 -- (`read_more`), which begins with the root alone, where no mention is represented (`root_represents`).
 --
 -- Theorems: `read_more`: one statement more; `root_reads`: none yet; `read_obeys`: what was read obeys the rules.
-use Rattle.std.proofs.Common.{◌≡◌, ℕ, zero, suc, ◌<◌, false, List, [], ◌∷◌, ◌++◌, length, get_or, refl, sym, ◌∙◌, ap, subst, arith, length-append, true, cond, Option, Some, None}
+use Rattle.std.proofs.Common.{◌≡◌, ℕ, zero, suc, ◌<◌, false, List, [], ◌∷◌, ◌++◌, length, get_or, refl, sym, ◌∙◌, ap}
+use Rattle.std.proofs.Common.{subst, arith, length-append, true, cond, Option, Some, None}
 use Rattle.std.proofs.lemmas.List.{append_assoc, append-nil}
 use Rattle.keep_syntax.specs.Tree.{Name, Value}
 use Rattle.keep_types.specs.declared.role.Role.{Role}
@@ -15,7 +16,9 @@ use Rattle.keep_types.specs.declared.role.Role.TheVariants.{Define}
 use Rattle.keep_path.specs.Path.{Part, key, index}
 use Rattle.keep_meaning.specs.Rules.{ObeysRules}
 use Rattle.keep_meaning.specs.Marks as marks
-use Rattle.keep_meaning.specs.Marks.{Mention, Statement, Reading, statement_mentions, next_reading, mentions_from, reading_after, mentions, start, elements_of, header, element_header, keyval, define}
+use Rattle.keep_meaning.specs.Marks.{Mention, Statement, Reading, statement_mentions, next_reading, mentions_from}
+use Rattle.keep_meaning.specs.Marks.{reading_after, mentions, start, elements_of, header, element_header, keyval}
+use Rattle.keep_meaning.specs.Marks.{define}
 use Rattle.keep_meaning.specs.Meaning.{keyval_mentions}
 use Rattle.keep_index_store.specs.Trie.{TrieNode, by_key, path_at, state_at, children_of}
 use Rattle.keep_meaning.specs.State.{IsState}
@@ -32,22 +35,31 @@ use Rattle.keep_rules.proofs.StepLemmas.{keeps_then, stays_open}
 use Rattle.keep_rules.proofs.NestedValueLemmas.{keyval_nested-mentions}
 
 -- `[..]`
-pub header_reads : (old mid new : List TrieNode) (at to : ℕ) (leading : List (List ℕ)) (last : List ℕ) → HeaderDescent old mid at leading → IsDefined mid new (path_at mid at ++ key last ∷ []) Define by_key to
+pub header_reads : (old mid new : List TrieNode) (at to : ℕ) (leading : List (List ℕ)) (last : List ℕ)
+    → HeaderDescent old mid at leading → IsDefined mid new (path_at mid at ++ key last ∷ []) Define by_key to
     → (body : ℕ) → Reads old body new to (header (leading ++ last ∷ []))
 header_reads old mid new at to leading last walked marked body ms r reading =
     let ts : List (List Part) = r.tables in
     let p : List Part = descent_path ts [] leading ++ key last ∷ [] in
     let before = walked.represents ms ts reading.represents in
-    let full : path_at mid at ++ key last ∷ [] ≡ p = ap (λ q. q ++ key last ∷ []) (walked.is_open ms ts reading.represents).here in
+    let full : path_at mid at ++ key last ∷ [] ≡ p =
+    ap (λ q. q ++ key last ∷ []) (walked.is_open ms ts reading.represents).here in
     let full' : p ≡ marks.header_path ts [] (leading ++ last ∷ []) = sym (header_path-split ts [] leading last) in
     let step : IsIndexOf new ((ms ++ descent_mentions ts [] leading) ++ record { path = p; kind = define } ∷ []) =
-    subst (λ (q : List Part). IsIndexOf new ((ms ++ descent_mentions ts [] leading) ++ record { path = q; kind = define } ∷ [])) full (marked.index (ms ++ descent_mentions ts [] leading) define refl before.index) in
-    let whole : (ms ++ descent_mentions ts [] leading) ++ record { path = p; kind = define } ∷ [] ≡ ms ++ statement_mentions r (header (leading ++ last ∷ [])) =
+    subst (λ (q : List Part).
+    IsIndexOf new ((ms ++ descent_mentions ts [] leading) ++ record { path = q; kind = define } ∷ [])) full
+    (marked.index (ms ++ descent_mentions ts [] leading) define refl before.index) in
+    let whole : (ms ++ descent_mentions ts [] leading) ++ record { path = p; kind = define } ∷ [] ≡ ms
+    ++ statement_mentions r (header (leading ++ last ∷ [])) =
     append_assoc ms (descent_mentions ts [] leading) (record { path = p; kind = define } ∷ [])
     ∙ ap (λ w. ms ++ (w ++ record { path = p; kind = define } ∷ [])) (sym (header_prefixes-split ts [] leading last))
-    ∙ ap (λ q. ms ++ (marks.header_prefixes ts [] (leading ++ last ∷ []) ++ record { path = q; kind = define } ∷ [])) full' in
+    ∙ ap (λ q. ms ++ (marks.header_prefixes ts [] (leading ++ last ∷ []) ++ record { path = q; kind = define } ∷ []))
+    full' in
     record {
-      represents = subst (λ (w : List Mention). Represents new w ts) whole (represents_marked marked refl (ms ++ descent_mentions ts [] leading) (record { path = p; kind = define } ∷ []) ts step before);
+      represents =
+          subst (λ (w : List Mention). Represents new w ts) whole
+          (represents_marked marked refl (ms ++ descent_mentions ts [] leading)
+          (record { path = p; kind = define } ∷ []) ts step before);
       rooted = (keeps_then walked.keeps marked.keeps).holdings 0 reading.represents.index.trie.root ∙ reading.rooted;
       is_open = record {
         nested = marked.nested;
@@ -57,58 +69,82 @@ header_reads old mid new at to leading last walked marked body ms r reading =
     }
 
 -- `[[..]]`
-pub element_reads : (old mid new : List TrieNode) (at to : ℕ) (leading : List (List ℕ)) (last : List ℕ) → HeaderDescent old mid at leading → Begins mid new at to last
+pub element_reads : (old mid new : List TrieNode) (at to : ℕ) (leading : List (List ℕ)) (last : List ℕ)
+    → HeaderDescent old mid at leading → Begins mid new at to last
     → (body : ℕ) → Reads old body new to (element_header (leading ++ last ∷ []))
 element_reads old mid new at to leading last walked begun body ms r reading =
     let ts : List (List Part) = r.tables in
     let p : List Part = descent_path ts [] leading ++ key last ∷ [] in
     let hp : List Part = marks.header_path ts [] (leading ++ last ∷ []) in
     let before = walked.represents ms ts reading.represents in
-    let full : path_at mid at ++ key last ∷ [] ≡ hp = ap (λ q. q ++ key last ∷ []) (walked.is_open ms ts reading.represents).here ∙ sym (header_path-split ts [] leading last) in
-    let two : List Part → List Mention = λ q. record { path = q; kind = marks.element } ∷ record { path = q ++ index (elements_of q ts) ∷ []; kind = marks.begun } ∷ [] in
+    let full : path_at mid at ++ key last ∷ [] ≡ hp =
+    ap (λ q. q ++ key last ∷ []) (walked.is_open ms ts reading.represents).here
+    ∙ sym (header_path-split ts [] leading last) in
+    let two : List Part → List Mention =
+    λ q. record { path = q; kind = marks.element }
+    ∷ record { path = q ++ index (elements_of q ts) ∷ []; kind = marks.begun } ∷ [] in
     let step : Represents new ((ms ++ descent_mentions ts [] leading) ++ two hp) (ts ++ hp ∷ []) =
-    subst (λ (q : List Part). Represents new ((ms ++ descent_mentions ts [] leading) ++ two q) (ts ++ q ∷ [])) full (begun.represents (ms ++ descent_mentions ts [] leading) ts before) in
-    let whole : (ms ++ descent_mentions ts [] leading) ++ two hp ≡ ms ++ statement_mentions r (element_header (leading ++ last ∷ [])) =
-    append_assoc ms (descent_mentions ts [] leading) (two hp) ∙ ap (λ w. ms ++ (w ++ two hp)) (sym (header_prefixes-split ts [] leading last)) in
+    subst (λ (q : List Part). Represents new ((ms ++ descent_mentions ts [] leading) ++ two q) (ts ++ q ∷ [])) full
+    (begun.represents (ms ++ descent_mentions ts [] leading) ts before) in
+    let whole : (ms ++ descent_mentions ts [] leading) ++ two hp ≡ ms
+    ++ statement_mentions r (element_header (leading ++ last ∷ [])) =
+    append_assoc ms (descent_mentions ts [] leading) (two hp)
+    ∙ ap (λ w. ms ++ (w ++ two hp)) (sym (header_prefixes-split ts [] leading last)) in
     record {
       represents = subst (λ (w : List Mention). Represents new w (ts ++ hp ∷ [])) whole step;
       rooted = (keeps_then walked.keeps begun.keeps).holdings 0 reading.represents.index.trie.root ∙ reading.rooted;
-      is_open = subst (λ (q : List Part). IsOpen new to (q ++ index (elements_of q ts) ∷ [])) full (begun.is_open (ms ++ descent_mentions ts [] leading) ts before);
+      is_open =
+          subst (λ (q : List Part). IsOpen new to (q ++ index (elements_of q ts) ∷ [])) full
+          (begun.is_open (ms ++ descent_mentions ts [] leading) ts before);
     }
 
 -- a keyval, whose values were all read
 pub keyval_reads : (old new : List TrieNode) (body : ℕ) (name : Name) (v : Value) → Keeps old new
-    → ((ms : List Mention) (r : Reading) → IsReading old body ms r → Represents new (ms ++ all_nested_mentions (body_nesting r.body) (keyval_nested name v)) r.tables)
+    → ((ms : List Mention) (r : Reading) → IsReading old body ms r
+    → Represents new (ms ++ all_nested_mentions (body_nesting r.body) (keyval_nested name v)) r.tables)
     → Reads old body new body (keyval (keyval_mentions name v))
 keyval_reads old new body name v keeps represents ms r reading = record {
-  represents = subst (λ (w : List Mention). Represents new (ms ++ w) r.tables) (keyval_nested-mentions r.body name v) (represents ms r reading);
+  represents =
+      subst (λ (w : List Mention). Represents new (ms ++ w) r.tables) (keyval_nested-mentions r.body name v)
+      (represents ms r reading);
   rooted = keeps.holdings 0 reading.represents.index.trie.root ∙ reading.rooted;
   is_open = stays_open keeps reading.is_open;
 }
 
 -- ---- statement after statement
 
-pub mentions_from-append : (r : Reading) (ss ts : List Statement) → mentions_from r (ss ++ ts) ≡ mentions_from r ss ++ mentions_from (reading_after r ss) ts
+pub mentions_from-append : (r : Reading) (ss ts : List Statement)
+    → mentions_from r (ss ++ ts) ≡ mentions_from r ss ++ mentions_from (reading_after r ss) ts
 mentions_from-append r [] ts = refl
-mentions_from-append r (s ∷ ss) ts = ap (λ w. statement_mentions r s ++ w) (mentions_from-append (next_reading r s) ss ts) ∙ sym (append_assoc (statement_mentions r s) (mentions_from (next_reading r s) ss) (mentions_from (reading_after (next_reading r s) ss) ts))
+mentions_from-append r (s ∷ ss) ts =
+    ap (λ w. statement_mentions r s ++ w) (mentions_from-append (next_reading r s) ss ts)
+    ∙ sym (append_assoc (statement_mentions r s) (mentions_from (next_reading r s) ss)
+    (mentions_from (reading_after (next_reading r s) ss) ts))
 
-pub reading_after-push : (r : Reading) (ss : List Statement) (s : Statement) → reading_after r (ss ++ s ∷ []) ≡ next_reading (reading_after r ss) s
+pub reading_after-push : (r : Reading) (ss : List Statement) (s : Statement)
+    → reading_after r (ss ++ s ∷ []) ≡ next_reading (reading_after r ss) s
 reading_after-push r [] s = refl
 reading_after-push r (t ∷ ss) s = reading_after-push (next_reading r t) ss s
 
 abbrev pub IsReadTo : List TrieNode → ℕ → List Statement → Type 0
 IsReadTo nodes body ss = IsReading nodes body (mentions_from start ss) (reading_after start ss)
 
-pub read_more : (old new : List TrieNode) (body to : ℕ) (ss : List Statement) (s : Statement) → IsReadTo old body ss → Reads old body new to s → IsReadTo new to (ss ++ s ∷ [])
+pub read_more : (old new : List TrieNode) (body to : ℕ) (ss : List Statement) (s : Statement) → IsReadTo old body ss
+    → Reads old body new to s → IsReadTo new to (ss ++ s ∷ [])
 read_more old new body to ss s before reads =
     let r : Reading = reading_after start ss in
-    let step : IsReading new to (mentions_from start ss ++ statement_mentions r s) (next_reading r s) = reads (mentions_from start ss) r before in
+    let step : IsReading new to (mentions_from start ss ++ statement_mentions r s) (next_reading r s) =
+    reads (mentions_from start ss) r before in
     let mentioned : mentions_from start ss ++ statement_mentions r s ≡ mentions_from start (ss ++ s ∷ []) =
-    ap (λ w. mentions_from start ss ++ w) (sym (append-nil (statement_mentions r s))) ∙ sym (mentions_from-append start ss (s ∷ [])) in
-    let one : IsReading new to (mentions_from start (ss ++ s ∷ [])) (next_reading r s) = subst (λ (w : List Mention). IsReading new to w (next_reading r s)) mentioned step in
-    subst (λ (x : Reading). IsReading new to (mentions_from start (ss ++ s ∷ [])) x) (sym (reading_after-push start ss s)) one
+    ap (λ w. mentions_from start ss ++ w) (sym (append-nil (statement_mentions r s)))
+    ∙ sym (mentions_from-append start ss (s ∷ [])) in
+    let one : IsReading new to (mentions_from start (ss ++ s ∷ [])) (next_reading r s) =
+    subst (λ (w : List Mention). IsReading new to w (next_reading r s)) mentioned step in
+    subst (λ (x : Reading). IsReading new to (mentions_from start (ss ++ s ∷ [])) x)
+    (sym (reading_after-push start ss s)) one
 
-pub read_obeys : (nodes : List TrieNode) (body : ℕ) (ss : List Statement) → IsReadTo nodes body ss → ObeysRules (marks.marks (mentions ss))
+pub read_obeys : (nodes : List TrieNode) (body : ℕ) (ss : List Statement) → IsReadTo nodes body ss
+    → ObeysRules (marks.marks (mentions ss))
 read_obeys nodes body ss reading = reading.represents.index.states_represent.obeys
 
 -- ---- before any statement

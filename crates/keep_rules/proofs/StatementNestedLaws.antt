@@ -5,7 +5,8 @@
 -- it enters. The element that a `[[..]]` begins is new, and the last one of its array.
 --
 -- Theorem: `statement_is_nested`.
-use Rattle.std.proofs.Common.{◌≡◌, ℕ, ◌-◌, ◌<◌, Bool, true, false, cond, List, [], ◌∷◌, ◌++◌, refl, sym, ap, subst, ◌∙◌, arith, append_assoc, append-nil, Some}
+use Rattle.std.proofs.Common.{◌≡◌, ℕ, ◌-◌, ◌<◌, Bool, true, false, cond, List, [], ◌∷◌, ◌++◌, refl, sym, ap, subst, ◌∙◌}
+use Rattle.std.proofs.Common.{arith, append_assoc, append-nil, Some}
 use Rattle.std.specs.Prelude.{◌==◌}
 use Rattle.std.specs.List.{cons_option, list_any}
 use Rattle.std.proofs.lemmas.Bool.{false_from_ne_true}
@@ -14,19 +15,25 @@ use Rattle.keep_syntax.specs.Tree.{Document}
 use Rattle.keep_path.specs.Path.{Part, key, index, last_part, same_path}
 use Rattle.keep_path.proofs.Shared.{last_pushed, path_decides}
 use Rattle.keep_meaning.specs.Counts.{statements_in}
-use Rattle.keep_meaning.specs.Marks.{Mention, Reading, Statement, begun, define, element, element_header, elements_of, entered_path, header, header_path, header_prefixes, keyval, marks, mentions_from, next_reading, passed, passing_mentions, past, reading_after, role_of, start, statement_mentions, through}
+use Rattle.keep_meaning.specs.Marks.{Mention, Reading, Statement, begun, define, element, element_header, elements_of}
+use Rattle.keep_meaning.specs.Marks.{entered_path, header, header_path, header_prefixes, keyval, marks, mentions_from}
+use Rattle.keep_meaning.specs.Marks.{next_reading, passed, passing_mentions, past, reading_after, role_of, start}
+use Rattle.keep_meaning.specs.Marks.{statement_mentions, through}
 use Rattle.keep_meaning.specs.Meaning.{mentions_in}
 use Rattle.keep_meaning.specs.Nodes.{node_paths, paths_with}
 use Rattle.keep_meaning.specs.Rules.{ObeysRules}
 use Rattle.keep_meaning.specs.StatementsMore.{HasStatementMore, reading_at_end}
-use Rattle.keep_meaning.proofs.Shared.{element_has_key, element_has_no_element, element_is_new, element_is_node, header_has_key, mentions_in-statements, node_met, root_has_no_element, table_is_node}
+use Rattle.keep_meaning.proofs.Shared.{element_has_key, element_has_no_element, element_is_new, element_is_node}
+use Rattle.keep_meaning.proofs.Shared.{header_has_key, mentions_in-statements, node_met, root_has_no_element}
+use Rattle.keep_meaning.proofs.Shared.{table_is_node}
 use Rattle.keep_rules.specs.LinesNested.{NodesAreNested}
 use Rattle.keep_rules.specs.Nested.{AreNested}
 use Rattle.keep_rules.specs.StatementsNested.{StatementIsNested}
 use Rattle.keep_rules.specs.StatementsTold.{IsHeader}
 use Rattle.keep_rules.proofs.AllInfoLemmas.{met_own, met_with}
 use Rattle.keep_rules.proofs.LineNestedLaws.{differ, may_follow, reading_after-append}
-use Rattle.keep_rules.proofs.NestedGrowthLemmas.{AreEntered, AreListed, AreMet, IsClosed, IsThere, closed_push, entered_begun, entered_push, listed_push, paths_push, there_before}
+use Rattle.keep_rules.proofs.NestedGrowthLemmas.{AreEntered, AreListed, AreMet, IsClosed, IsThere, closed_push}
+use Rattle.keep_rules.proofs.NestedGrowthLemmas.{entered_begun, entered_push, listed_push, paths_push, there_before}
 use Rattle.keep_rules.proofs.NestedLemmas.{enters}
 use Rattle.keep_rules.proofs.ReadLemmas.{mentions_from-append}
 use Rattle.keep_rules.proofs.TablesLemmas.{elements_here, elements_other}

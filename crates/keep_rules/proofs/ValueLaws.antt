@@ -7,8 +7,10 @@
 -- of a single leaf is a value of this leaf, and what the leaf means is what the value means (`scalar_read`,
 -- `scalar_means`).
 --
--- Theorems: `holds`: what is known of a value that was read; `kind_read`; `no_value`: why there is none; `strict_value`.
-use Rattle.std.proofs.Common.{◌≡◌, ℕ, ℤ, Bool, true, false, List, refl, sym, subst, ◌∙◌, ap, inl, inr, arith, slice_get, Some, None}
+-- Theorems: `holds`: what is known of a value that was read; `kind_read`; `no_value`: why there is none;
+-- `strict_value`.
+use Rattle.std.proofs.Common.{◌≡◌, ℕ, ℤ, Bool, true, false, List, refl, sym, subst, ◌∙◌, ap, inl, inr, arith, slice_get}
+use Rattle.std.proofs.Common.{Some, None}
 use Rattle.std.specs.Prelude.{◌↔◌, IsTrue, codes}
 use Rattle.std.proofs.lemmas.List.{append-nil}
 use Rattle.keep_types.specs.declared.leaf.Leaf.{Leaf}
@@ -41,29 +43,36 @@ use Rattle.keep_meaning.proofs.Shared.{means_value}
 use Rattle.keep_rules.specs.ValueTexts.{limit, IsTextOfFact, IsTextOfValue, IsAcceptedValue, IsRefusedValue, HoldsValue}
 
 -- one text has one value
-pub one_tree : (profile : Profile) (bytes : List ℕ) (v w : Value) → IsValueText profile limit bytes v → IsValueText profile limit bytes w → v ≡ w
-one_tree profile bytes v w h k = one_value profile v w h.reads.valid k.reads.valid (sym h.reads.spelled ∙ k.reads.spelled)
+pub one_tree : (profile : Profile) (bytes : List ℕ) (v w : Value) → IsValueText profile limit bytes v
+    → IsValueText profile limit bytes w → v ≡ w
+one_tree profile bytes v w h k =
+    one_value profile v w h.reads.valid k.reads.valid (sym h.reads.spelled ∙ k.reads.spelled)
 
 -- what is read in either profile is read in Wide
-reads_in_wide : (profile : Profile) (bytes : List ℕ) (v : Value) → ReadsValue profile limit bytes v → ReadsValue Wide limit bytes v
+reads_in_wide : (profile : Profile) (bytes : List ℕ) (v : Value) → ReadsValue profile limit bytes v
+    → ReadsValue Wide limit bytes v
 reads_in_wide Strict bytes v h = reads_value_wider limit bytes v h
 reads_in_wide Wide bytes v h = h
 
-pub in_wide : (profile : Profile) (bytes : List ℕ) (v : Value) → IsValueText profile limit bytes v → IsTextOfValue bytes v
+pub in_wide : (profile : Profile) (bytes : List ℕ) (v : Value) → IsValueText profile limit bytes v
+    → IsTextOfValue bytes v
 in_wide profile bytes v h = record { reads = reads_in_wide profile bytes v h.reads; obeys = h.obeys }
 
 -- the value that the syntax was read of
 abbrev pub ReadOf : Profile → List ℕ → ValueSyntax → Type 0
 ReadOf profile bytes syntax = (v : Value) × ReadsValue profile limit bytes v × IsValueSyntaxOf syntax v
 
-pub was_read : {profile : Profile} {bytes : List ℕ} {syntax : ValueSyntax} {v : Value} → ReadsValue profile limit bytes v → IsValueSyntaxOf syntax v → WasReadAlone bytes syntax v
+pub was_read : {profile : Profile} {bytes : List ℕ} {syntax : ValueSyntax} {v : Value}
+    → ReadsValue profile limit bytes v → IsValueSyntaxOf syntax v → WasReadAlone bytes syntax v
 was_read {profile} reads is = record { profile = profile; limit = limit; reads = reads; is = is }
 
 -- a text that is read once more, in either profile, is read as the same value
-pub read_again : (profile : Profile) (bytes : List ℕ) (syntax : ValueSyntax) → ReadOf profile bytes syntax → (v : Value) → IsTextOfValue bytes v → WasReadAlone bytes syntax v
+pub read_again : (profile : Profile) (bytes : List ℕ) (syntax : ValueSyntax) → ReadOf profile bytes syntax → (v : Value)
+    → IsTextOfValue bytes v → WasReadAlone bytes syntax v
 read_again profile bytes syntax (w, reads, is) v text =
     let wide : ReadsValue Wide limit bytes w = reads_in_wide profile bytes w reads in
-    subst (WasReadAlone bytes syntax) (one_value Wide w v wide.valid text.reads.valid (sym wide.spelled ∙ text.reads.spelled)) (was_read reads is)
+    subst (WasReadAlone bytes syntax)
+    (one_value Wide w v wide.valid text.reads.valid (sym wide.spelled ∙ text.reads.spelled)) (was_read reads is)
 
 -- ---- what is read
 
@@ -72,26 +81,43 @@ abbrev own_info : Value → ValueInfo
 own_info v = info alone 0 0 v.body v.nested None
 
 -- A text is read in Wide where Strict refuses it, so its value is none of Strict's grammar.
-strict_is : (profile : Profile) (bytes : List ℕ) (v : Value) → IsValueText profile limit bytes v → (profile ≡ Wide → IsAcceptedValue Strict bytes → ⊥) → (profile ≡ Strict) ↔ IsValue Strict v
+strict_is : (profile : Profile) (bytes : List ℕ) (v : Value) → IsValueText profile limit bytes v
+    → (profile ≡ Wide → IsAcceptedValue Strict bytes → ⊥) → (profile ≡ Strict) ↔ IsValue Strict v
 strict_is Strict bytes v h refused = ((λ e. h.reads.valid), (λ valid. refl))
 strict_is Wide bytes v h refused = (
   (λ e. absurd (let k : Wide ≡ Strict = e in cc)),
-  (λ valid. absurd (refused refl (v, record { reads = record { valid = valid; spelled = h.reads.spelled; shallow = h.reads.shallow }; obeys = h.obeys }))),
+  (λ valid.
+      absurd (refused refl (
+        v,
+        record {
+          reads = record { valid = valid; spelled = h.reads.spelled; shallow = h.reads.shallow };
+          obeys = h.obeys;
+        },
+      ))),
 )
 
-pub holds : (profile : Profile) (bytes : List ℕ) (syntax : ValueSyntax) (kind : Kind) (depth : ℕ) → (profile ≡ Wide → IsAcceptedValue Strict bytes → ⊥) → ReadOf profile bytes syntax
-    → ((v : Value) → WasReadAlone bytes syntax v → ValueObeys v) → (info : ValueInfo) → slice_get (value_values_of syntax) 0 ≡ Some info → kind ≡ leaf_kind info.leaf
+pub holds : (profile : Profile) (bytes : List ℕ) (syntax : ValueSyntax) (kind : Kind) (depth : ℕ)
+    → (profile ≡ Wide → IsAcceptedValue Strict bytes → ⊥) → ReadOf profile bytes syntax
+    → ((v : Value) → WasReadAlone bytes syntax v → ValueObeys v) → (info : ValueInfo)
+    → slice_get (value_values_of syntax) 0 ≡ Some info → kind ≡ leaf_kind info.leaf
     → ((v : Value) → IsValueSyntaxOf syntax v → depth ≡ value_depth v) → HoldsValue bytes kind depth profile
 holds profile bytes syntax kind depth refused (v, reads, is) obeys info here kind_is deep =
     let read : IsValueText profile limit bytes v = record { reads = reads; obeys = obeys v (was_read reads is) } in
     let same : Some (own_info v) ≡ Some info = ap (λ (l : List ValueInfo). slice_get l 0) (sym is.values) ∙ here in
     let own : own_info v ≡ info = (let k : own_info v ≡ info = cc in k) in
-    let named : kind ≡ fact_kind (body_fact v.body) = kind_is ∙ ap (λ (i : ValueInfo). leaf_kind i.leaf) (sym own) ∙ kind_of_body profile v.body reads.valid.body in
-    record { value = v; read = in_wide profile bytes v read; is = named; deep = deep v is; strict = strict_is profile bytes v read refused }
+    let named : kind ≡ fact_kind (body_fact v.body) =
+    kind_is ∙ ap (λ (i : ValueInfo). leaf_kind i.leaf) (sym own) ∙ kind_of_body profile v.body reads.valid.body in
+    record {
+      value = v;
+      read = in_wide profile bytes v read;
+      is = named;
+      deep = deep v is;
+      strict = strict_is profile bytes v read refused;
+    }
 
 -- its kind is that of its first leaf
-pub kind_read : (bytes : List ℕ) (syntax : ValueSyntax) (v : Value) → WasReadAlone bytes syntax v → (info : ValueInfo) → slice_get (value_values_of syntax) 0 ≡ Some info
-    → leaf_kind info.leaf ≡ fact_kind (body_fact v.body)
+pub kind_read : (bytes : List ℕ) (syntax : ValueSyntax) (v : Value) → WasReadAlone bytes syntax v → (info : ValueInfo)
+    → slice_get (value_values_of syntax) 0 ≡ Some info → leaf_kind info.leaf ≡ fact_kind (body_fact v.body)
 kind_read bytes syntax v was info here =
     let same : Some (own_info v) ≡ Some info = ap (λ (l : List ValueInfo). slice_get l 0) (sym was.is.values) ∙ here in
     let own : own_info v ≡ info = (let k : own_info v ≡ info = cc in k) in
@@ -99,7 +125,8 @@ kind_read bytes syntax v was info here =
 
 -- ---- what is known of what was read
 
-pub value_seen : {a b : List ℕ} {kind : Kind} {depth : ℕ} {profile : Profile} → a ≡ b → HoldsValue a kind depth profile → HoldsValue b kind depth profile
+pub value_seen : {a b : List ℕ} {kind : Kind} {depth : ℕ} {profile : Profile} → a ≡ b → HoldsValue a kind depth profile
+    → HoldsValue b kind depth profile
 value_seen {kind} {depth} {profile} e h = subst (λ (x : List ℕ). HoldsValue x kind depth profile) e h
 
 module _ (bytes : List ℕ) (kind : Kind) (depth : ℕ) (profile : Profile) (h : HoldsValue bytes kind depth profile) where
@@ -110,34 +137,46 @@ module _ (bytes : List ℕ) (kind : Kind) (depth : ℕ) (profile : Profile) (h :
   depth_is v read = h.deep ∙ ap value_depth (one_tree Wide bytes h.value v h.read read)
 
   pub in_strict : profile ≡ Strict → IsAcceptedValue Strict bytes
-  in_strict e =
-      (h.value, record { reads = record { valid = h.strict.0 e; spelled = h.read.reads.spelled; shallow = h.read.reads.shallow }; obeys = h.read.obeys })
+  in_strict e = (
+    h.value,
+    record {
+      reads = record { valid = h.strict.0 e; spelled = h.read.reads.spelled; shallow = h.read.reads.shallow };
+      obeys = h.read.obeys;
+    },
+  )
 
   pub strict_of : IsAcceptedValue Strict bytes → profile ≡ Strict
   strict_of (v, read) =
-      h.strict.1 (subst (λ (x : Value). IsValue Strict x) (one_tree Wide bytes v h.value (in_wide Strict bytes v read) h.read) read.reads.valid)
+      h.strict.1 (subst (λ (x : Value). IsValue Strict x)
+      (one_tree Wide bytes v h.value (in_wide Strict bytes v read) h.read) read.reads.valid)
 
   -- whether Strict's grammar has it
   pub taken : (v : Value) → IsTextOfValue bytes v → profile ≡ Strict → is_allowed_in Strict v ≡ true
-  taken v read e = value_allowed Strict v (subst (λ (x : Value). IsValue Strict x) (one_tree Wide bytes h.value v h.read read) (h.strict.0 e))
+  taken v read e =
+      value_allowed Strict v (subst (λ (x : Value). IsValue Strict x) (one_tree Wide bytes h.value v h.read read)
+      (h.strict.0 e))
 
   pub not_taken : (v : Value) → IsTextOfValue bytes v → (profile ≡ Strict → ⊥) → is_allowed_in Strict v ≡ false
   not_taken v read other = by (is_allowed_in Strict v) refl
     where
       by : (b : Bool) → is_allowed_in Strict v ≡ b → is_allowed_in Strict v ≡ false
-      by true e = absurd (other (h.strict.1 (subst (λ (x : Value). IsValue Strict x) (one_tree Wide bytes v h.value read h.read) (allowed_value Strict v read.reads.valid e))))
+      by true e =
+          absurd (other (h.strict.1 (subst (λ (x : Value). IsValue Strict x) (one_tree Wide bytes v h.value read h.read)
+          (allowed_value Strict v read.reads.valid e))))
       by false e = e
 
 -- ---- why not
 
-by_rules : (profile : Profile) (bytes : List ℕ) (v : Value) (e : ReadFault) → ReadsValue profile limit bytes v → IsValueRefusal v e → IsRefusedValue profile bytes e
+by_rules : (profile : Profile) (bytes : List ℕ) (v : Value) (e : ReadFault) → ReadsValue profile limit bytes v
+    → IsValueRefusal v e → IsRefusedValue profile bytes e
 by_rules profile bytes v (fault.Define at why) reads h = inr (v, reads, h)
 by_rules profile bytes v fault.Memory reads h = inl refl
 by_rules profile bytes v (fault.Syntax at what) reads h = absurd h
 by_rules profile bytes v (fault.TooDeep at) reads h = absurd h
 by_rules profile bytes v (fault.Utf8 at) reads h = absurd h
 
-pub no_value : (profile : Profile) (bytes : List ℕ) (syntax : ValueSyntax) (e : ReadFault) → ReadOf profile bytes syntax → ((v : Value) → WasReadAlone bytes syntax v → IsValueRefusal v e) → IsRefusedValue profile bytes e
+pub no_value : (profile : Profile) (bytes : List ℕ) (syntax : ValueSyntax) (e : ReadFault) → ReadOf profile bytes syntax
+    → ((v : Value) → WasReadAlone bytes syntax v → IsValueRefusal v e) → IsRefusedValue profile bytes e
 no_value profile bytes syntax e (v, reads, is) h = by_rules profile bytes v e reads (h v (was_read reads is))
 
 -- ---- scalars
@@ -145,7 +184,8 @@ no_value profile bytes syntax e (v, reads, is) h = by_rules profile bytes v e re
 abbrev a_scalar : Leaf → List ℕ → Value
 a_scalar l bytes = record { body = scalar (record { leaf = l; text = bytes }); nested = none }
 
-scalar_read : (l : Leaf) (bytes : List ℕ) → IsTrue (is_scalar_leaf l) → IsLeaf Strict l bytes → IsValueText Strict limit bytes (a_scalar l bytes)
+scalar_read : (l : Leaf) (bytes : List ℕ) → IsTrue (is_scalar_leaf l) → IsLeaf Strict l bytes
+    → IsValueText Strict limit bytes (a_scalar l bytes)
 scalar_read l bytes kind is =
     let valid : IsValue Strict (a_scalar l bytes) = record { body = (kind, is); nested = tt } in
     record {
@@ -153,7 +193,8 @@ scalar_read l bytes kind is =
       obeys = λ i j d lt within. absurd (omega (arith, within));
     }
 
-pub scalar_holds : (l : Leaf) (bytes : List ℕ) → IsTrue (is_scalar_leaf l) → IsLeaf Strict l bytes → HoldsValue bytes (fact_kind (scalar_fact l bytes)) 0 Strict
+pub scalar_holds : (l : Leaf) (bytes : List ℕ) → IsTrue (is_scalar_leaf l) → IsLeaf Strict l bytes
+    → HoldsValue bytes (fact_kind (scalar_fact l bytes)) 0 Strict
 scalar_holds l bytes kind is = record {
   value = a_scalar l bytes;
   read = in_wide Strict bytes (a_scalar l bytes) (scalar_read l bytes kind is);
@@ -170,15 +211,22 @@ false_holds = scalar_holds leaf.Boolean (codes "false") refl (inr refl)
 
 -- ---- what a scalar means
 
-scalar_means : (l : Leaf) (bytes : List ℕ) → IsTrue (is_scalar_leaf l) → IsLeaf Strict l bytes → IsTextOfFact bytes (scalar_fact l bytes)
-scalar_means l bytes kind is = (a_scalar l bytes, in_wide Strict bytes (a_scalar l bytes) (scalar_read l bytes kind is), refl)
+scalar_means : (l : Leaf) (bytes : List ℕ) → IsTrue (is_scalar_leaf l) → IsLeaf Strict l bytes
+    → IsTextOfFact bytes (scalar_fact l bytes)
+scalar_means l bytes kind is =
+    (a_scalar l bytes, in_wide Strict bytes (a_scalar l bytes) (scalar_read l bytes kind is), refl)
 
-pub string_means : (bytes value : List ℕ) → IsLeaf Strict leaf.Basic bytes → Means Strict leaf.Basic bytes value → IsTextOfFact bytes (fact.string value)
+pub string_means : (bytes value : List ℕ) → IsLeaf Strict leaf.Basic bytes → Means Strict leaf.Basic bytes value
+    → IsTextOfFact bytes (fact.string value)
 string_means bytes value is means =
-    subst (λ (v : List ℕ). IsTextOfFact bytes (fact.string v)) (sym (means_value leaf.Basic bytes value refl (means_wider leaf.Basic bytes value means))) (scalar_means leaf.Basic bytes refl is)
+    subst (λ (v : List ℕ). IsTextOfFact bytes (fact.string v))
+    (sym (means_value leaf.Basic bytes value refl (means_wider leaf.Basic bytes value means)))
+    (scalar_means leaf.Basic bytes refl is)
 
-pub integer_means : (bytes : List ℕ) (value : ℤ) → IsLeaf Strict leaf.Integer bytes → integer_value bytes ≡ value → IsTextOfFact bytes (fact.integer value)
-integer_means bytes value is e = subst (λ (n : ℤ). IsTextOfFact bytes (fact.integer n)) e (scalar_means leaf.Integer bytes refl is)
+pub integer_means : (bytes : List ℕ) (value : ℤ) → IsLeaf Strict leaf.Integer bytes → integer_value bytes ≡ value
+    → IsTextOfFact bytes (fact.integer value)
+integer_means bytes value is e =
+    subst (λ (n : ℤ). IsTextOfFact bytes (fact.integer n)) e (scalar_means leaf.Integer bytes refl is)
 
 pub true_means : IsTextOfFact (codes "true") (fact.boolean true)
 true_means = scalar_means leaf.Boolean (codes "true") refl (inl refl)
@@ -187,5 +235,8 @@ pub false_means : IsTextOfFact (codes "false") (fact.boolean false)
 false_means = scalar_means leaf.Boolean (codes "false") refl (inr refl)
 
 -- the value of a text that Strict accepts is of Strict's grammar
-pub strict_value : (bytes : List ℕ) (v : Value) → IsTextOfValue bytes v → IsAcceptedValue Strict bytes → is_allowed_in Strict v ≡ true
-strict_value bytes v read (w, strict) = value_allowed Strict v (subst (λ (x : Value). IsValue Strict x) (one_tree Wide bytes w v (in_wide Strict bytes w strict) read) strict.reads.valid)
+pub strict_value : (bytes : List ℕ) (v : Value) → IsTextOfValue bytes v → IsAcceptedValue Strict bytes
+    → is_allowed_in Strict v ≡ true
+strict_value bytes v read (w, strict) =
+    value_allowed Strict v (subst (λ (x : Value). IsValue Strict x)
+    (one_tree Wide bytes w v (in_wide Strict bytes w strict) read) strict.reads.valid)

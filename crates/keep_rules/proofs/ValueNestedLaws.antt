@@ -10,7 +10,9 @@
 -- Where nothing is in the new value, the run is one mention, of the value's own path, so no node is one step below it.
 --
 -- Theorems: `value_is_nested`, and `empty_has_no_child`.
-use Rattle.std.proofs.Common.{◌≡◌, ℕ, ◌-◌, ◌<◌, Bool, true, false, cond, ◌&&◌, ◌||◌, List, [], ◌∷◌, ◌++◌, length, map, refl, sym, ap, ap₂, subst, ◌∙◌, ◌⊎◌, inl, inr, arith, append_assoc, append-nil, Option, Some, None}
+use Rattle.std.proofs.Common.{◌≡◌, ℕ, ◌-◌, ◌<◌, Bool, true, false, cond, ◌&&◌, ◌||◌, List, [], ◌∷◌, ◌++◌, length, map}
+use Rattle.std.proofs.Common.{refl, sym, ap, ap₂, subst, ◌∙◌, ◌⊎◌, inl, inr, arith, append_assoc, append-nil, Option}
+use Rattle.std.proofs.Common.{Some, None}
 use Rattle.std.specs.Prelude.{filter, fold, slice_get}
 use Rattle.std.specs.List.{AllByRecursion, cons_option, filter_map, list_any}
 use Rattle.std.specs.Option.{option_and_then}
@@ -26,12 +28,17 @@ use Rattle.keep_path.specs.Path.{Part, index, key, last_part, same_part, same_pa
 use Rattle.keep_path.proofs.Shared.{last_pushed, path_decides}
 use Rattle.keep_meaning.specs.Counts.{Count, Numbered, numbered_mentions, statements_in}
 use Rattle.keep_meaning.specs.Fact.{Fact}
-use Rattle.keep_meaning.specs.Marks.{Mention, MentionKind, Reading, Statement, begun, below, element, element_header, elements_of, entered_path, header, header_path, header_prefixes, keyval, mentions_from, next_reading, reading_after, role_of, start, statement_mentions, value}
+use Rattle.keep_meaning.specs.Marks.{Mention, MentionKind, Reading, Statement, begun, below, element, element_header}
+use Rattle.keep_meaning.specs.Marks.{elements_of, entered_path, header, header_path, header_prefixes, keyval}
+use Rattle.keep_meaning.specs.Marks.{mentions_from, next_reading, reading_after, role_of, start, statement_mentions}
+use Rattle.keep_meaning.specs.Marks.{value}
 use Rattle.keep_meaning.specs.Meaning.{body_fact, entries_mentions, mentions_in}
-use Rattle.keep_meaning.specs.Nodes.{children, is_at, is_child, is_element, is_node, is_root, mention_of, node_number, node_paths, paths_with}
+use Rattle.keep_meaning.specs.Nodes.{children, is_at, is_child, is_element, is_node, is_root, mention_of, node_number}
+use Rattle.keep_meaning.specs.Nodes.{node_paths, paths_with}
 use Rattle.keep_meaning.specs.OtherValues.{HasOtherValue, IsApart, said_past}
 use Rattle.keep_meaning.specs.Rules.{allows}
-use Rattle.keep_meaning.proofs.Shared.{element_is_node, mentions-numbered_in, mentions-numbered_mentions, mentions_in-statements, node_met, table_is_node}
+use Rattle.keep_meaning.proofs.Shared.{element_is_node, mentions-numbered_in, mentions-numbered_mentions}
+use Rattle.keep_meaning.proofs.Shared.{mentions_in-statements, node_met, table_is_node}
 use Rattle.keep_rules.specs.Nested.{AreNested}
 use Rattle.keep_rules.specs.RoleStates.{mention_roles}
 use Rattle.keep_rules.specs.ValuesNested.{ValueIsNested}

@@ -6,7 +6,9 @@
 -- (`fails_through`).
 --
 -- Theorems: `white_leaf` and `other_byte`; `blank_more` and `blank_done`; `fails_through`.
-use Rattle.std.proofs.Common.{◌≡◌, ℕ, ◌+◌, ◌<◌, ◌≤◌, ◌==◌, Bool, true, false, List, [], ◌∷◌, ◌++◌, length, get_or, take, drop, Option, Some, None, Result, Ok, Err, refl, sym, ap, ◌∙◌, inl, inr, arith, add-zero, append_assoc, IsCharBoundary}
+use Rattle.std.proofs.Common.{◌≡◌, ℕ, ◌+◌, ◌<◌, ◌≤◌, ◌==◌, Bool, true, false, List, [], ◌∷◌, ◌++◌, length, get_or, take}
+use Rattle.std.proofs.Common.{drop, Option, Some, None, Result, Ok, Err, refl, sym, ap, ◌∙◌, inl, inr, arith, add-zero}
+use Rattle.std.proofs.Common.{append_assoc, IsCharBoundary}
 use Rattle.std.proofs.lemmas.List.{append-nil, drop-drop, get_or-drop, length-drop, length-take}
 use Rattle.keep_types.specs.declared.leaf.Leaf.{Leaf}
 use Rattle.keep_types.specs.declared.leaf.Leaf.TheVariants as leaf
@@ -18,7 +20,8 @@ use Rattle.keep_syntax.specs.declared.fault.ReadFault.{ReadFault}
 use Rattle.keep_syntax.specs.declared.fault.ReadFault.TheVariants as faults
 use Rattle.keep_syntax.specs.declared.info.Brackets.{Brackets}
 use Rattle.keep_syntax.specs.Tree.{Gap, token}
-use Rattle.keep_syntax.specs.Reading.{Fault, Bad, Deep, begins_gap, written, space_at, blank_at, prepended, is_free, gap_if}
+use Rattle.keep_syntax.specs.Reading.{Fault, Bad, Deep, begins_gap, written, space_at, blank_at, prepended, is_free}
+use Rattle.keep_syntax.specs.Reading.{gap_if}
 use Rattle.keep_syntax_store.specs.Flat.{Flat, with_token}
 use Rattle.keep_syntax.specs.Growth.{only, Grows, Fails, PunctuationIs, SpaceRead, BlankRead, GapRead, IsSyntax}
 use Rattle.keep_syntax.proofs.LoopLaws.{done}
@@ -28,7 +31,8 @@ use Rattle.keep_syntax.proofs.GrowthLaws.{grows_nothing, grows_then, grows_token
 -- ---- places
 
 -- a scan's leaf, with its length in place of its end
-pub moved_some : (at : ℕ) (o : Option (Leaf × ℕ)) (l : Leaf) (end : ℕ) → Some (l, end) ≡ moved at o → (n : ℕ) × (o ≡ Some (l, n)) × (at + n ≡ end)
+pub moved_some : (at : ℕ) (o : Option (Leaf × ℕ)) (l : Leaf) (end : ℕ) → Some (l, end) ≡ moved at o
+    → (n : ℕ) × (o ≡ Some (l, n)) × (at + n ≡ end)
 moved_some at None l end e = absurd cc
 moved_some at (Some (k, n)) l end e =
     let f : (l, end) ≡ (k, at + n) = cc in
@@ -42,7 +46,8 @@ pub first-drop : (text : List ℕ) (at : ℕ) → first (drop at text) ≡ get_o
 first-drop text at = rw (get_or-drop at text 0 0, add-zero) refl
 
 -- the leaf that a scan finds is of the kind that is known
-pub moved_kind : (at n : ℕ) (o : Option (Leaf × ℕ)) (known l : Leaf) (end : ℕ) → o ≡ Some (known, n) → Some (l, end) ≡ moved at o → Some (known, end) ≡ moved at o
+pub moved_kind : (at n : ℕ) (o : Option (Leaf × ℕ)) (known l : Leaf) (end : ℕ) → o ≡ Some (known, n)
+    → Some (l, end) ≡ moved at o → Some (known, end) ≡ moved at o
 moved_kind at n o known l end is e =
     let m = moved_some at o l end e in
     let both : ◌≡◌ {A = Option (Leaf × ℕ)} (Some (known, n)) (Some (l, m.0)) = sym is ∙ m.1 in
@@ -54,14 +59,20 @@ moved_kind at n o known l end is e =
 pub after_leaf : (text : List ℕ) (at n end : ℕ) → at + n ≡ end → drop n (drop at text) ≡ drop end text
 after_leaf text at n end e = drop-drop n at text ∙ ap (λ (m : ℕ). drop m text) e
 
-pub leaf_end : (text : List ℕ) (at n end : ℕ) → at + n ≡ end → end ≤ length text → end ≡ at + length (take n (drop at text))
+pub leaf_end : (text : List ℕ) (at n end : ℕ) → at + n ≡ end → end ≤ length text
+    → end ≡ at + length (take n (drop at text))
 leaf_end text at n end e within = omega (arith, length-take n (drop at text), length-drop at text)
 
-pub leaf_grows : (text : List ℕ) (at n end : ℕ) (l : Leaf) (old new : Flat) → at + n ≡ end → end ≤ length text → IsCharBoundary text at → new ≡ with_token l at old → Grows text old new at end (only (token l (take n (drop at text))))
-leaf_grows text at n end l old new e within bound is = grows_token text (take n (drop at text)) l old new at end (leaf_end text at n end e within) bound is
+pub leaf_grows : (text : List ℕ) (at n end : ℕ) (l : Leaf) (old new : Flat) → at + n ≡ end → end ≤ length text
+    → IsCharBoundary text at → new ≡ with_token l at old
+    → Grows text old new at end (only (token l (take n (drop at text))))
+leaf_grows text at n end l old new e within bound is =
+    grows_token text (take n (drop at text)) l old new at end (leaf_end text at n end e within) bound is
 
-pub sign_grows : (text t : List ℕ) (at len : ℕ) (l : Leaf) (old new : Flat) (end : ℕ) → length t ≡ len → PunctuationIs text at len l old new end → Grows text old new at end (only (token l t))
-sign_grows text t at len l old new end e s = grows_token text t l old new at end (omega (arith, s.end_is)) s.start s.stored
+pub sign_grows : (text t : List ℕ) (at len : ℕ) (l : Leaf) (old new : Flat) (end : ℕ) → length t ≡ len
+    → PunctuationIs text at len l old new end → Grows text old new at end (only (token l t))
+sign_grows text t at len l old new end e s =
+    grows_token text t l old new at end (omega (arith, s.end_is)) s.start s.stored
 
 -- the text after a sign of one byte
 pub after_sign : (text : List ℕ) (at end : ℕ) → end ≡ at + 1 → drop 1 (drop at text) ≡ drop end text
@@ -69,10 +80,12 @@ after_sign text at end e = after_leaf text at 1 end (sym e)
 
 -- ---- faults
 
-pub fails_memory : {A : Type 0} (text : List ℕ) (e : ReadFault) (r : Result A Fault) → e ≡ faults.Memory → Fails text e r
+pub fails_memory : {A : Type 0} (text : List ℕ) (e : ReadFault) (r : Result A Fault) → e ≡ faults.Memory
+    → Fails text e r
 fails_memory text e r is = rw is tt
 
-pub fails_through : {A B : Type 0} (text : List ℕ) (e : ReadFault) (r : Result A Fault) (s : Result B Fault) → ((f : Fault) → r ≡ Err f → s ≡ Err f) → Fails text e r → Fails text e s
+pub fails_through : {A B : Type 0} (text : List ℕ) (e : ReadFault) (r : Result A Fault) (s : Result B Fault)
+    → ((f : Fault) → r ≡ Err f → s ≡ Err f) → Fails text e r → Fails text e s
 fails_through text (faults.Utf8 at) r s h k = k
 fails_through text (faults.Syntax at what) r s h k = h Bad k
 fails_through text (faults.TooDeep at) r s h k = (k.0, h (Deep (drop at text)) k.1)
@@ -80,7 +93,8 @@ fails_through text (faults.Define at why) r s h k = k
 fails_through text faults.Memory r s h k = tt
 
 -- a fault of the grammar, where nothing fits
-pub fails_bad : {A : Type 0} (text : List ℕ) (e : ReadFault) (r : Result A Fault) → IsSyntax e → r ≡ Err Bad → Fails text e r
+pub fails_bad : {A : Type 0} (text : List ℕ) (e : ReadFault) (r : Result A Fault) → IsSyntax e → r ≡ Err Bad
+    → Fails text e r
 fails_bad text (faults.Utf8 at) r is bad = absurd is
 fails_bad text (faults.Syntax at what) r is bad = bad
 fails_bad text (faults.TooDeep at) r is bad = absurd is
@@ -89,7 +103,8 @@ fails_bad text faults.Memory r is bad = absurd is
 
 -- ---- white space
 
-space_ws : (text : List ℕ) (n : ℕ) → gap_at text ≡ Some (leaf.Ws, n) → space_at text ≡ (token leaf.Ws (take n text), drop n text)
+space_ws : (text : List ℕ) (n : ℕ) → gap_at text ≡ Some (leaf.Ws, n)
+    → space_at text ≡ (token leaf.Ws (take n text), drop n text)
 unfolding space_at
 space_ws text n e = rw e refl
 
@@ -107,13 +122,18 @@ space_nothing : (text : List ℕ) → gap_at text ≡ None → space_at text ≡
 unfolding space_at
 space_nothing text e = rw e refl
 
-pub no_space : (text : List ℕ) (at : ℕ) (f : Flat) → IsCharBoundary text at → space_at (drop at text) ≡ ([], drop at text) → SpaceRead text at f f (Ok at)
-no_space text at f bound e = record { part = []; bound = bound; forward = omega arith; is_read = ap done e; grows = grows_nothing text f at }
+pub no_space : (text : List ℕ) (at : ℕ) (f : Flat) → IsCharBoundary text at
+    → space_at (drop at text) ≡ ([], drop at text) → SpaceRead text at f f (Ok at)
+no_space text at f bound e =
+    record { part = []; bound = bound; forward = omega arith; is_read = ap done e; grows = grows_nothing text f at }
 
-pub other_byte : (text : List ℕ) (at : ℕ) (f : Flat) → IsCharBoundary text at → is_ws (get_or text at 0) ≡ false → SpaceRead text at f f (Ok at)
+pub other_byte : (text : List ℕ) (at : ℕ) (f : Flat) → IsCharBoundary text at → is_ws (get_or text at 0) ≡ false
+    → SpaceRead text at f f (Ok at)
 other_byte text at f bound other = no_space text at f bound (space_other (drop at text) (rw (first-drop text at) other))
 
-pub white_leaf : (text : List ℕ) (at : ℕ) (old new : Flat) (end : ℕ) → IsCharBoundary text at → IsCharBoundary text end → Some (leaf.Ws, end) ≡ moved at (gap_at (drop at text)) → new ≡ with_token leaf.Ws at old → SpaceRead text at old new (Ok end)
+pub white_leaf : (text : List ℕ) (at : ℕ) (old new : Flat) (end : ℕ) → IsCharBoundary text at → IsCharBoundary text end
+    → Some (leaf.Ws, end) ≡ moved at (gap_at (drop at text)) → new ≡ with_token leaf.Ws at old
+    → SpaceRead text at old new (Ok end)
 white_leaf text at old new end bound bound' e is =
     let m = moved_some at (gap_at (drop at text)) leaf.Ws end e in
     let n = m.0 in
@@ -121,7 +141,9 @@ white_leaf text at old new end bound bound' e is =
       part = token leaf.Ws (take n (drop at text));
       bound = bound';
       forward = omega (arith, m.2);
-      is_read = ap done (space_ws (drop at text) n m.1 ∙ ap (λ (t : List ℕ). (token leaf.Ws (take n (drop at text)), t)) (after_leaf text at n end m.2));
+      is_read =
+          ap done (space_ws (drop at text) n m.1
+          ∙ ap (λ (t : List ℕ). (token leaf.Ws (take n (drop at text)), t)) (after_leaf text at n end m.2));
       grows = leaf_grows text at n end leaf.Ws old new m.2 bound'.0 bound is;
     }
 
@@ -137,28 +159,38 @@ pub record BlankSoFar (text : List ℕ) (at here : ℕ) (old now : Flat) : Type 
 pub blank_none : (text : List ℕ) (at : ℕ) (old : Flat) → IsCharBoundary text at → BlankSoFar text at at old old
 blank_none text at old bound = record { prefix = []; bound = bound; read = refl; grows = grows_nothing text old at }
 
-pub blank_more : (text : List ℕ) (at here : ℕ) (old now new : Flat) (l : Leaf) (end : ℕ) → BlankSoFar text at here old now → Some (l, end) ≡ moved here (gap_at (drop here text)) → here < end → IsCharBoundary text end → new ≡ with_token l here now → BlankSoFar text at end old new
+pub blank_more : (text : List ℕ) (at here : ℕ) (old now new : Flat) (l : Leaf) (end : ℕ)
+    → BlankSoFar text at here old now → Some (l, end) ≡ moved here (gap_at (drop here text)) → here < end
+    → IsCharBoundary text end → new ≡ with_token l here now → BlankSoFar text at end old new
 blank_more text at here old now new l end s e lt bound is =
     let m = moved_some here (gap_at (drop here text)) l end e in
     let n = m.0 in
     let w = written l n (drop here text) in
-    let step : blank_at (drop here text) ≡ prepended w (blank_at (drop n (drop here text))) = blank_step (drop here text) l n (omega (arith, m.2)) (omega (arith, m.2, length-drop here text, bound.0)) m.1 in
-    let step' : blank_at (drop here text) ≡ prepended w (blank_at (drop end text)) = step ∙ ap (λ (t : List ℕ). prepended w (blank_at t)) (after_leaf text here n end m.2) in
+    let step : blank_at (drop here text) ≡ prepended w (blank_at (drop n (drop here text))) =
+    blank_step (drop here text) l n (omega (arith, m.2)) (omega (arith, m.2, length-drop here text, bound.0)) m.1 in
+    let step' : blank_at (drop here text) ≡ prepended w (blank_at (drop end text)) =
+    step ∙ ap (λ (t : List ℕ). prepended w (blank_at t)) (after_leaf text here n end m.2) in
     record {
       prefix = s.prefix ++ (w ∷ []);
       bound = bound;
-      read = s.read ∙ ap (λ (x : Gap × List ℕ). (s.prefix ++ x.0, x.1)) step' ∙ ap (λ (g : Gap). (g, (blank_at (drop end text)).1)) (sym (append_assoc s.prefix (w ∷ []) (blank_at (drop end text)).0));
+      read = s.read ∙ ap (λ (x : Gap × List ℕ). (s.prefix ++ x.0, x.1)) step'
+          ∙ ap (λ (g : Gap). (g, (blank_at (drop end text)).1))
+          (sym (append_assoc s.prefix (w ∷ []) (blank_at (drop end text)).0));
       grows = grows_then s.grows (leaf_grows text here n end l now new m.2 bound.0 s.bound is);
     }
 
-pub blank_done : (text : List ℕ) (at here : ℕ) (old now : Flat) → BlankSoFar text at here old now → None ≡ moved here (gap_at (drop here text)) → BlankRead text at old now (Ok here)
+pub blank_done : (text : List ℕ) (at here : ℕ) (old now : Flat) → BlankSoFar text at here old now
+    → None ≡ moved here (gap_at (drop here text)) → BlankRead text at old now (Ok here)
 blank_done text at here old now s e =
-    let stop : blank_at (drop here text) ≡ ([], drop here text) = blank_stop (drop here text) (moved_none here (gap_at (drop here text)) e) in
+    let stop : blank_at (drop here text) ≡ ([], drop here text) =
+    blank_stop (drop here text) (moved_none here (gap_at (drop here text)) e) in
     record {
       part = s.prefix;
       bound = s.bound;
       forward = omega (arith, s.grows.place);
-      is_read = ap done (s.read ∙ ap (λ (x : Gap × List ℕ). (s.prefix ++ x.0, x.1)) stop ∙ ap (λ (g : Gap). (g, drop here text)) (append-nil s.prefix));
+      is_read =
+          ap done (s.read ∙ ap (λ (x : Gap × List ℕ). (s.prefix ++ x.0, x.1)) stop
+          ∙ ap (λ (g : Gap). (g, drop here text)) (append-nil s.prefix));
       grows = s.grows;
     }
 
@@ -179,9 +211,16 @@ gap_none text other =
     ]
 
 -- no gap begins with this byte
-pub no_gap : (profile : Profile) (b : Brackets) (text : List ℕ) (at : ℕ) (f : Flat) → IsCharBoundary text at → begins_gap (get_or text at 0) ≡ false → GapRead profile b text at f f (Ok at)
+pub no_gap : (profile : Profile) (b : Brackets) (text : List ℕ) (at : ℕ) (f : Flat) → IsCharBoundary text at
+    → begins_gap (get_or text at 0) ≡ false → GapRead profile b text at f f (Ok at)
 no_gap profile b text at f bound other =
-    record { part = []; bound = bound; forward = omega arith; is_read = ap done (by (is_free profile b)); grows = grows_nothing text f at }
+    record {
+      part = [];
+      bound = bound;
+      forward = omega arith;
+      is_read = ap done (by (is_free profile b));
+      grows = grows_nothing text f at;
+    }
   where
     none : gap_at (drop at text) ≡ None
     none = gap_none (drop at text) (rw (first-drop text at) other)

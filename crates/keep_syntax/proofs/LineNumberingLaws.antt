@@ -3,7 +3,8 @@ use Rattle.std.proofs.Common.{◌≡◌, ℕ, ◌+◌, List, [], ◌∷◌, ◌+
 use Rattle.std.specs.List.{flat_map}
 use Rattle.std.proofs.lemmas.List.{append-nil, length-append}
 use Rattle.keep_syntax.specs.Tree.{Content, blank, keyval, header, element, Line, Ended, line_leaves, ended_leaves}
-use Rattle.keep_syntax.specs.Numbered.{width, Count, line_parts, line_values, line_statements, content_statements, next_line, over_lines, after_lines}
+use Rattle.keep_syntax.specs.Numbered.{width, Count, line_parts, line_values, line_statements, content_statements}
+use Rattle.keep_syntax.specs.Numbered.{next_line, over_lines, after_lines}
 use Rattle.keep_syntax.proofs.GrowthLaws.{width-append}
 
 -- ---- key parts
@@ -16,7 +17,8 @@ over_ended f c [] = []
 over_ended f c (e ∷ es) = f c e.line (c.at + width (ended_leaves e)) ++ over_ended f (next_line c e) es
 
 pub ended-snoc : {A : Type 0} (f : Count → Line → ℕ → List A) (c : Count) (es : List Ended) (e : Ended)
-    → over_ended f c (es ++ (e ∷ [])) ≡ over_ended f c es ++ f (after_lines c es) e.line ((after_lines c es).at + width (ended_leaves e))
+    → over_ended f c (es ++ (e ∷ [])) ≡ over_ended f c es
+    ++ f (after_lines c es) e.line ((after_lines c es).at + width (ended_leaves e))
 ended-snoc f c [] e = append-nil (f c e.line (c.at + width (ended_leaves e)))
 ended-snoc {A} f c (d ∷ es) e =
     let q = next_line c d in
@@ -37,10 +39,12 @@ over-last {A} f c (d ∷ es) l =
 -- the count after lines
 pub after_lines-at : (c : Count) (es : List Ended) → (after_lines c es).at ≡ c.at + width (flat_map ended_leaves es)
 after_lines-at c [] = omega arith
-after_lines-at c (e ∷ es) = omega (arith, after_lines-at (next_line c e) es, width-append (ended_leaves e) (flat_map ended_leaves es))
+after_lines-at c (e ∷ es) =
+    omega (arith, after_lines-at (next_line c e) es, width-append (ended_leaves e) (flat_map ended_leaves es))
 
 -- a line has as many statements wherever it ends
-pub length-statements : (c : Count) (l : Line) (x y : ℕ) → length (line_statements c l x) ≡ length (line_statements c l y)
+pub length-statements : (c : Count) (l : Line) (x y : ℕ)
+    → length (line_statements c l x) ≡ length (line_statements c l y)
 length-statements c l x y = by l.content
   where
     by : (k : Content) → length (content_statements c l x k) ≡ length (content_statements c l y k)
@@ -49,21 +53,37 @@ length-statements c l x y = by l.content
     by (header before key after) = refl
     by (element before key after) = refl
 
-pub after_lines-statements : (c : Count) (es : List Ended) → (after_lines c es).statements ≡ c.statements + length (over_ended line_statements c es)
+pub after_lines-statements : (c : Count) (es : List Ended)
+    → (after_lines c es).statements ≡ c.statements + length (over_ended line_statements c es)
 after_lines-statements c [] = omega arith
 after_lines-statements c (e ∷ es) =
     let q = next_line c e in
     let here = line_statements c e.line (c.at + width (ended_leaves e)) in
-    omega (arith, after_lines-statements q es, length-append here (over_ended line_statements q es), length-statements c e.line (c.at + width (ended_leaves e)) 0)
+    omega (
+      arith,
+      after_lines-statements q es,
+      length-append here (over_ended line_statements q es),
+      length-statements c e.line (c.at + width (ended_leaves e)) 0,
+    )
 
-pub after_lines-parts : (c : Count) (es : List Ended) → (after_lines c es).parts ≡ c.parts + length (over_ended (λ c l line_end. line_parts c l) c es)
+pub after_lines-parts : (c : Count) (es : List Ended)
+    → (after_lines c es).parts ≡ c.parts + length (over_ended (λ c l line_end. line_parts c l) c es)
 after_lines-parts c [] = omega arith
 after_lines-parts c (e ∷ es) =
     let q = next_line c e in
-    omega (arith, after_lines-parts q es, length-append (line_parts c e.line) (over_ended (λ c l line_end. line_parts c l) q es))
+    omega (
+      arith,
+      after_lines-parts q es,
+      length-append (line_parts c e.line) (over_ended (λ c l line_end. line_parts c l) q es),
+    )
 
-pub after_lines-values : (c : Count) (es : List Ended) → (after_lines c es).values ≡ c.values + length (over_ended (λ c l line_end. line_values c l) c es)
+pub after_lines-values : (c : Count) (es : List Ended)
+    → (after_lines c es).values ≡ c.values + length (over_ended (λ c l line_end. line_values c l) c es)
 after_lines-values c [] = omega arith
 after_lines-values c (e ∷ es) =
     let q = next_line c e in
-    omega (arith, after_lines-values q es, length-append (line_values c e.line) (over_ended (λ c l line_end. line_values c l) q es))
+    omega (
+      arith,
+      after_lines-values q es,
+      length-append (line_values c e.line) (over_ended (λ c l line_end. line_values c l) q es),
+    )

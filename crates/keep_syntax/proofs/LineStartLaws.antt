@@ -1,5 +1,6 @@
 -- Where lines begin that are looked up by a place, and which lines come before it.
-use Rattle.std.proofs.Common.{◌≡◌, ℕ, ◌+◌, ◌<◌, ◌≤◌, Bool, true, false, List, [], ◌∷◌, refl, sym, ◌∙◌, arith, le-leb, lt-ltb, le-ltb, leb-true}
+use Rattle.std.proofs.Common.{◌≡◌, ℕ, ◌+◌, ◌<◌, ◌≤◌, Bool, true, false, List, [], ◌∷◌, refl, sym, ◌∙◌, arith, le-leb}
+use Rattle.std.proofs.Common.{lt-ltb, le-ltb, leb-true}
 use Rattle.std.specs.Prelude.{⊤, ltb, leb, if◌then◌else◌}
 use Rattle.std.proofs.lemmas.Bool.{lt-leb}
 use Rattle.keep_syntax_store.proofs.Shared.{if_true, if_false}
@@ -22,9 +23,12 @@ HaveBytes (e ∷ es) = (0 < width (ended_leaves e)) × HaveBytes es
 -- ---- places
 
 -- where a line begins at or before a place, it does not matter what else would be given
-pub last_any : (place low other at : ℕ) (es : List Ended) → at ≤ place → last_to place low (line_starts at es) ≡ last_to place other (line_starts at es)
-last_any place low other at [] h = if_true (leb at place) at low (le-leb at place h) ∙ sym (if_true (leb at place) at other (le-leb at place h))
-last_any place low other at (e ∷ es) h = if_true (leb at place) _ low (le-leb at place h) ∙ sym (if_true (leb at place) _ other (le-leb at place h))
+pub last_any : (place low other at : ℕ) (es : List Ended) → at ≤ place
+    → last_to place low (line_starts at es) ≡ last_to place other (line_starts at es)
+last_any place low other at [] h =
+    if_true (leb at place) at low (le-leb at place h) ∙ sym (if_true (leb at place) at other (le-leb at place h))
+last_any place low other at (e ∷ es) h =
+    if_true (leb at place) _ low (le-leb at place h) ∙ sym (if_true (leb at place) _ other (le-leb at place h))
 
 -- the first of the starts is where the first line begins
 pub same_begin : (a b : ℕ) (es ds : List Ended) → line_starts a es ≡ line_starts b ds → a ≡ b
@@ -41,7 +45,8 @@ line_low start low at [] h = by (leb at start)
     by false = omega arith
 line_low start low at (e ∷ es) h = by (leb at start) (line_low start at (at + width (ended_leaves e)) es (omega arith))
   where
-    by : (b : Bool) → at ≤ last_to start at (line_starts (at + width (ended_leaves e)) es) → low ≤ (if b then last_to start at (line_starts (at + width (ended_leaves e)) es) else low)
+    by : (b : Bool) → at ≤ last_to start at (line_starts (at + width (ended_leaves e)) es)
+        → low ≤ (if b then last_to start at (line_starts (at + width (ended_leaves e)) es) else low)
     by true k = omega (arith, h, k)
     by false k = omega arith
 
@@ -53,12 +58,14 @@ next_high end total at [] h = by (leb end at) refl
     by false e = h
 next_high end total at (e ∷ es) h = by (leb end at) refl (next_high end total (at + width (ended_leaves e)) es h)
   where
-    by : (b : Bool) → leb end at ≡ b → end ≤ next_of end total (at + width (ended_leaves e)) es → end ≤ (if b then at else next_of end total (at + width (ended_leaves e)) es)
+    by : (b : Bool) → leb end at ≡ b → end ≤ next_of end total (at + width (ended_leaves e)) es
+        → end ≤ (if b then at else next_of end total (at + width (ended_leaves e)) es)
     by true t k = leb-true end at t
     by false t k = k
 
 -- a place after the first line is in one of the lines after it
-pub line_step : (start at : ℕ) (e : Ended) (es : List Ended) → at + width (ended_leaves e) ≤ start → line_of start at (e ∷ es) ≡ line_of start (at + width (ended_leaves e)) es
+pub line_step : (start at : ℕ) (e : Ended) (es : List Ended) → at + width (ended_leaves e) ≤ start
+    → line_of start at (e ∷ es) ≡ line_of start (at + width (ended_leaves e)) es
 line_step start at e es h = if_true (leb at start) _ _ (le-leb at start (omega (arith, h))) ∙ first es
   where
     b : ℕ
@@ -68,13 +75,16 @@ line_step start at e es h = if_true (leb at start) _ _ (le-leb at start (omega (
     first [] = if_true (leb b start) b at (le-leb b start h) ∙ sym (if_true (leb b start) b b (le-leb b start h))
     first (d ∷ ds) = if_true (leb b start) _ at (le-leb b start h) ∙ sym (if_true (leb b start) _ b (le-leb b start h))
 
-pub next_step : (end total at : ℕ) (e : Ended) (es : List Ended) → at < end → next_of end total at (e ∷ es) ≡ next_of end total (at + width (ended_leaves e)) es
+pub next_step : (end total at : ℕ) (e : Ended) (es : List Ended) → at < end
+    → next_of end total at (e ∷ es) ≡ next_of end total (at + width (ended_leaves e)) es
 next_step end total at e es h = if_false (leb end at) _ _ (lt-leb end at h)
 
-pub before_step : (place at : ℕ) (e : Ended) (es : List Ended) → at < place → lines_before place at (e ∷ es) ≡ e ∷ lines_before place (at + width (ended_leaves e)) es
+pub before_step : (place at : ℕ) (e : Ended) (es : List Ended) → at < place
+    → lines_before place at (e ∷ es) ≡ e ∷ lines_before place (at + width (ended_leaves e)) es
 before_step place at e es h = if_true (ltb at place) _ _ (lt-ltb at place h)
 
-pub from_step : (place at : ℕ) (e : Ended) (es : List Ended) → at < place → lines_from place at (e ∷ es) ≡ lines_from place (at + width (ended_leaves e)) es
+pub from_step : (place at : ℕ) (e : Ended) (es : List Ended) → at < place
+    → lines_from place at (e ∷ es) ≡ lines_from place (at + width (ended_leaves e)) es
 from_step place at e es h = if_true (ltb at place) _ _ (lt-ltb at place h)
 
 pub none_before : (at : ℕ) (es : List Ended) → lines_before at at es ≡ []

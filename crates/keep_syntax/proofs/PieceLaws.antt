@@ -20,7 +20,14 @@ use Rattle.keep_syntax.proofs.ReplacedLaws.{starts_move}
 
 -- what parts add that begin at a place
 abbrev pub piece : ℕ → Taken → Flat
-piece at t = record { kinds = kinds t.leaves; starts = starts at t.leaves; statements = t.statements; keys = t.keys; values = t.values }
+piece at t =
+    record {
+      kinds = kinds t.leaves;
+      starts = starts at t.leaves;
+      statements = t.statements;
+      keys = t.keys;
+      values = t.values;
+    }
 
 abbrev pub bom_piece : Document → Flat
 bom_piece d = piece 0 (only (bom_leaves d.bom))
@@ -34,16 +41,19 @@ abbrev pub lines_piece : Count → List Ended → Line → Flat
 lines_piece c es l = piece c.at (lines_taken c (es, l))
 
 -- the lines before others, and these
-pub lines_prefix : (c : Count) (xs ys : List Ended) (l : Line) → lines_piece c (xs ++ ys) l ≡ joined (ended_piece c xs) (lines_piece (after_lines c xs) ys l)
+pub lines_prefix : (c : Count) (xs ys : List Ended) (l : Line)
+    → lines_piece c (xs ++ ys) l ≡ joined (ended_piece c xs) (lines_piece (after_lines c xs) ys l)
 lines_prefix c xs ys l =
     let k = after_lines c xs in
     let before : List Written = flat_map ended_leaves xs in
     let after : List Written = flat_map ended_leaves ys ++ line_leaves l in
     let split : flat_map ended_leaves (xs ++ ys) ++ line_leaves l ≡ before ++ after =
-    ap (λ (ws : List Written). ws ++ line_leaves l) (flat_map-append ended_leaves xs ys) ∙ append_assoc before (flat_map ended_leaves ys) (line_leaves l) in
+    ap (λ (ws : List Written). ws ++ line_leaves l) (flat_map-append ended_leaves xs ys)
+    ∙ append_assoc before (flat_map ended_leaves ys) (line_leaves l) in
     same_flat (lines_piece c (xs ++ ys) l) (joined (ended_piece c xs) (lines_piece k ys l))
     (ap kinds split ∙ kinds-append before after)
-    (ap (starts c.at) split ∙ starts-append c.at before after ∙ ap (λ (n : ℕ). starts c.at before ++ starts n after) (sym (after_lines-at c xs)))
+    (ap (starts c.at) split ∙ starts-append c.at before after
+    ∙ ap (λ (n : ℕ). starts c.at before ++ starts n after) (sym (after_lines-at c xs)))
     (over-prefix line_statements c xs ys l)
     (over-prefix (λ c l line_end. line_parts c l) c xs ys l)
     (over-prefix (λ c l line_end. line_values c l) c xs ys l)
@@ -66,8 +76,10 @@ lines_ended c es =
     (ap kinds none)
     (ap (starts c.at) none)
     (over-last line_statements c es empty_line ∙ append-nil (over_ended line_statements c es))
-    (over-last (λ c l line_end. line_parts c l) c es empty_line ∙ append-nil (over_ended (λ c l line_end. line_parts c l) c es))
-    (over-last (λ c l line_end. line_values c l) c es empty_line ∙ append-nil (over_ended (λ c l line_end. line_values c l) c es))
+    (over-last (λ c l line_end. line_parts c l) c es empty_line
+    ∙ append-nil (over_ended (λ c l line_end. line_parts c l) c es))
+    (over-last (λ c l line_end. line_values c l) c es empty_line
+    ∙ append-nil (over_ended (λ c l line_end. line_values c l) c es))
 
 -- a document is its byte order mark and its lines
 pub flat_pieces : (d : Document) → flat_of d ≡ joined (bom_piece d) (lines_piece (first_line d) d.ended d.last)
@@ -77,17 +89,22 @@ flat_pieces d =
     let rest : List Written = flat_map ended_leaves d.ended ++ line_leaves d.last in
     same_flat (flat_of d) (joined (bom_piece d) (lines_piece (first_line d) d.ended d.last))
     (kinds-append bom rest)
-    (starts-append 0 bom rest ∙ ap (λ (n : ℕ). starts 0 bom ++ starts n rest) (let e : 0 + width bom ≡ width bom = omega arith in e))
+    (starts-append 0 bom rest
+    ∙ ap (λ (n : ℕ). starts 0 bom ++ starts n rest) (let e : 0 + width bom ≡ width bom = omega arith in e))
     refl refl refl
 
 -- its lines alone, if it has none
 pub flat_lines : (d : Document) → d.bom ≡ false → flat_of d ≡ lines_piece origin d.ended d.last
-flat_lines d e = flat_pieces d ∙ ap (λ (b : Bool). let x : Document = record { bom = b; ended = d.ended; last = d.last } in joined (bom_piece x) (lines_piece (first_line x) d.ended d.last)) e
+flat_lines d e =
+    flat_pieces d
+    ∙ ap (λ (b : Bool). let x : Document = record { bom = b; ended = d.ended; last = d.last } in
+    joined (bom_piece x) (lines_piece (first_line x) d.ended d.last)) e
 
 -- Lines among which some are new: those before unchanged, the new ones lifted, and those after moved.
 pub lines_replaced : (d : Document) (prefix gone new back : List Ended) (last : Line)
     → let c1 = after_lines (first_line d) prefix in
-    joined (joined (joined (bom_piece d) (ended_piece (first_line d) prefix)) (moved_flat origin c1 (lines_piece origin new empty_line)))
+    joined (joined (joined (bom_piece d) (ended_piece (first_line d) prefix))
+    (moved_flat origin c1 (lines_piece origin new empty_line)))
     (moved_flat (after_lines c1 gone) (after_lines c1 new) (lines_piece (after_lines c1 gone) back last))
     ≡ joined (bom_piece d) (lines_piece (first_line d) (prefix ++ (new ++ back)) last)
 lines_replaced d prefix gone new back last =
@@ -95,9 +112,11 @@ lines_replaced d prefix gone new back last =
     let c1 = after_lines c0 prefix in
     let c2 = after_lines c1 new in
     let before = joined (bom_piece d) (ended_piece c0 prefix) in
-    let here : moved_flat origin c1 (lines_piece origin new empty_line) ≡ ended_piece c1 new = lines_moved origin c1 new empty_line ∙ lines_ended c1 new in
+    let here : moved_flat origin c1 (lines_piece origin new empty_line) ≡ ended_piece c1 new =
+    lines_moved origin c1 new empty_line ∙ lines_ended c1 new in
     let there = lines_moved (after_lines c1 gone) c2 back last in
-    ap (λ (f : Flat). joined (joined before f) (moved_flat (after_lines c1 gone) c2 (lines_piece (after_lines c1 gone) back last))) here
+    ap (λ (f : Flat).
+    joined (joined before f) (moved_flat (after_lines c1 gone) c2 (lines_piece (after_lines c1 gone) back last))) here
     ∙ ap (λ (f : Flat). joined (joined before (ended_piece c1 new)) f) there
     ∙ joined_assoc before (ended_piece c1 new) (lines_piece c2 back last)
     ∙ ap (λ (f : Flat). joined before f) (sym (lines_prefix c1 new back last))
@@ -106,7 +125,8 @@ lines_replaced d prefix gone new back last =
 
 -- and where the new ones come last
 pub lines_replaced_last : (d : Document) (prefix new : List Ended) (last : Line)
-    → joined (joined (bom_piece d) (ended_piece (first_line d) prefix)) (moved_flat origin (after_lines (first_line d) prefix) (lines_piece origin new last))
+    → joined (joined (bom_piece d) (ended_piece (first_line d) prefix))
+    (moved_flat origin (after_lines (first_line d) prefix) (lines_piece origin new last))
     ≡ joined (bom_piece d) (lines_piece (first_line d) (prefix ++ new) last)
 lines_replaced_last d prefix new last =
     let c0 = first_line d in

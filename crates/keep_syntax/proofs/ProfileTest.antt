@@ -22,14 +22,17 @@ strict_found v h e =
     subst (λ (x : Value). IsValue Strict x) (one_value Wide w v (value_wider w r.valid) h (sym r.spelled)) r.valid
 
 strict_taken : (v : Value) → IsValue Strict v → is_strict v ≡ true
-strict_taken v h = ap is_ok (value_read Strict (value_depth v) (value_text v) v (record { valid = h; spelled = refl; shallow = omega arith }))
+strict_taken v h =
+    ap is_ok (value_read Strict (value_depth v) (value_text v) v
+    (record { valid = h; spelled = refl; shallow = omega arith }))
 
 pub profile_tested : ProfileIsTested
 profile_tested Strict v h = (strict_found v h, strict_taken v)
 profile_tested Wide v h = ((λ e. h), (λ k. refl))
 
 -- a value that the test takes is one of the profile's grammar
-pub allowed_value : (profile : Profile) (v : Value) → IsValue Wide v → is_allowed_in profile v ≡ true → IsValue profile v
+pub allowed_value : (profile : Profile) (v : Value) → IsValue Wide v → is_allowed_in profile v ≡ true
+    → IsValue profile v
 allowed_value profile v h e = (profile_tested profile v h).0 e
 
 -- the test takes each value of the profile's grammar

@@ -9,10 +9,13 @@ starts_on : (old new k : ℕ) (ws : List Written) → starts (new + k) ws ≡ ma
 starts_on old new k [] = refl
 starts_on old new k (w ∷ ws) =
     ap (λ n. n ∷ starts (new + k + length w.text) ws) (let e : new + k ≡ moved old new (old + k) = omega arith in e)
-    ∙ ap (λ n. moved old new (old + k) ∷ starts n ws) (let e : new + k + length w.text ≡ new + (k + length w.text) = omega arith in e)
+    ∙ ap (λ n. moved old new (old + k) ∷ starts n ws)
+    (let e : new + k + length w.text ≡ new + (k + length w.text) = omega arith in e)
     ∙ ap (λ xs. moved old new (old + k) ∷ xs) (starts_on old new (k + length w.text) ws)
-    ∙ ap (λ n. moved old new (old + k) ∷ map (moved old new) (starts n ws)) (let e : old + (k + length w.text) ≡ old + k + length w.text = omega arith in e)
+    ∙ ap (λ n. moved old new (old + k) ∷ map (moved old new) (starts n ws))
+    (let e : old + (k + length w.text) ≡ old + k + length w.text = omega arith in e)
 
 pub starts_move : (old new : ℕ) (ws : List Written) → starts new ws ≡ map (moved old new) (starts old ws)
 starts_move old new ws =
-    ap (λ n. starts n ws) (let e : new ≡ new + 0 = omega arith in e) ∙ starts_on old new 0 ws ∙ ap (λ n. map (moved old new) (starts n ws)) (let e : old + 0 ≡ old = omega arith in e)
+    ap (λ n. starts n ws) (let e : new ≡ new + 0 = omega arith in e) ∙ starts_on old new 0 ws
+    ∙ ap (λ n. map (moved old new) (starts n ws)) (let e : old + 0 ≡ old = omega arith in e)

@@ -8,7 +8,9 @@
 -- place is one where the text may be cut (`starts_cut`).
 --
 -- Theorems: `lines_are_replaced`: the new document; `reread_text`: its syntax is that of the new text.
-use Rattle.std.proofs.Common.{◌≡◌, ℕ, ◌+◌, ◌≤◌, Bool, true, false, List, [], ◌∷◌, ◌++◌, length, take, drop, slice_index, refl, sym, ap, subst, ◌∙◌, arith, add-one, append_assoc, ltb-true, ltb-false, IsCharBoundary}
+use Rattle.std.proofs.Common.{◌≡◌, ℕ, ◌+◌, ◌≤◌, Bool, true, false, List, [], ◌∷◌, ◌++◌, length, take, drop, slice_index}
+use Rattle.std.proofs.Common.{refl, sym, ap, subst, ◌∙◌, arith, add-one, append_assoc, ltb-true, ltb-false}
+use Rattle.std.proofs.Common.{IsCharBoundary}
 use Rattle.std.specs.Prelude.{ltb, if◌then◌else◌}
 use Rattle.std.specs.List.{flat_map, AllByRecursion}
 use Rattle.std.proofs.lemmas.List.{append-nil, length-append, drop_all}
@@ -18,7 +20,8 @@ use Rattle.std.proofs.Math.Seq.{take-append_seam, drop-append_seam}
 use Rattle.keep_types.specs.declared.leaf.Profile.{Profile}
 use Rattle.keep_types.specs.declared.syntax.Span.{Span}
 use Rattle.keep_syntax.specs.declared.syntax.Syntax.{Syntax}
-use Rattle.keep_syntax.specs.Tree.{Written, Line, Ended, Document, line_leaves, ended_leaves, bom_leaves, text_of, text, lines_depth, content_depth, depth}
+use Rattle.keep_syntax.specs.Tree.{Written, Line, Ended, Document, line_leaves, ended_leaves, bom_leaves, text_of, text}
+use Rattle.keep_syntax.specs.Tree.{lines_depth, content_depth, depth}
 use Rattle.keep_syntax.specs.Grammar.{IsLine, IsEnded, IsDocument}
 use Rattle.keep_syntax_store.specs.Flat.{Flat, flat}
 use Rattle.keep_syntax.specs.Growth.{starts, add_at}
@@ -43,7 +46,9 @@ abbrev line_text : Line → List ℕ
 line_text l = text_of (line_leaves l)
 
 ended_join : (xs ys : List Ended) → ended_text (xs ++ ys) ≡ ended_text xs ++ ended_text ys
-ended_join xs ys = ap text_of (flat_map-append ended_leaves xs ys) ∙ text_of-append (flat_map ended_leaves xs) (flat_map ended_leaves ys)
+ended_join xs ys =
+    ap text_of (flat_map-append ended_leaves xs ys)
+    ∙ text_of-append (flat_map ended_leaves xs) (flat_map ended_leaves ys)
 
 text_parts : (d : Document) → text d ≡ text_of (bom_leaves d.bom) ++ (ended_text d.ended ++ line_text d.last)
 text_parts d =
@@ -51,10 +56,14 @@ text_parts d =
     ∙ ap (λ t. text_of (bom_leaves d.bom) ++ t) (text_of-append (flat_map ended_leaves d.ended) (line_leaves d.last))
 
 -- the text of the new lines
-bytes_text : {profile : Profile} {limit : ℕ} {d : Document} {whole : Span} {bytes : List ℕ} {m : Document} → CanReplace profile limit d whole bytes m → bytes ≡ ended_text m.ended ++ line_text m.last
-bytes_text {m = m} h = h.reads.spelled ∙ text_parts m ∙ ap (λ (b : Bool). text_of (bom_leaves b) ++ (ended_text m.ended ++ line_text m.last)) h.bom
+bytes_text : {profile : Profile} {limit : ℕ} {d : Document} {whole : Span} {bytes : List ℕ} {m : Document}
+    → CanReplace profile limit d whole bytes m → bytes ≡ ended_text m.ended ++ line_text m.last
+bytes_text {m = m} h =
+    h.reads.spelled ∙ text_parts m
+    ∙ ap (λ (b : Bool). text_of (bom_leaves b) ++ (ended_text m.ended ++ line_text m.last)) h.bom
 
-put_text : (sp : Span) (a b c new bytes : List ℕ) → bytes ≡ a ++ (b ++ c) → sp.start ≡ length a → sp.end ≡ length a + length b → put_at sp new bytes ≡ a ++ (new ++ c)
+put_text : (sp : Span) (a b c new bytes : List ℕ) → bytes ≡ a ++ (b ++ c) → sp.start ≡ length a
+    → sp.end ≡ length a + length b → put_at sp new bytes ≡ a ++ (new ++ c)
 put_text sp a b c new bytes e start end =
     ap (λ t. take sp.start t ++ (new ++ drop sp.end t)) e
     ∙ ap (λ n. take n (a ++ (b ++ c)) ++ (new ++ drop sp.end (a ++ (b ++ c)))) start
@@ -64,7 +73,8 @@ put_text sp a b c new bytes e start end =
     ∙ ap (λ t. a ++ (new ++ t)) (drop-append_seam (a ++ b) c)
 
 -- A document with lines replaced has the text with these bytes replaced.
-pub replaced_text : {profile : Profile} {limit : ℕ} {d : Document} {whole : Span} {bytes : List ℕ} {m : Document} (h : CanReplace profile limit d whole bytes m) → put_at whole bytes (text d) ≡ text (replaced d whole m)
+pub replaced_text : {profile : Profile} {limit : ℕ} {d : Document} {whole : Span} {bytes : List ℕ} {m : Document}
+    (h : CanReplace profile limit d whole bytes m) → put_at whole bytes (text d) ≡ text (replaced d whole m)
 replaced_text {profile} {limit} {d} {whole} {bytes} {m} h =
     by (ltb whole.end (length (text d))) refl
   where
@@ -90,31 +100,46 @@ replaced_text {profile} {limit} {d} {whole} {bytes} {m} h =
     long = omega (arith, length-append bom (ended_text s.prefix), s.start_is)
 
     spelled : (es : List Ended) (l : Line) → r.ended ≡ es → r.last ≡ l → text r ≡ bom ++ (ended_text es ++ line_text l)
-    spelled es l e k = text_parts r ∙ ap (λ (xs : List Ended). bom ++ (ended_text xs ++ line_text r.last)) e ∙ ap (λ (x : Line). bom ++ (ended_text es ++ line_text x)) k
+    spelled es l e k =
+        text_parts r ∙ ap (λ (xs : List Ended). bom ++ (ended_text xs ++ line_text r.last)) e
+        ∙ ap (λ (x : Line). bom ++ (ended_text es ++ line_text x)) k
 
     old : text d ≡ before ++ (gone ++ (after ++ line_text d.last))
     old =
         text_parts d
-        ∙ ap (λ t. bom ++ (t ++ line_text d.last)) (ap ended_text s.all ∙ ended_join s.prefix (s.gone ++ s.back) ∙ ap (λ t. ended_text s.prefix ++ t) (ended_join s.gone s.back))
-        ∙ ap (λ t. bom ++ t) (append_assoc (ended_text s.prefix) (gone ++ after) (line_text d.last) ∙ ap (λ t. ended_text s.prefix ++ t) (append_assoc gone after (line_text d.last)))
+        ∙ ap (λ t. bom ++ (t ++ line_text d.last))
+        (ap ended_text s.all ∙ ended_join s.prefix (s.gone ++ s.back)
+        ∙ ap (λ t. ended_text s.prefix ++ t) (ended_join s.gone s.back))
+        ∙ ap (λ t. bom ++ t) (append_assoc (ended_text s.prefix) (gone ++ after) (line_text d.last)
+        ∙ ap (λ t. ended_text s.prefix ++ t) (append_assoc gone after (line_text d.last)))
         ∙ sym (append_assoc bom (ended_text s.prefix) (gone ++ (after ++ line_text d.last)))
 
     by : (b : Bool) → ltb whole.end (length (text d)) ≡ b → put_at whole bytes (text d) ≡ text r
     by true t =
         let more = ltb-true whole.end (length (text d)) t in
-        let new = bytes_text h ∙ ap (λ (l : Line). ended_text m.ended ++ line_text l) (empty_last h more) ∙ append-nil (ended_text m.ended) in
-        put_text whole before gone (after ++ line_text d.last) bytes (text d) old (sym long) (omega (arith, long, s.end_is more))
+        let new =
+        bytes_text h ∙ ap (λ (l : Line). ended_text m.ended ++ line_text l) (empty_last h more)
+        ∙ append-nil (ended_text m.ended) in
+        put_text whole before gone (after ++ line_text d.last) bytes (text d) old (sym long)
+        (omega (arith, long, s.end_is more))
         ∙ ap (λ x. before ++ (x ++ (after ++ line_text d.last))) new
-        ∙ sym (spelled (s.prefix ++ (m.ended ++ s.back)) d.last (middle_lines h) (if_true (ltb whole.end (length (text d))) d.last m.last t)
-        ∙ ap (λ x. bom ++ (x ++ line_text d.last)) (ended_join s.prefix (m.ended ++ s.back) ∙ ap (λ x. ended_text s.prefix ++ x) (ended_join m.ended s.back))
-        ∙ ap (λ x. bom ++ x) (append_assoc (ended_text s.prefix) (ended_text m.ended ++ after) (line_text d.last) ∙ ap (λ x. ended_text s.prefix ++ x) (append_assoc (ended_text m.ended) after (line_text d.last)))
+        ∙ sym (spelled (s.prefix ++ (m.ended ++ s.back)) d.last (middle_lines h)
+        (if_true (ltb whole.end (length (text d))) d.last m.last t)
+        ∙ ap (λ x. bom ++ (x ++ line_text d.last))
+        (ended_join s.prefix (m.ended ++ s.back) ∙ ap (λ x. ended_text s.prefix ++ x) (ended_join m.ended s.back))
+        ∙ ap (λ x. bom ++ x) (append_assoc (ended_text s.prefix) (ended_text m.ended ++ after) (line_text d.last)
+        ∙ ap (λ x. ended_text s.prefix ++ x) (append_assoc (ended_text m.ended) after (line_text d.last)))
         ∙ sym (append_assoc bom (ended_text s.prefix) (ended_text m.ended ++ (after ++ line_text d.last))))
     by false t =
         let past : length (text d) ≤ whole.end = ltb-false whole.end (length (text d)) t in
-        ap (λ x. x ++ (bytes ++ drop whole.end (text d))) (ap (λ x. take whole.start x) old ∙ ap (λ n. take n (before ++ (gone ++ (after ++ line_text d.last)))) (sym long) ∙ take-append_seam before (gone ++ (after ++ line_text d.last)))
+        ap (λ x. x ++ (bytes ++ drop whole.end (text d)))
+        (ap (λ x. take whole.start x) old
+        ∙ ap (λ n. take n (before ++ (gone ++ (after ++ line_text d.last)))) (sym long)
+        ∙ take-append_seam before (gone ++ (after ++ line_text d.last)))
         ∙ ap (λ x. before ++ (bytes ++ x)) (drop_all whole.end (text d) past)
         ∙ ap (λ x. before ++ x) (append-nil bytes ∙ bytes_text h)
-        ∙ sym (spelled (s.prefix ++ m.ended) m.last (end_lines h past) (if_false (ltb whole.end (length (text d))) d.last m.last t)
+        ∙ sym (spelled (s.prefix ++ m.ended) m.last (end_lines h past)
+        (if_false (ltb whole.end (length (text d))) d.last m.last t)
         ∙ ap (λ x. bom ++ (x ++ line_text m.last)) (ended_join s.prefix m.ended)
         ∙ ap (λ x. bom ++ x) (append_assoc (ended_text s.prefix) (ended_text m.ended) (line_text m.last))
         ∙ sym (append_assoc bom (ended_text s.prefix) (ended_text m.ended ++ line_text m.last)))
@@ -125,14 +150,17 @@ either : (P : Line → Type 0) (b : Bool) (x y : Line) → P x → P y → P (if
 either P true x y h k = h
 either P false x y h k = k
 
-pub replaced_valid : {profile : Profile} {limit : ℕ} {d : Document} {whole : Span} {bytes : List ℕ} {m : Document} → CanReplace profile limit d whole bytes m → IsDocument profile (replaced d whole m)
+pub replaced_valid : {profile : Profile} {limit : ℕ} {d : Document} {whole : Span} {bytes : List ℕ} {m : Document}
+    → CanReplace profile limit d whole bytes m → IsDocument profile (replaced d whole m)
 replaced_valid {profile} {limit} {d} {whole} {bytes} {m} h =
     let s = lines_of h in
     let all = subst (λ (es : List Ended). AllByRecursion (IsEnded profile) es) s.all h.valid.ended in
     let back = all_back (IsEnded profile) s.gone s.back (all_back (IsEnded profile) s.prefix (s.gone ++ s.back) all) in
     record {
       ended = subst (λ (es : List Ended). AllByRecursion (IsEnded profile) es) (sym (middle_lines h))
-          (all_append (IsEnded profile) s.prefix (m.ended ++ s.back) (all_prefix (IsEnded profile) s.prefix (s.gone ++ s.back) all) (all_append (IsEnded profile) m.ended s.back h.reads.valid.ended back));
+          (all_append (IsEnded profile) s.prefix (m.ended ++ s.back)
+          (all_prefix (IsEnded profile) s.prefix (s.gone ++ s.back) all)
+          (all_append (IsEnded profile) m.ended s.back h.reads.valid.ended back));
       last = either (IsLine profile) (ltb whole.end (length (text d))) d.last m.last h.valid.last h.reads.valid.last;
     }
 
@@ -150,19 +178,25 @@ depth_join : (n : ℕ) (xs ys : List Ended) → lines_depth xs ≤ n → lines_d
 depth_join n [] ys h k = k
 depth_join n (x ∷ xs) ys h k = let rest = depth_join n xs ys (omega (arith, h)) k in omega (arith, h, rest)
 
-replaced_shallow : {profile : Profile} {limit : ℕ} {d : Document} {whole : Span} {bytes : List ℕ} {m : Document} → CanReplace profile limit d whole bytes m → depth d ≤ limit → depth (replaced d whole m) ≤ limit
+replaced_shallow : {profile : Profile} {limit : ℕ} {d : Document} {whole : Span} {bytes : List ℕ} {m : Document}
+    → CanReplace profile limit d whole bytes m → depth d ≤ limit → depth (replaced d whole m) ≤ limit
 replaced_shallow {profile} {limit} {d} {whole} {bytes} {m} h low =
     let s = lines_of h in
     let all : lines_depth (s.prefix ++ (s.gone ++ s.back)) ≤ limit = omega (arith, low, ap lines_depth s.all) in
     let back = depth_back limit s.gone s.back (depth_back limit s.prefix (s.gone ++ s.back) all) in
     let new : lines_depth m.ended ≤ limit = omega (arith, h.reads.shallow) in
-    let ended = depth_join limit s.prefix (m.ended ++ s.back) (depth_prefix limit s.prefix (s.gone ++ s.back) all) (depth_join limit m.ended s.back new back) in
-    let last = either (λ (l : Line). content_depth l.content ≤ limit) (ltb whole.end (length (text d))) d.last m.last (omega (arith, low)) (omega (arith, h.reads.shallow)) in
+    let ended =
+    depth_join limit s.prefix (m.ended ++ s.back) (depth_prefix limit s.prefix (s.gone ++ s.back) all)
+    (depth_join limit m.ended s.back new back) in
+    let last =
+    either (λ (l : Line). content_depth l.content ≤ limit) (ltb whole.end (length (text d))) d.last m.last
+    (omega (arith, low)) (omega (arith, h.reads.shallow)) in
     omega (arith, ended, last, ap lines_depth (middle_lines h))
 
 -- Lines replaced in a document give a document.
 pub lines_are_replaced : LinesAreReplaced
-lines_are_replaced profile limit d whole lines m h low = record { valid = replaced_valid h; spelled = replaced_text h; shallow = replaced_shallow h low }
+lines_are_replaced profile limit d whole lines m h low =
+    record { valid = replaced_valid h; spelled = replaced_text h; shallow = replaced_shallow h low }
 
 -- ---- where a text may be cut
 
@@ -170,25 +204,33 @@ seam_byte : (prefix : List ℕ) (c : ℕ) (rest : List ℕ) → slice_index (pre
 seam_byte [] c rest = refl
 seam_byte (x ∷ xs) c rest = seam_byte xs c rest
 
-cut_here : (bytes prefix : List ℕ) (w : Written) (rest : List ℕ) (at : ℕ) → at ≡ length prefix → bytes ≡ prefix ++ (w.text ++ rest) → BeginsChar w → IsCharBoundary bytes at
+cut_here : (bytes prefix : List ℕ) (w : Written) (rest : List ℕ) (at : ℕ) → at ≡ length prefix
+    → bytes ≡ prefix ++ (w.text ++ rest) → BeginsChar w → IsCharBoundary bytes at
 cut_here bytes prefix w rest at here e h =
     by w.text e h
   where
-    by : (t : List ℕ) → bytes ≡ prefix ++ (t ++ rest) → BeginsChar (record { leaf = w.leaf; text = t }) → IsCharBoundary bytes at
+    by : (t : List ℕ) → bytes ≡ prefix ++ (t ++ rest) → BeginsChar (record { leaf = w.leaf; text = t })
+        → IsCharBoundary bytes at
     by [] e h = absurd (omega (arith, h.0))
     by (c ∷ cs) e h =
-        let is : slice_index bytes at ≡ c = ap (slice_index bytes) here ∙ ap (λ t. slice_index t (length prefix)) e ∙ seam_byte prefix c (cs ++ rest) in
-        (omega (arith, here, ap length e, length-append prefix ((c ∷ cs) ++ rest)), λ within high. let low : 192 ≤ c = h.1 (omega (arith, high, is)) in omega (arith, low, is))
+        let is : slice_index bytes at ≡ c =
+        ap (slice_index bytes) here ∙ ap (λ t. slice_index t (length prefix)) e ∙ seam_byte prefix c (cs ++ rest) in (
+          omega (arith, here, ap length e, length-append prefix ((c ∷ cs) ++ rest)),
+          λ within high. let low : 192 ≤ c = h.1 (omega (arith, high, is)) in omega (arith, low, is),
+        )
 
-starts_cut : (bytes prefix : List ℕ) (ws : List Written) (at : ℕ) → at ≡ length prefix → bytes ≡ prefix ++ text_of ws → AreSome ws → AllByRecursion (IsCharBoundary bytes) (starts at ws)
+starts_cut : (bytes prefix : List ℕ) (ws : List Written) (at : ℕ) → at ≡ length prefix → bytes ≡ prefix ++ text_of ws
+    → AreSome ws → AllByRecursion (IsCharBoundary bytes) (starts at ws)
 starts_cut bytes prefix [] at here e h = tt
 starts_cut bytes prefix (w ∷ ws) at here e h = (
   cut_here bytes prefix w (text_of ws) at here e h.0,
-  starts_cut bytes (prefix ++ w.text) ws (at + length w.text) (omega (arith, here, length-append prefix w.text)) (e ∙ sym (append_assoc prefix w.text (text_of ws))) h.1,
+  starts_cut bytes (prefix ++ w.text) ws (at + length w.text) (omega (arith, here, length-append prefix w.text))
+      (e ∙ sym (append_assoc prefix w.text (text_of ws))) h.1,
 )
 
 -- The syntax of a document of the grammar is that of its text.
-pub syntax_text : (profile : Profile) (s : Syntax) (d : Document) → IsDocument profile d → IsSyntaxOf s d → IsTextOf s (text d)
+pub syntax_text : (profile : Profile) (s : Syntax) (d : Document) → IsDocument profile d → IsSyntaxOf s d
+    → IsTextOf s (text d)
 unfolding add_at
 syntax_text profile s d valid is =
     let inner = inner_leaves d in
@@ -199,12 +241,17 @@ syntax_text profile s d valid is =
       document = d;
       spelled = refl;
       is = is;
-      cuts = λ n. subst (λ (ss : List ℕ). IsCharBoundary bytes (start_in bytes ss n)) (sym begins) (start_holds (IsCharBoundary bytes) bytes (starts 0 inner) cuts (IsCharBoundary-end bytes) n);
+      cuts = λ n.
+          subst (λ (ss : List ℕ). IsCharBoundary bytes (start_in bytes ss n)) (sym begins)
+          (start_holds (IsCharBoundary bytes) bytes (starts 0 inner) cuts (IsCharBoundary-end bytes) n);
       forward = λ n. subst (λ (ss : List ℕ). start_in bytes ss n ≤ start_in bytes ss (n + 1)) (sym begins)
-          (subst (λ (m : ℕ). start_in bytes (starts 0 inner) n ≤ start_in bytes (starts 0 inner) m) (sym (add-one n)) (start_forward bytes 0 inner (omega (arith, ap length (inner_text d))) n));
+          (subst (λ (m : ℕ). start_in bytes (starts 0 inner) n ≤ start_in bytes (starts 0 inner) m) (sym (add-one n))
+          (start_forward bytes 0 inner (omega (arith, ap length (inner_text d))) n));
     }
 
-pub reread_text : {profile : Profile} {limit : ℕ} {d : Document} {whole : Span} {bytes : List ℕ} {m : Document} (s : Syntax) → CanReplace profile limit d whole bytes m → IsSyntaxOf s (replaced d whole m)
+pub reread_text : {profile : Profile} {limit : ℕ} {d : Document} {whole : Span} {bytes : List ℕ} {m : Document}
+    (s : Syntax) → CanReplace profile limit d whole bytes m → IsSyntaxOf s (replaced d whole m)
     → IsTextOf s (put_at whole bytes (text d))
 reread_text {profile} {limit} {d} {whole} {bytes} {m} s h is =
-    subst (λ (t : List ℕ). IsTextOf s t) (sym (replaced_text h)) (syntax_text profile s (replaced d whole m) (replaced_valid h) is)
+    subst (λ (t : List ℕ). IsTextOf s t) (sym (replaced_text h))
+    (syntax_text profile s (replaced d whole m) (replaced_valid h) is)

@@ -24,5 +24,7 @@ same_text {bytes = bytes} h is = record {
   spelled = is.spelled;
   is = same_syntax h is.is;
   cuts = λ n. subst (λ (f : Flat). IsCharBoundary bytes (start_in bytes f.starts n)) (sym h.stored) (is.cuts n);
-  forward = λ n. subst (λ (f : Flat). start_in bytes f.starts n ≤ start_in bytes f.starts (n + 1)) (sym h.stored) (is.forward n);
+  forward =
+      λ n. subst (λ (f : Flat). start_in bytes f.starts n ≤ start_in bytes f.starts (n + 1)) (sym h.stored)
+      (is.forward n);
 }

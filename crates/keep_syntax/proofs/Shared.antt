@@ -8,12 +8,15 @@ pub use Rattle.keep_syntax.proofs.DocumentLaws.{one_document}
 pub use Rattle.keep_syntax.proofs.GapCodeLaws.{first-drop}
 pub use Rattle.keep_syntax.proofs.KeyLaws.{key_first_solid, name_begins, part_begins}
 pub use Rattle.keep_syntax.proofs.LawLaws.{tokens_few}
-pub use Rattle.keep_syntax.proofs.LineNumberingLaws.{after_lines-at, after_lines-statements, after_lines-values, over_ended}
-pub use Rattle.keep_syntax.proofs.LineStartLaws.{HaveBytes, all_from, before_step, from_step, line_low, line_of, line_step, next_high, next_of, next_step, none_before, same_begin}
+pub use Rattle.keep_syntax.proofs.LineNumberingLaws.{after_lines-at, after_lines-statements, after_lines-values}
+pub use Rattle.keep_syntax.proofs.LineNumberingLaws.{over_ended}
+pub use Rattle.keep_syntax.proofs.LineStartLaws.{HaveBytes, all_from, before_step, from_step, line_low, line_of}
+pub use Rattle.keep_syntax.proofs.LineStartLaws.{line_step, next_high, next_of, next_step, none_before, same_begin}
 pub use Rattle.keep_syntax.proofs.GrowthLaws.{width-append}
 pub use Rattle.keep_syntax.proofs.ProfileTest.{allowed_value, value_allowed}
 pub use Rattle.keep_syntax.proofs.ReplacedTextLaws.{replaced_text}
-pub use Rattle.keep_syntax.proofs.SpaceLaws.{comment_class, gap_blank, is_solid, newline_class, place_of, solid_no_ws, space_class, text_of-append}
+pub use Rattle.keep_syntax.proofs.SpaceLaws.{comment_class, gap_blank, is_solid, newline_class, place_of, solid_no_ws}
+pub use Rattle.keep_syntax.proofs.SpaceLaws.{space_class, text_of-append}
 pub use Rattle.keep_syntax.proofs.SplitLaws.{bytes_of, text_length}
 pub use Rattle.keep_syntax.proofs.ValueLaws.{value_first_solid}
 pub use Rattle.keep_syntax.proofs.WholeLaws.{one_value}

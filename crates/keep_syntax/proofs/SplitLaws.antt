@@ -1,5 +1,6 @@
 -- The lines of a document in three parts: those before the lines that a span touches, these, and those after.
-use Rattle.std.proofs.Common.{◌≡◌, ℕ, ◌+◌, ◌<◌, ◌≤◌, Bool, true, false, List, [], ◌∷◌, ◌++◌, length, refl, sym, ap, subst, ◌∙◌, arith, le-leb, leb-true, leb-false}
+use Rattle.std.proofs.Common.{◌≡◌, ℕ, ◌+◌, ◌<◌, ◌≤◌, Bool, true, false, List, [], ◌∷◌, ◌++◌, length, refl, sym, ap}
+use Rattle.std.proofs.Common.{subst, ◌∙◌, arith, le-leb, leb-true, leb-false}
 use Rattle.std.specs.Prelude.{leb}
 use Rattle.std.specs.List.{flat_map, AllByRecursion}
 use Rattle.std.proofs.lemmas.List.{length-append}
@@ -13,7 +14,8 @@ use Rattle.keep_syntax.specs.WholeLines.{line_starts, last_to, lines_before, lin
 use Rattle.keep_syntax.proofs.SpaceLaws.{gap_leaf_some}
 use Rattle.keep_syntax.proofs.GrowthLaws.{width-append}
 use Rattle.keep_syntax_store.proofs.Shared.{if_true, if_false}
-use Rattle.keep_syntax.proofs.LineStartLaws.{HaveBytes, line_of, next_of, line_low, next_high, line_step, next_step, before_step, from_step, none_before, all_from}
+use Rattle.keep_syntax.proofs.LineStartLaws.{HaveBytes, line_of, next_of, line_low, next_high, line_step, next_step}
+use Rattle.keep_syntax.proofs.LineStartLaws.{before_step, from_step, none_before, all_from}
 
 abbrev pub bytes_of : List Ended → ℕ
 bytes_of es = width (flat_map ended_leaves es)
@@ -21,8 +23,15 @@ bytes_of es = width (flat_map ended_leaves es)
 -- a line with a newline has a byte
 pub have_bytes : (profile : Profile) (es : List Ended) → AllByRecursion (IsEnded profile) es → HaveBytes es
 have_bytes profile [] h = tt
-have_bytes profile (e ∷ es) h =
-    (omega (arith, gap_leaf_some leaf.Newline e.newline.text refl h.0.newline, width-append (line_leaves e.line) (e.newline ∷ []), length-append e.newline.text []), have_bytes profile es h.1)
+have_bytes profile (e ∷ es) h = (
+  omega (
+    arith,
+    gap_leaf_some leaf.Newline e.newline.text refl h.0.newline,
+    width-append (line_leaves e.line) (e.newline ∷ []),
+    length-append e.newline.text [],
+  ),
+  have_bytes profile es h.1,
+)
 
 -- ---- from the first touched line on
 
@@ -34,16 +43,31 @@ record Rest (total at : ℕ) (es : List Ended) (o : ℕ) : Type 0 where
   end_is : o < total → o ≡ at + bytes_of gone
   none : total ≤ o → back ≡ []
 
-rest : (end total at : ℕ) (es : List Ended) → HaveBytes es → end ≤ total → at + bytes_of es ≤ total → Rest total at es (next_of end total at es)
+rest : (end total at : ℕ) (es : List Ended) → HaveBytes es → end ≤ total → at + bytes_of es ≤ total
+    → Rest total at es (next_of end total at es)
 rest end total at [] h within fills = by (leb end at) refl
   where
     by : (b : Bool) → leb end at ≡ b → Rest total at [] (next_of end total at [])
-    by true t = subst (λ n. Rest total at [] n) (sym (if_true (leb end at) at total t)) (record { gone = []; back = []; all = refl; from = refl; end_is = λ k. omega arith; none = λ k. refl })
-    by false t = subst (λ n. Rest total at [] n) (sym (if_false (leb end at) at total t)) (record { gone = []; back = []; all = refl; from = refl; end_is = λ k. absurd (omega (arith, k)); none = λ k. refl })
+    by true t =
+        subst (λ n. Rest total at [] n) (sym (if_true (leb end at) at total t))
+        (record { gone = []; back = []; all = refl; from = refl; end_is = λ k. omega arith; none = λ k. refl })
+    by false t =
+        subst (λ n. Rest total at [] n) (sym (if_false (leb end at) at total t))
+        (record {
+          gone = [];
+          back = [];
+          all = refl;
+          from = refl;
+          end_is = λ k. absurd (omega (arith, k));
+          none = λ k. refl;
+        })
 rest end total at (e ∷ es) h within fills =
-    by (leb end at) refl (rest end total (at + width (ended_leaves e)) es h.1 within (omega (arith, fills, width-append (ended_leaves e) (flat_map ended_leaves es))))
+    by (leb end at) refl (rest end total (at + width (ended_leaves e)) es h.1 within
+    (omega (arith, fills, width-append (ended_leaves e) (flat_map ended_leaves es))))
   where
-    by : (b : Bool) → leb end at ≡ b → Rest total (at + width (ended_leaves e)) es (next_of end total (at + width (ended_leaves e)) es) → Rest total at (e ∷ es) (next_of end total at (e ∷ es))
+    by : (b : Bool) → leb end at ≡ b
+        → Rest total (at + width (ended_leaves e)) es (next_of end total (at + width (ended_leaves e)) es)
+        → Rest total at (e ∷ es) (next_of end total at (e ∷ es))
     by true t r =
         subst (λ n. Rest total at (e ∷ es) n) (sym (if_true (leb end at) at _ t))
         (record {
@@ -82,16 +106,34 @@ pub record Split (total at : ℕ) (es : List Ended) (p o : ℕ) : Type 0 where
   pub none : total ≤ o → back ≡ []
 
 split_here : (total at : ℕ) (es : List Ended) (o : ℕ) → Rest total at es o → Split total at es at o
-split_here total at es o r = record { prefix = []; gone = r.gone; back = r.back; all = r.all; before = none_before at es; from = r.from; start_is = omega arith; end_is = r.end_is; none = r.none }
+split_here total at es o r =
+    record {
+      prefix = [];
+      gone = r.gone;
+      back = r.back;
+      all = r.all;
+      before = none_before at es;
+      from = r.from;
+      start_is = omega arith;
+      end_is = r.end_is;
+      none = r.none;
+    }
 
-split : (start end total at : ℕ) (es : List Ended) → HaveBytes es → at ≤ start → start ≤ end → end ≤ total → at + bytes_of es ≤ total → Split total at es (line_of start at es) (next_of end total at es)
+split : (start end total at : ℕ) (es : List Ended) → HaveBytes es → at ≤ start → start ≤ end → end ≤ total
+    → at + bytes_of es ≤ total → Split total at es (line_of start at es) (next_of end total at es)
 split start end total at [] h low order within fills =
-    subst (λ n. Split total at [] n (next_of end total at [])) (sym (if_true (leb at start) at at (le-leb at start low))) (split_here total at [] (next_of end total at []) (rest end total at [] h within fills))
+    subst (λ n. Split total at [] n (next_of end total at []))
+    (sym (if_true (leb at start) at at (le-leb at start low)))
+    (split_here total at [] (next_of end total at []) (rest end total at [] h within fills))
 split start end total at (e ∷ es) h low order within fills =
-    by (leb (at + width (ended_leaves e)) start) refl (λ k. split start end total (at + width (ended_leaves e)) es h.1 k order within (omega (arith, fills, width-append (ended_leaves e) (flat_map ended_leaves es))))
+    by (leb (at + width (ended_leaves e)) start) refl
+    (λ k. split start end total (at + width (ended_leaves e)) es h.1 k order within
+    (omega (arith, fills, width-append (ended_leaves e) (flat_map ended_leaves es))))
   where
     by : (b : Bool) → leb (at + width (ended_leaves e)) start ≡ b
-        → (at + width (ended_leaves e) ≤ start → Split total (at + width (ended_leaves e)) es (line_of start (at + width (ended_leaves e)) es) (next_of end total (at + width (ended_leaves e)) es))
+        → (at + width (ended_leaves e) ≤ start
+        → Split total (at + width (ended_leaves e)) es (line_of start (at + width (ended_leaves e)) es)
+        (next_of end total (at + width (ended_leaves e)) es))
         → Split total at (e ∷ es) (line_of start at (e ∷ es)) (next_of end total at (e ∷ es))
     by true t more =
         let b : ℕ = at + width (ended_leaves e) in
@@ -115,7 +157,9 @@ split start end total at (e ∷ es) h low order within fills =
           none = r.none;
         }))
     by false t more =
-        subst (λ n. Split total at (e ∷ es) n (next_of end total at (e ∷ es))) (sym (if_true (leb at start) _ at (le-leb at start low) ∙ stop es)) (split_here total at (e ∷ es) (next_of end total at (e ∷ es)) (rest end total at (e ∷ es) h within fills))
+        subst (λ n. Split total at (e ∷ es) n (next_of end total at (e ∷ es)))
+        (sym (if_true (leb at start) _ at (le-leb at start low) ∙ stop es))
+        (split_here total at (e ∷ es) (next_of end total at (e ∷ es)) (rest end total at (e ∷ es) h within fills))
       where
         stop : (es : List Ended) → last_to start at (line_starts (at + width (ended_leaves e)) es) ≡ at
         stop [] = if_false (leb (at + width (ended_leaves e)) start) _ at t
@@ -125,9 +169,16 @@ split start end total at (e ∷ es) h low order within fills =
 pub text_length : (d : Document) → length (text d) ≡ begin d + (bytes_of d.ended + width (line_leaves d.last))
 text_length d =
     let end : List Written = token leaf.End [] in
-    omega (arith, width-append (bom_leaves d.bom) (flat_map ended_leaves d.ended ++ (line_leaves d.last ++ end)), width-append (flat_map ended_leaves d.ended) (line_leaves d.last ++ end), width-append (line_leaves d.last) end)
+    omega (
+      arith,
+      width-append (bom_leaves d.bom) (flat_map ended_leaves d.ended ++ (line_leaves d.last ++ end)),
+      width-append (flat_map ended_leaves d.ended) (line_leaves d.last ++ end),
+      width-append (line_leaves d.last) end,
+    )
 
-pub document_split : (profile : Profile) (d : Document) (sp : Span) → IsDocument profile d → begin d ≤ sp.start → sp.start ≤ sp.end → sp.end ≤ length (text d)
+pub document_split : (profile : Profile) (d : Document) (sp : Span) → IsDocument profile d → begin d ≤ sp.start
+    → sp.start ≤ sp.end → sp.end ≤ length (text d)
     → Split (length (text d)) (begin d) d.ended (touched d sp).start (touched d sp).end
 document_split profile d sp valid low order within =
-    split sp.start sp.end (length (text d)) (begin d) d.ended (have_bytes profile d.ended valid.ended) low order within (omega (arith, text_length d))
+    split sp.start sp.end (length (text d)) (begin d) d.ended (have_bytes profile d.ended valid.ended) low order within
+    (omega (arith, text_length d))

@@ -4,15 +4,19 @@ use Rattle.std.specs.List.{AllByRecursion}
 use Rattle.keep_types.specs.declared.leaf.Profile.TheVariants.{Strict, Wide}
 use Rattle.keep_token.proofs.Shared.{leaf_wider}
 use Rattle.keep_syntax.proofs.SpaceLaws.{space_blank}
-use Rattle.keep_syntax.specs.Tree.{Written, Gap, Further, Key, Name, Body, scalar, array, inline, Entries, none, entry, Value, Content, blank, keyval, header, element, Line, Ended, Document}
-use Rattle.keep_syntax.specs.Grammar.{IsKeyPart, IsFurther, IsKey, IsName, Place, in_scalar, in_array, in_inline, place_in, IsGap, IsNamed, IsBody, MayEndInComma, IsComma, AreEntries, IsValue, IsContent, IsLine, IsEnded, IsDocument, Reads, ReadsValue}
+use Rattle.keep_syntax.specs.Tree.{Written, Gap, Further, Key, Name, Body, scalar, array, inline, Entries, none, entry}
+use Rattle.keep_syntax.specs.Tree.{Value, Content, blank, keyval, header, element, Line, Ended, Document}
+use Rattle.keep_syntax.specs.Grammar.{IsKeyPart, IsFurther, IsKey, IsName, Place, in_scalar, in_array, in_inline}
+use Rattle.keep_syntax.specs.Grammar.{place_in, IsGap, IsNamed, IsBody, MayEndInComma, IsComma, AreEntries, IsValue}
+use Rattle.keep_syntax.specs.Grammar.{IsContent, IsLine, IsEnded, IsDocument, Reads, ReadsValue}
 
 part_wider : (w : Written) → IsKeyPart Strict w → IsKeyPart Wide w
 part_wider w h = (h.0, leaf_wider w.leaf w.text h.1)
 
 more_wider : (fs : List Further) → AllByRecursion (IsFurther Strict) fs → AllByRecursion (IsFurther Wide) fs
 more_wider [] h = tt
-more_wider (f ∷ fs) h = (record { before = h.0.before; after = h.0.after; part = part_wider f.part h.0.part }, more_wider fs h.1)
+more_wider (f ∷ fs) h =
+    (record { before = h.0.before; after = h.0.after; part = part_wider f.part h.0.part }, more_wider fs h.1)
 
 key_wider : (k : Key) → IsKey Strict k → IsKey Wide k
 key_wider k h = record { first = part_wider k.first h.first; more = more_wider k.more h.more }
@@ -43,7 +47,8 @@ last_wider in_scalar h = h
 last_wider in_array h = h
 last_wider in_inline h = absurd h
 
-comma_wider : (place : Place) (c : Option Gap) (rest : Entries) → IsComma Strict place c rest → IsComma Wide place c rest
+comma_wider : (place : Place) (c : Option Gap) (rest : Entries) → IsComma Strict place c rest
+    → IsComma Wide place c rest
 comma_wider place None none h = h
 comma_wider place None (entry name body nested after comma rest) h = h
 comma_wider place (Some b) none h = (gap_wider place b h.0, last_wider place h.1)
@@ -51,8 +56,14 @@ comma_wider place (Some b) (entry name body nested after comma rest) h = gap_wid
 
 entries_wider : (es : Entries) (place : Place) → AreEntries Strict place es → AreEntries Wide place es
 entries_wider none place h = tt
-entries_wider (entry name body nested after comma rest) place h =
-    (named_wider place name h.0, body_wider body h.1, entries_wider nested (place_in body) h.2, gap_wider place after h.3, comma_wider place comma rest h.4, entries_wider rest place h.5)
+entries_wider (entry name body nested after comma rest) place h = (
+  named_wider place name h.0,
+  body_wider body h.1,
+  entries_wider nested (place_in body) h.2,
+  gap_wider place after h.3,
+  comma_wider place comma rest h.4,
+  entries_wider rest place h.5,
+)
 
 pub value_wider : (v : Value) → IsValue Strict v → IsValue Wide v
 value_wider v h = record { body = body_wider v.body h.body; nested = entries_wider v.nested (place_in v.body) h.nested }
@@ -64,11 +75,13 @@ content_wider (header before key after) h = (h.0, key_wider key h.1, h.2)
 content_wider (element before key after) h = (h.0, key_wider key h.1, h.2)
 
 line_wider : (l : Line) → IsLine Strict l → IsLine Wide l
-line_wider l h = record { before = h.before; content = content_wider l.content h.content; after = h.after; comment = h.comment }
+line_wider l h =
+    record { before = h.before; content = content_wider l.content h.content; after = h.after; comment = h.comment }
 
 ended_wider : (es : List Ended) → AllByRecursion (IsEnded Strict) es → AllByRecursion (IsEnded Wide) es
 ended_wider [] h = tt
-ended_wider (e ∷ es) h = (record { line = line_wider e.line h.0.line; kind = h.0.kind; newline = h.0.newline }, ended_wider es h.1)
+ended_wider (e ∷ es) h =
+    (record { line = line_wider e.line h.0.line; kind = h.0.kind; newline = h.0.newline }, ended_wider es h.1)
 
 pub document_wider : (s : Document) → IsDocument Strict s → IsDocument Wide s
 document_wider s h = record { ended = ended_wider s.ended h.ended; last = line_wider s.last h.last }
@@ -76,5 +89,6 @@ document_wider s h = record { ended = ended_wider s.ended h.ended; last = line_w
 pub reads_wider : (limit : ℕ) (bytes : List ℕ) (s : Document) → Reads Strict limit bytes s → Reads Wide limit bytes s
 reads_wider limit bytes s h = record { valid = document_wider s h.valid; spelled = h.spelled; shallow = h.shallow }
 
-pub reads_value_wider : (limit : ℕ) (bytes : List ℕ) (v : Value) → ReadsValue Strict limit bytes v → ReadsValue Wide limit bytes v
+pub reads_value_wider : (limit : ℕ) (bytes : List ℕ) (v : Value) → ReadsValue Strict limit bytes v
+    → ReadsValue Wide limit bytes v
 reads_value_wider limit bytes v h = record { valid = value_wider v h.valid; spelled = h.spelled; shallow = h.shallow }

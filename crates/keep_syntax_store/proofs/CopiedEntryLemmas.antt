@@ -1,5 +1,6 @@
 -- Packed entries of one block, none of it moved, are copied as they are stored.
-use Rattle.std.proofs.Common.{◌≡◌, ℕ, ◌+◌, ◌-◌, ◌*◌, ◌/◌, ◌<◌, ◌≤◌, List, ◌++◌, length, map, take, drop, get_or, refl, sym, ap, ◌∙◌, arith, true, false, Option, Some, None}
+use Rattle.std.proofs.Common.{◌≡◌, ℕ, ◌+◌, ◌-◌, ◌*◌, ◌/◌, ◌<◌, ◌≤◌, List, ◌++◌, length, map, take, drop, get_or, refl}
+use Rattle.std.proofs.Common.{sym, ap, ◌∙◌, arith, true, false, Option, Some, None}
 use Rattle.std.specs.Prelude.{slice_range, is_some}
 use Rattle.std.proofs.Math.Nat.{div-mul-le_self, lt-div-mul-add}
 use Rattle.std.proofs.lemmas.List.{length-map, map-append}
@@ -20,11 +21,19 @@ none_is (Some x) e = absurd (let k : true ≡ false = e in cc)
 -- the number of a place's block, which is that of another place's block
 block_is : (from to i : ℕ) → to ≤ (from / 16 + 1) * 16 → from ≤ i → i < to → i / 16 ≡ from / 16
 block_is from to i block low high =
-    omega (arith, block, low, high, div-mul-le_self i 16, div-mul-le_self from 16, (let a : i < i / 16 * 16 + 16 = lt-div-mul-add (omega arith) in a))
+    omega (
+      arith,
+      block,
+      low,
+      high,
+      div-mul-le_self i 16,
+      div-mul-le_self from 16,
+      (let a : i < i / 16 * 16 + 16 = lt-div-mul-add (omega arith) in a),
+    )
 
 -- those of a run's block before the run, where all up to `end` are packed
-pub packed_before : {E P : Type 0} (from to end : ℕ) (v : PackedVec E P) → from ≤ to → to ≤ end → to ≤ length v.packed.items → IsFree (from / 16 * 16) end v.unfit
-    → IsPackedRun (from / 16 * 16) from v
+pub packed_before : {E P : Type 0} (from to end : ℕ) (v : PackedVec E P) → from ≤ to → to ≤ end
+    → to ≤ length v.packed.items → IsFree (from / 16 * 16) end v.unfit → IsPackedRun (from / 16 * 16) from v
 packed_before from to end v order more within free =
     let start = from / 16 * 16 in
     let high : from < from / 16 * 16 + 16 = lt-div-mul-add (omega arith) in
@@ -43,10 +52,13 @@ module _ {E P : Type 0} (unpack : P → E) (raise : ℕ → E → E) where
   stored_range v from to run still =
       ap (take k) (blocks_drop raise ms 0 from ys ∙ ap (λ i. in_blocks raise ms i (drop from ys)) zero_more)
       ∙ blocks_take raise ms from k (drop from ys)
-      ∙ ap (in_blocks raise ms from) (ap (take k) (unfit_drop v.unfit 0 from xs ∙ ap (λ i. with_unfit v.unfit i (drop from xs)) zero_more)
+      ∙ ap (in_blocks raise ms from)
+      (ap (take k) (unfit_drop v.unfit 0 from xs ∙ ap (λ i. with_unfit v.unfit i (drop from xs)) zero_more)
       ∙ unfit_take v.unfit from k (drop from xs)
       ∙ unfit_free v.unfit from zs (λ i low high. run.free i low (omega (arith, high, size, run.order))))
-      ∙ blocks_still raise ms from zs (λ i low high. ap (λ b. get_or ms b None) (block_is from to i run.block low (omega (arith, high, size, run.order))) ∙ still)
+      ∙ blocks_still raise ms from zs
+      (λ i low high.
+      ap (λ b. get_or ms b None) (block_is from to i run.block low (omega (arith, high, size, run.order))) ∙ still)
       ∙ sym (map_take unpack k (drop from v.packed.items) ∙ ap (take k) (map_drop unpack from v.packed.items))
     where
       k : ℕ
@@ -71,9 +83,10 @@ module _ {E P : Type 0} (unpack : P → E) (raise : ℕ → E → E) where
       size = range_length xs from to run.order (omega (arith, run.within, length-map v.packed.items unpack))
 
   -- what a list has once packed entries of another are copied to its end
-  pub copied : (w v : PackedVec E P) (ps : List P) (from to : ℕ) → IsAllPacked w → IsPackedRun from to v → move_of v.moves.items from ≡ None
-      → ps ≡ w.packed.items ++ slice_range v.packed.items from to
-      → in_blocks raise w.moves.items 0 (with_unfit w.unfit 0 (map unpack ps)) ≡ entries unpack raise w ++ slice_range (entries unpack raise v) from to
+  pub copied : (w v : PackedVec E P) (ps : List P) (from to : ℕ) → IsAllPacked w → IsPackedRun from to v
+      → move_of v.moves.items from ≡ None → ps ≡ w.packed.items ++ slice_range v.packed.items from to
+      → in_blocks raise w.moves.items 0 (with_unfit w.unfit 0 (map unpack ps)) ≡ entries unpack raise w
+      ++ slice_range (entries unpack raise v) from to
   copied w v ps from to h run still is =
       ap (λ ms. in_blocks raise ms 0 (with_unfit w.unfit 0 (map unpack ps))) h.still
       ∙ no_blocks raise 0 (with_unfit w.unfit 0 (map unpack ps))

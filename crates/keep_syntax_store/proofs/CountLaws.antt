@@ -30,7 +30,8 @@ places_within at (step ∷ steps) (place ∷ far) = elim (eqb_tells step FAR) [
   | inr t ↦ rw t.0 (omega (arith, places_within (at + step) steps (place ∷ far)))
 ]
 
-one_before : (place at : ℕ) (places : List ℕ) → at < place → places_before place (at ∷ places) ≡ suc (places_before place places)
+one_before : (place at : ℕ) (places : List ℕ) → at < place
+    → places_before place (at ∷ places) ≡ suc (places_before place places)
 one_before place at places before = rw (lt-ltb at place before)
 
 -- Near steps lead forward: where the last of their places is before a place, so are the others.
@@ -45,7 +46,8 @@ near_before place at (step ∷ steps) rest none last =
     ∙ omega arith
 
 -- a place, the near places after it, and the others
-pub run_counted : (place at there : ℕ) (left after near rest : List ℕ) → left ≡ at ∷ after → at ≡ there → after ≡ places_at there near [] ++ rest → fars near ≡ 0
+pub run_counted : (place at there : ℕ) (left after near rest : List ℕ) → left ≡ at ∷ after → at ≡ there
+    → after ≡ places_at there near [] ++ rest → fars near ≡ 0
     → at < place → at + sum near < place → places_before place left ≡ 1 + length near + places_before place rest
 run_counted place at there left after near rest first same split none before last =
     ap (places_before place) first
@@ -54,7 +56,8 @@ run_counted place at there left after near rest first same split none before las
     ∙ ap suc (near_before place there near rest none (omega (arith, same, last)))
     ∙ omega arith
 
-pub run_within : (at there : ℕ) (left after near rest : List ℕ) → left ≡ at ∷ after → after ≡ places_at there near [] ++ rest → fars near ≡ 0
-    → length left ≡ 1 + length near + length rest
+pub run_within : (at there : ℕ) (left after near rest : List ℕ) → left ≡ at ∷ after
+    → after ≡ places_at there near [] ++ rest → fars near ≡ 0 → length left ≡ 1 + length near + length rest
 run_within at there left after near rest first split none =
-    ap length first ∙ omega (arith, ap length split, length-append (places_at there near []) rest, near_all there near none)
+    ap length first
+    ∙ omega (arith, ap length split, length-append (places_at there near []) rest, near_all there near none)

@@ -12,11 +12,13 @@ pub drop_prefix : {A : Type 0} (xs ys : List A) (n : ℕ) → length xs ≡ n �
 drop_prefix xs ys n e = ap (λ k. drop k (xs ++ ys)) (sym e) ∙ drop-append_seam xs ys
 
 -- a list is the part up to a place, the part up to a later one, and the rest
-pub three : {A : Type 0} (xs : List A) (from to : ℕ) → from ≤ to → xs ≡ take from xs ++ (slice_range xs from to ++ drop to xs)
+pub three : {A : Type 0} (xs : List A) (from to : ℕ) → from ≤ to
+    → xs ≡ take from xs ++ (slice_range xs from to ++ drop to xs)
 three xs from to h = sym (take-append-drop from xs) ∙ ap (λ ys. take from xs ++ ys) (drop_split xs from to h)
 
 pub first_to_end : {A : Type 0} (prefix mid back new : List A) (from : ℕ) → length prefix ≡ from
-    → take from (prefix ++ (mid ++ back)) ++ (new ++ drop from (prefix ++ (mid ++ back))) ≡ (prefix ++ new) ++ (mid ++ back)
+    → take from (prefix ++ (mid ++ back)) ++ (new ++ drop from (prefix ++ (mid ++ back))) ≡ (prefix ++ new)
+    ++ (mid ++ back)
 first_to_end prefix mid back new from e =
     ap (λ xs. xs ++ (new ++ drop from (prefix ++ (mid ++ back)))) (take_prefix prefix (mid ++ back) from e)
     ∙ ap (λ xs. prefix ++ (new ++ xs)) (drop_prefix prefix (mid ++ back) from e)
@@ -24,7 +26,10 @@ first_to_end prefix mid back new from e =
 
 -- how long the part up to a place is, and the part up to a later one
 pub take_length : {A : Type 0} (xs : List A) (n : ℕ) → n ≤ length xs → length (take n xs) ≡ n
-take_length xs n h = omega (arith, ap length (take-append-drop n xs), length-append (take n xs) (drop n xs), length-drop n xs, h)
+take_length xs n h =
+    omega (arith, ap length (take-append-drop n xs), length-append (take n xs) (drop n xs), length-drop n xs, h)
 
-pub range_length : {A : Type 0} (xs : List A) (from to : ℕ) → from ≤ to → to ≤ length xs → length (slice_range xs from to) ≡ to - from
-range_length xs from to order within = take_length (drop from xs) (to - from) (omega (arith, length-drop from xs, order, within))
+pub range_length : {A : Type 0} (xs : List A) (from to : ℕ) → from ≤ to → to ≤ length xs
+    → length (slice_range xs from to) ≡ to - from
+range_length xs from to order within =
+    take_length (drop from xs) (to - from) (omega (arith, length-drop from xs, order, within))

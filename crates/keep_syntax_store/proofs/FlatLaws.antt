@@ -11,26 +11,35 @@ use Rattle.keep_syntax_store.specs.declared.values.PackedValue.{PackedValue}
 use Rattle.keep_syntax_store.specs.declared.packed_vec.PackedVec.{PackedVec}
 use Rattle.keep_syntax_store.specs.Flat.{Flat, values_in}
 
-pub same_flat : (a b : Flat) → a.kinds ≡ b.kinds → a.starts ≡ b.starts → a.statements ≡ b.statements → a.keys ≡ b.keys → a.values ≡ b.values → a ≡ b
+pub same_flat : (a b : Flat) → a.kinds ≡ b.kinds → a.starts ≡ b.starts → a.statements ≡ b.statements → a.keys ≡ b.keys
+    → a.values ≡ b.values → a ≡ b
 same_flat a b e1 e2 e3 e4 e5 =
-    ap (λ (x : List Leaf). record a { kinds = x }) e1 ∙ ap (λ (x : List ℕ). record a { kinds = b.kinds; starts = x }) e2 ∙ ap (λ (x : List Statement). record a { kinds = b.kinds; starts = b.starts; statements = x }) e3
-    ∙ ap (λ (x : List KeyPart). record b { keys = x; values = a.values }) e4 ∙ ap (λ (x : List ValueInfo). record b { values = x }) e5
+    ap (λ (x : List Leaf). record a { kinds = x }) e1 ∙ ap (λ (x : List ℕ). record a { kinds = b.kinds; starts = x }) e2
+    ∙ ap (λ (x : List Statement). record a { kinds = b.kinds; starts = b.starts; statements = x }) e3
+    ∙ ap (λ (x : List KeyPart). record b { keys = x; values = a.values }) e4
+    ∙ ap (λ (x : List ValueInfo). record b { values = x }) e5
 
 -- ---- a value is changed
 
 -- the item at a place, and what a write there changes
-at_seam : {A : Type 0} (vs prefix : List A) (item : A) (back : List A) (number : ℕ) (d : A) → length prefix ≡ number → vs ≡ prefix ++ (item ∷ back) → get_or vs number d ≡ item
+at_seam : {A : Type 0} (vs prefix : List A) (item : A) (back : List A) (number : ℕ) (d : A) → length prefix ≡ number
+    → vs ≡ prefix ++ (item ∷ back) → get_or vs number d ≡ item
 at_seam {A} vs prefix item back number d len is =
-    ap (λ (l : List A). get_or l number d) is ∙ ap (λ (n : ℕ). get_or (prefix ++ (item ∷ back)) n d) (sym len) ∙ get_or-append_seam prefix item back d
+    ap (λ (l : List A). get_or l number d) is ∙ ap (λ (n : ℕ). get_or (prefix ++ (item ∷ back)) n d) (sym len)
+    ∙ get_or-append_seam prefix item back d
 
-set_at_seam : {A : Type 0} (vs prefix : List A) (item : A) (back : List A) (number : ℕ) (a : A) → length prefix ≡ number → vs ≡ prefix ++ (item ∷ back) → set vs number a ≡ prefix ++ (a ∷ back)
+set_at_seam : {A : Type 0} (vs prefix : List A) (item : A) (back : List A) (number : ℕ) (a : A) → length prefix ≡ number
+    → vs ≡ prefix ++ (item ∷ back) → set vs number a ≡ prefix ++ (a ∷ back)
 set_at_seam {A} vs prefix item back number a len is =
-    ap (λ (l : List A). set l number a) is ∙ ap (λ (n : ℕ). set (prefix ++ (item ∷ back)) n a) (sym len) ∙ set-append_seam prefix item back a
+    ap (λ (l : List A). set l number a) is ∙ ap (λ (n : ℕ). set (prefix ++ (item ∷ back)) n a) (sym len)
+    ∙ set-append_seam prefix item back a
 
-module _ (vs : PackedVec ValueInfo PackedValue) (prefix : List ValueInfo) (info : ValueInfo) (back : List ValueInfo) (number : ℕ) (len : length prefix ≡ number) (is : values_in vs ≡ prefix ++ (info ∷ back)) where
+module _ (vs : PackedVec ValueInfo PackedValue) (prefix : List ValueInfo) (info : ValueInfo) (back : List ValueInfo)
+    (number : ℕ) (len : length prefix ≡ number) (is : values_in vs ≡ prefix ++ (info ∷ back)) where
   -- what the list has there
   pub value_seam : (v : ValueInfo) → slice_get (values_in vs) number ≡ Some v → v ≡ info
-  value_seam v e = sym (get_or_from_slice_get (values_in vs) number v v e) ∙ at_seam (values_in vs) prefix info back number v len is
+  value_seam v e =
+      sym (get_or_from_slice_get (values_in vs) number v v e) ∙ at_seam (values_in vs) prefix info back number v len is
 
   -- and what a write changes there
   pub set_seam : (v : ValueInfo) → set (values_in vs) number v ≡ prefix ++ (v ∷ back)

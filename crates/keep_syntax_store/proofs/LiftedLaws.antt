@@ -4,19 +4,24 @@ use Rattle.keep_types.specs.declared.syntax.Span.{Span}
 use Rattle.keep_types.specs.declared.syntax.Owner.{Owner}
 use Rattle.keep_types.specs.declared.syntax.Owner.TheVariants as owner
 use Rattle.keep_syntax_store.specs.Counts.{Count}
-use Rattle.keep_syntax_store.specs.Lifted.{origin, plus, lift_there, lift_span, lift_owner, lift_key, lift_statement, lift_value, moved, moved_there, moved_span, moved_owner, moved_key, moved_statement, moved_value}
+use Rattle.keep_syntax_store.specs.Lifted.{origin, plus, lift_there, lift_span, lift_owner, lift_key, lift_statement}
+use Rattle.keep_syntax_store.specs.Lifted.{lift_value, moved, moved_there, moved_span, moved_owner, moved_key}
+use Rattle.keep_syntax_store.specs.Lifted.{moved_statement, moved_value}
 
 -- ---- counts
 
 abbrev pub count_with : ℕ → ℕ → ℕ → ℕ → Count
 count_with at statements parts values = record { at = at; statements = statements; parts = parts; values = values }
 
-pub count_is : {a a' s s' p p' v v' : ℕ} → a ≡ a' → s ≡ s' → p ≡ p' → v ≡ v' → count_with a s p v ≡ count_with a' s' p' v'
+pub count_is : {a a' s s' p p' v v' : ℕ} → a ≡ a' → s ≡ s' → p ≡ p' → v ≡ v'
+    → count_with a s p v ≡ count_with a' s' p' v'
 count_is a s p v = cc
 
-pub same_count : (a b : Count) → a.at ≡ b.at → a.statements ≡ b.statements → a.parts ≡ b.parts → a.values ≡ b.values → a ≡ b
+pub same_count : (a b : Count) → a.at ≡ b.at → a.statements ≡ b.statements → a.parts ≡ b.parts → a.values ≡ b.values
+    → a ≡ b
 same_count a b e1 e2 e3 e4 =
-    ap (λ (x : ℕ). record a { at = x }) e1 ∙ ap (λ (x : ℕ). record a { at = b.at; statements = x }) e2 ∙ ap (λ (x : ℕ). record b { parts = x; values = a.values }) e3 ∙ ap (λ (x : ℕ). record b { values = x }) e4
+    ap (λ (x : ℕ). record a { at = x }) e1 ∙ ap (λ (x : ℕ). record a { at = b.at; statements = x }) e2
+    ∙ ap (λ (x : ℕ). record b { parts = x; values = a.values }) e3 ∙ ap (λ (x : ℕ). record b { values = x }) e4
 
 pub plus-origin : (c : Count) → plus c origin ≡ c
 plus-origin c = count_is (omega arith) (omega arith) (omega arith) (omega arith)
@@ -26,7 +31,8 @@ plus-origin c = count_is (omega arith) (omega arith) (omega arith) (omega arith)
 abbrev pub Moves : {A : Type 0} → (Count → A → A) → (Count → Count → A → A) → Type 0
 Moves {A} lift move = (a b : Count) (x : A) → move a b (lift a x) ≡ lift b x
 
-pub moves_all : {A : Type 0} (lift : Count → A → A) (move : Count → Count → A → A) → Moves lift move → (a b : Count) (xs : List A) → map (move a b) (map (lift a) xs) ≡ map (lift b) xs
+pub moves_all : {A : Type 0} (lift : Count → A → A) (move : Count → Count → A → A) → Moves lift move
+    → (a b : Count) (xs : List A) → map (move a b) (map (lift a) xs) ≡ map (lift b) xs
 moves_all lift move h a b [] = refl
 moves_all lift move h a b (x ∷ xs) = let e = h a b x in let f = moves_all lift move h a b xs in cc
 
@@ -52,9 +58,13 @@ moves_keys a b k = let s = back_span a.at b.at k.span in cc
 
 pub moves_statements : Moves lift_statement moved_statement
 moves_statements a b s =
-    let x = back_span a.at b.at s.span in let y = back_span a.at b.at s.line in let z = moved_back a.parts b.parts s.first_key in let w = back_there a.values b.values s.value in cc
+    let x = back_span a.at b.at s.span in
+    let y = back_span a.at b.at s.line in
+    let z = moved_back a.parts b.parts s.first_key in let w = back_there a.values b.values s.value in cc
 
 pub moves_values : Moves lift_value moved_value
 moves_values a b v =
-    let x = back_span a.at b.at v.span in let y = back_span a.at b.at v.whole in let z = back_owner a b v.owner in let u = moved_back a.parts b.parts v.first_key in
+    let x = back_span a.at b.at v.span in
+    let y = back_span a.at b.at v.whole in
+    let z = back_owner a b v.owner in let u = moved_back a.parts b.parts v.first_key in
     let s = back_there a.at b.at v.comma_before in let t = back_there a.at b.at v.comma_after in cc

@@ -9,7 +9,8 @@ use Rattle.keep_types.specs.declared.syntax.ValueInfo.{ValueInfo}
 use Rattle.keep_syntax_store.specs.Counts.{span}
 use Rattle.keep_syntax_store.specs.Flat.{Flat}
 use Rattle.keep_syntax_store.specs.Rereading.{moved_flat}
-use Rattle.keep_syntax_store.specs.Lifted.{origin, moved, moved_there, moved_span, moved_owner, moved_key, moved_statement, moved_value}
+use Rattle.keep_syntax_store.specs.Lifted.{origin, moved, moved_there, moved_span, moved_owner, moved_key}
+use Rattle.keep_syntax_store.specs.Lifted.{moved_statement, moved_value}
 use Rattle.keep_syntax_store.proofs.FlatLaws.{same_flat}
 
 pub stays : (n : ℕ) → moved 0 0 n ≡ n
@@ -33,7 +34,8 @@ stays_key k = ap (λ (x : Span). record k { span = x }) (stays_span k.span)
 pub stays_statement : (s : Statement) → moved_statement origin origin s ≡ s
 stays_statement s =
     ap (λ (x : Span). record (moved_statement origin origin s) { span = x }) (stays_span s.span)
-    ∙ ap (λ (x : Span). record s { line = x; first_key = moved 0 0 s.first_key; value = moved_there 0 0 s.value }) (stays_span s.line)
+    ∙ ap (λ (x : Span). record s { line = x; first_key = moved 0 0 s.first_key; value = moved_there 0 0 s.value })
+    (stays_span s.line)
     ∙ ap (λ (n : ℕ). record s { first_key = n; value = moved_there 0 0 s.value }) (stays s.first_key)
     ∙ ap (λ (o : Option ℕ). record s { value = o }) (stays_there s.value)
 
@@ -43,8 +45,16 @@ stays_value v =
     let before = moved_there 0 0 v.comma_before in
     let after = moved_there 0 0 v.comma_after in
     ap (λ (x : Span). record (moved_value origin origin v) { span = x }) (stays_span v.span)
-    ∙ ap (λ (x : Span). record v { whole = x; owner = moved_owner origin origin v.owner; first_key = first; comma_before = before; comma_after = after }) (stays_span v.whole)
-    ∙ ap (λ (o : Owner). record v { owner = o; first_key = first; comma_before = before; comma_after = after }) (stays_owner v.owner)
+    ∙ ap (λ (x : Span).
+    record v {
+      whole = x;
+      owner = moved_owner origin origin v.owner;
+      first_key = first;
+      comma_before = before;
+      comma_after = after;
+    }) (stays_span v.whole)
+    ∙ ap (λ (o : Owner). record v { owner = o; first_key = first; comma_before = before; comma_after = after })
+    (stays_owner v.owner)
     ∙ ap (λ (n : ℕ). record v { first_key = n; comma_before = before; comma_after = after }) (stays v.first_key)
     ∙ ap (λ (o : Option ℕ). record v { comma_before = o; comma_after = after }) (stays_there v.comma_before)
     ∙ ap (λ (o : Option ℕ). record v { comma_after = o }) (stays_there v.comma_after)
@@ -55,5 +65,7 @@ map_same f h (x ∷ xs) = let e = h x in let k = map_same f h xs in cc
 
 pub stays_flat : (f : Flat) → moved_flat origin origin f ≡ f
 stays_flat f =
-    same_flat (moved_flat origin origin f) f refl (map_same (moved 0 0) stays f.starts) (map_same (moved_statement origin origin) stays_statement f.statements) (map_same (moved_key origin origin) stays_key f.keys)
+    same_flat (moved_flat origin origin f) f refl (map_same (moved 0 0) stays f.starts)
+    (map_same (moved_statement origin origin) stays_statement f.statements)
+    (map_same (moved_key origin origin) stays_key f.keys)
     (map_same (moved_value origin origin) stays_value f.values)

@@ -70,7 +70,8 @@ pub record AreStarts (steps far : List ℕ) (last : ℕ) (milestones : List Mile
 -- So many steps on from a milestone is another: `steps` and `far` are those after the first.
 pub record IsFurther (low : Milestone) (steps far : List ℕ) (m : Milestone) : Type 0 where
   pub counted : m.far ≡ low.far + fars (take (m.steps - low.steps) steps)
-  pub leads : m.place ≡ last_of low.place (places_at low.place (take (m.steps - low.steps) steps) (take (m.far - low.far) far))
+  pub leads : m.place
+      ≡ last_of low.place (places_at low.place (take (m.steps - low.steps) steps) (take (m.far - low.far) far))
 
 -- what is known of each that is not before the one, and not after the other
 abbrev pub IsWithin : Milestone → Milestone → List ℕ → List ℕ → Milestone → Type 0
@@ -86,7 +87,8 @@ moved_on low at m = record {
 
 -- each within is a milestone there
 abbrev pub CanMoveOn : Milestone → Milestone → Milestone → List ℕ → List ℕ → Milestone → Type 0
-CanMoveOn low high at steps far m = low.steps ≤ m.steps → m.steps ≤ high.steps → IsMilestone steps far (moved_on low at m)
+CanMoveOn low high at steps far m =
+    low.steps ≤ m.steps → m.steps ≤ high.steps → IsMilestone steps far (moved_on low at m)
 
 -- all are before a place
 abbrev pub Before : ℕ → List ℕ → Type 0

@@ -4,8 +4,8 @@ ghost use Rattle.std.specs.Prelude.{slice_range, IfSome, IsNone, IfOk, OnOk, OnE
 ghost use Rattle.std.specs.List.{AllByRecursion};
 ghost use Rattle.keep_syntax_store.specs.declared.starts.TheConstants.{FAR};
 ghost use Rattle.keep_syntax_store.specs.Lifted as lifted;
-ghost use Rattle.keep_syntax_store.specs.Starts.{AllSmall, Ascend, Before, CanGoOn, CanGoTo, IsMilestone, fars, last_of};
-ghost use Rattle.keep_syntax_store.specs.Starts.{places_at, CanMoveOn, moved_on};
+ghost use Rattle.keep_syntax_store.specs.Starts.{AllSmall, Ascend, Before, CanGoOn, CanGoTo, IsMilestone, fars};
+ghost use Rattle.keep_syntax_store.specs.Starts.{last_of, places_at, CanMoveOn, moved_on};
 
 use crate::moves::moved;
 use memchr::memchr;
@@ -490,7 +490,8 @@ impl Starts {
     }
 
     /// Stores also the places from one milestone to another, moved with the last one from after `old` to after `new`,
-    /// and the milestones up to the other. Nothing is counted anew: what comes after the one comes after the last place.
+    /// and the milestones up to the other. Nothing is counted anew: what comes after the one comes after the last
+    /// place.
     fn push_between(
         &mut self,
         between: &Between<'_>,

@@ -1,13 +1,16 @@
--- What the bytes of a text and its line starts tell of a document: whether a byte order mark begins it, and whether its last
+-- What the bytes of a text and its line starts tell of a document: whether a byte order mark begins it, and whether its
+-- last
 -- line is empty, so that other lines can come after it.
-use Rattle.std.proofs.Common.{◌≡◌, ℕ, ◌+◌, ◌≤◌, ◌⊎◌, Bool, true, false, List, [], ◌∷◌, ◌++◌, length, Some, None, Option, refl, ap, ◌∙◌, inl, inr, arith, le-leb}
+use Rattle.std.proofs.Common.{◌≡◌, ℕ, ◌+◌, ◌≤◌, ◌⊎◌, Bool, true, false, List, [], ◌∷◌, ◌++◌, length, Some, None, Option}
+use Rattle.std.proofs.Common.{refl, ap, ◌∙◌, inl, inr, arith, le-leb}
 use Rattle.std.specs.Prelude.{slice_index, leb}
 use Rattle.std.specs.List.{flat_map}
 use Rattle.std.proofs.lemmas.List.{length-append}
 use Rattle.keep_types.specs.declared.leaf.Profile.{Profile}
 use Rattle.keep_types.specs.declared.syntax.Span.{Span}
 use Rattle.keep_syntax.specs.declared.syntax.Syntax.{Syntax}
-use Rattle.keep_syntax.specs.Tree.{Written, Gap, Content, blank, keyval, header, element, Line, Ended, Document, line_leaves, ended_leaves, bom_leaves, text_of, text}
+use Rattle.keep_syntax.specs.Tree.{Written, Gap, Content, blank, keyval, header, element, Line, Ended, Document}
+use Rattle.keep_syntax.specs.Tree.{line_leaves, ended_leaves, bom_leaves, text_of, text}
 use Rattle.keep_syntax.specs.Grammar.{IsDocument}
 use Rattle.keep_syntax.specs.Numbered.{width, span}
 use Rattle.keep_syntax.specs.WholeLines.{empty_line, line_starts, last_to, begin, touched}

@@ -6,9 +6,12 @@
 -- bytes that the code tests are those of the grammar, which is computed for each of the 256 bytes (`upto`). Digits have
 -- a mask of their own (`block_non_digits`), and where it is 0 they go through the block (`digits_through`).
 --
--- Theorems: `block_ends`, `run_through`, `run_stops`, and `comment_class`, `basic_class` and `literal_class`; for digits
+-- Theorems: `block_ends`, `run_through`, `run_stops`, and `comment_class`, `basic_class` and `literal_class`; for
+-- digits
 -- `block_non_digits` and `digits_through`.
-use Rattle.std.proofs.Common.{◌≡◌, ℕ, zero, suc, ◌+◌, ◌*◌, ◌%◌, ◌^◌, ◌<◌, ◌≤◌, Bool, true, false, not, cond, eqb, ltb, List, [], ◌∷◌, map, length, drop, take, take-add, replicate, bit_and, inl, inr, subst, refl, sym, ap, ap₂, ◌∙◌, arith, w8, Fits}
+use Rattle.std.proofs.Common.{◌≡◌, ℕ, zero, suc, ◌+◌, ◌*◌, ◌%◌, ◌^◌, ◌<◌, ◌≤◌, Bool, true, false, not, cond, eqb, ltb}
+use Rattle.std.proofs.Common.{List, [], ◌∷◌, map, length, drop, take, take-add, replicate, bit_and, inl, inr, subst}
+use Rattle.std.proofs.Common.{refl, sym, ap, ap₂, ◌∙◌, arith, w8, Fits}
 use Rattle.std.specs.Prelude.{◌&&◌, ◌||◌, ◌==◌, nat_le}
 use Rattle.std.specs.Char.{is_ascii_digit}
 use Rattle.std.specs.List.{list_all, prefix_len}
@@ -17,7 +20,8 @@ use Rattle.std.proofs.lemmas.Bool.Decides.{leb_tells, nat_tests}
 use Rattle.std.proofs.lemmas.List.{length-map, length-drop, drop-drop}
 use Rattle.std.proofs.lemmas.List.Folds.{list_all-append, prefix_len-append}
 use Rattle.std.proofs.lemmas.List.Sums.{prefix_len-drop_all, prefix_len-drop_no, prefix_len-le-length, prefix_len_stops}
-use Rattle.std.proofs.lemmas.Simd.{zip2_splat, zip2_splat_left, zip2-map, mask_l-mod, chunk-drop, length-chunk, leading_from_mask_l, trailing_mask_l}
+use Rattle.std.proofs.lemmas.Simd.{zip2_splat, zip2_splat_left, zip2-map, mask_l-mod, chunk-drop, length-chunk}
+use Rattle.std.proofs.lemmas.Simd.{leading_from_mask_l, trailing_mask_l}
 use lib.Bits.{bit_or}
 use lib.Lanes.{zip2, mask_l, top, chunk, Each1}
 use lib.Count.{count_trailing_zeros}
@@ -45,7 +49,8 @@ upto p (suc n) = p n && upto p n
 
 upto_sound : (p : ℕ → Bool) (n i : ℕ) → upto p n ≡ true → i < n → p i ≡ true
 upto_sound p zero i h lt = absurd (omega arith)
-upto_sound p (suc n) i h lt = by (eqb i n) refl (λ (less : i < n). upto_sound p n i (and_parts (p n) (upto p n) h).1 less)
+upto_sound p (suc n) i h lt =
+    by (eqb i n) refl (λ (less : i < n). upto_sound p n i (and_parts (p n) (upto p n) h).1 less)
   where
     by : (b : Bool) → eqb i n ≡ b → (i < n → p i ≡ true) → p i ≡ true
     by true e more = ap p (eqb-true i n e) ∙ (and_parts (p n) (upto p n) h).0
@@ -83,9 +88,12 @@ and_set false false = refl
 
 -- the lane of a byte, by its six tests
 abbrev lane : Bool → Bool → Bool → Bool → Bool → Bool → ℕ
-lane low tab del also a b = bit_or (bit_and (bit_or (bit_and (set_by low) (set_by (not tab))) (set_by del)) (set_by (not also))) (bit_or (set_by a) (set_by b))
+lane low tab del also a b =
+    bit_or (bit_and (bit_or (bit_and (set_by low) (set_by (not tab))) (set_by del)) (set_by (not also)))
+    (bit_or (set_by a) (set_by b))
 
-lane_is : (low tab del also a b : Bool) → top 7 (lane low tab del also a b) ≡ ((((low && not tab) || del) && not also) || (a || b))
+lane_is : (low tab del also a b : Bool)
+    → top 7 (lane low tab del also a b) ≡ ((((low && not tab) || del) && not also) || (a || b))
 lane_is low tab del also a b =
     let one = ap (λ (n : ℕ). bit_or n (set_by del)) (and_set low (not tab)) ∙ or_set (low && not tab) del in
     let two = ap (λ (n : ℕ). bit_and n (set_by (not also))) one ∙ and_set ((low && not tab) || del) (not also) in
@@ -102,22 +110,43 @@ not_plain false false m = refl
 abbrev lane_of : ℕ → ℕ → ℕ → ℕ → ℕ
 lane_of also a b x = lane (ltb x 0x20) (eqb x 9) (eqb x 0x7F) (eqb x also) (eqb x a) (eqb x b)
 
-each_lane : (also a b : ℕ) (v : List ℕ) → Each1 (Fits w8) v → map (top 7) (map (lane_of also a b) v) ≡ map (ends_run also a b) v
+each_lane : (also a b : ℕ) (v : List ℕ) → Each1 (Fits w8) v
+    → map (top 7) (map (lane_of also a b) v) ≡ map (ends_run also a b) v
 each_lane also a b [] fits = refl
 each_lane also a b (x ∷ xs) fits =
     let is : control x ≡ not (is_comment x) = same_is _ _ (upto_sound right_control 256 x right_controls fits.0.fits) in
-    let here : top 7 (lane_of also a b x) ≡ ends_run also a b x = lane_is (ltb x 0x20) (eqb x 9) (eqb x 0x7F) (eqb x also) (eqb x a) (eqb x b) ∙ ap (λ (c : Bool). (c && not (eqb x also)) || (eqb x a || eqb x b)) is ∙ not_plain (is_comment x) (eqb x also) (eqb x a || eqb x b) in
+    let here : top 7 (lane_of also a b x) ≡ ends_run also a b x =
+    lane_is (ltb x 0x20) (eqb x 9) (eqb x 0x7F) (eqb x also) (eqb x a) (eqb x b)
+    ∙ ap (λ (c : Bool). (c && not (eqb x also)) || (eqb x a || eqb x b)) is
+    ∙ not_plain (is_comment x) (eqb x also) (eqb x a || eqb x b) in
     ap₂ (λ (c : Bool) (cs : List Bool). c ∷ cs) here (each_lane also a b xs fits.1)
 
 pub block_ends : (also a b : ℕ) (v : List ℕ) → length v ≡ 16 → Each1 (Fits w8) v
-    → mask_l (map (top 7) (zip2 bit_or (zip2 bit_and (zip2 bit_or (zip2 bit_and (zip2 below v (replicate 16 0x20)) (zip2 other v (replicate 16 9))) (zip2 equal v (replicate 16 0x7F))) (zip2 other v (replicate 16 also))) (zip2 bit_or (zip2 equal v (replicate 16 a)) (zip2 equal v (replicate 16 b))))) % 2 ^ 64 ≡ mask_l (map (ends_run also a b) v)
+    → mask_l (map (top 7) (zip2 bit_or
+    (zip2 bit_and (zip2 bit_or (zip2 bit_and (zip2 below v (replicate 16 0x20)) (zip2 other v (replicate 16 9)))
+    (zip2 equal v (replicate 16 0x7F))) (zip2 other v (replicate 16 also)))
+    (zip2 bit_or (zip2 equal v (replicate 16 a)) (zip2 equal v (replicate 16 b))))) % 2 ^ 64
+    ≡ mask_l (map (ends_run also a b) v)
 block_ends also a b v long fits =
-    let low = ap₂ (zip2 bit_and) (zip2_splat below v 16 0x20 long) (zip2_splat other v 16 9 long) ∙ zip2-map bit_and (λ x. below x 0x20) (λ x. other x 9) v in
-    let some = ap₂ (zip2 bit_or) low (zip2_splat equal v 16 0x7F long) ∙ zip2-map bit_or (λ x. bit_and (below x 0x20) (other x 9)) (λ x. equal x 0x7F) v in
-    let control = ap₂ (zip2 bit_and) some (zip2_splat other v 16 also long) ∙ zip2-map bit_and (λ x. bit_or (bit_and (below x 0x20) (other x 9)) (equal x 0x7F)) (λ x. other x also) v in
-    let marks = ap₂ (zip2 bit_or) (zip2_splat equal v 16 a long) (zip2_splat equal v 16 b long) ∙ zip2-map bit_or (λ x. equal x a) (λ x. equal x b) v in
-    let lanes = ap₂ (zip2 bit_or) control marks ∙ zip2-map bit_or (λ x. bit_and (bit_or (bit_and (below x 0x20) (other x 9)) (equal x 0x7F)) (other x also)) (λ x. bit_or (equal x a) (equal x b)) v in
-    ap (λ (l : List ℕ). mask_l (map (top 7) l) % 2 ^ 64) lanes ∙ ap (λ (l : List Bool). mask_l l % 2 ^ 64) (each_lane also a b v fits) ∙ mask_l-mod (map (ends_run also a b) v) 64 (omega (arith, length-map v (ends_run also a b)))
+    let low =
+    ap₂ (zip2 bit_and) (zip2_splat below v 16 0x20 long) (zip2_splat other v 16 9 long)
+    ∙ zip2-map bit_and (λ x. below x 0x20) (λ x. other x 9) v in
+    let some =
+    ap₂ (zip2 bit_or) low (zip2_splat equal v 16 0x7F long)
+    ∙ zip2-map bit_or (λ x. bit_and (below x 0x20) (other x 9)) (λ x. equal x 0x7F) v in
+    let control =
+    ap₂ (zip2 bit_and) some (zip2_splat other v 16 also long)
+    ∙ zip2-map bit_and (λ x. bit_or (bit_and (below x 0x20) (other x 9)) (equal x 0x7F)) (λ x. other x also) v in
+    let marks =
+    ap₂ (zip2 bit_or) (zip2_splat equal v 16 a long) (zip2_splat equal v 16 b long)
+    ∙ zip2-map bit_or (λ x. equal x a) (λ x. equal x b) v in
+    let lanes =
+    ap₂ (zip2 bit_or) control marks
+    ∙ zip2-map bit_or (λ x. bit_and (bit_or (bit_and (below x 0x20) (other x 9)) (equal x 0x7F)) (other x also))
+    (λ x. bit_or (equal x a) (equal x b)) v in
+    ap (λ (l : List ℕ). mask_l (map (top 7) l) % 2 ^ 64) lanes
+    ∙ ap (λ (l : List Bool). mask_l l % 2 ^ 64) (each_lane also a b v fits)
+    ∙ mask_l-mod (map (ends_run also a b) v) 64 (omega (arith, length-map v (ends_run also a b)))
 
 -- ---- the mask of a block's bytes that are no digits
 
@@ -127,14 +156,20 @@ not_digit x = grind (arith, nat_tests)
 each_non_digit : (v : List ℕ) → map (top 7) (map (λ x. bit_or (below x 48) (below 57 x)) v) ≡ map is_non_digit v
 each_non_digit [] = refl
 each_non_digit (x ∷ xs) =
-    let here : top 7 (bit_or (below x 48) (below 57 x)) ≡ is_non_digit x = ap (top 7) (or_set (ltb x 48) (ltb 57 x)) ∙ top_set (ltb x 48 || ltb 57 x) ∙ not_digit x in
+    let here : top 7 (bit_or (below x 48) (below 57 x)) ≡ is_non_digit x =
+    ap (top 7) (or_set (ltb x 48) (ltb 57 x)) ∙ top_set (ltb x 48 || ltb 57 x) ∙ not_digit x in
     ap₂ (λ (c : Bool) (cs : List Bool). c ∷ cs) here (each_non_digit xs)
 
 pub block_non_digits : (v : List ℕ) → length v ≡ 16
-    → mask_l (map (top 7) (zip2 bit_or (zip2 below v (replicate 16 48)) (zip2 below (replicate 16 57) v))) % 2 ^ 64 ≡ mask_l (map is_non_digit v)
+    → mask_l (map (top 7) (zip2 bit_or (zip2 below v (replicate 16 48)) (zip2 below (replicate 16 57) v))) % 2 ^ 64
+    ≡ mask_l (map is_non_digit v)
 block_non_digits v long =
-    let lanes = ap₂ (zip2 bit_or) (zip2_splat below v 16 48 long) (zip2_splat_left below 57 16 v long) ∙ zip2-map bit_or (λ x. below x 48) (below 57) v in
-    ap (λ (l : List ℕ). mask_l (map (top 7) l) % 2 ^ 64) lanes ∙ ap (λ (l : List Bool). mask_l l % 2 ^ 64) (each_non_digit v) ∙ mask_l-mod (map is_non_digit v) 64 (omega (arith, length-map v is_non_digit))
+    let lanes =
+    ap₂ (zip2 bit_or) (zip2_splat below v 16 48 long) (zip2_splat_left below 57 16 v long)
+    ∙ zip2-map bit_or (λ x. below x 48) (below 57) v in
+    ap (λ (l : List ℕ). mask_l (map (top 7) l) % 2 ^ 64) lanes
+    ∙ ap (λ (l : List Bool). mask_l l % 2 ^ 64) (each_non_digit v)
+    ∙ mask_l-mod (map is_non_digit v) 64 (omega (arith, length-map v is_non_digit))
 
 -- where no bit is set, each byte is a digit
 no_bit : (b : Bool) (m : ℕ) → cond (not b) 1 0 + 2 * m ≡ 0 → (b ≡ true) × (m ≡ 0)
@@ -146,10 +181,11 @@ all_digits [] e = refl
 all_digits (x ∷ xs) e = let is = no_bit (is_ascii_digit x) _ e in rw is.0 (all_digits xs is.1)
 
 -- digits go through a block with no other byte
-pub digits_through : (d : List ℕ) (i n : ℕ) → list_all is_ascii_digit (take i d) ≡ true → mask_l (map is_non_digit (chunk i n d)) ≡ 0
-    → list_all is_ascii_digit (take (i + n) d) ≡ true
+pub digits_through : (d : List ℕ) (i n : ℕ) → list_all is_ascii_digit (take i d) ≡ true
+    → mask_l (map is_non_digit (chunk i n d)) ≡ 0 → list_all is_ascii_digit (take (i + n) d) ≡ true
 digits_through d i n before none =
-    ap (list_all is_ascii_digit) (take-add i n d) ∙ list_all-append is_ascii_digit (take i d) (chunk i n d) ∙ (rw (before, all_digits (chunk i n d) none) refl)
+    ap (list_all is_ascii_digit) (take-add i n d) ∙ list_all-append is_ascii_digit (take i d) (chunk i n d)
+    ∙ (rw (before, all_digits (chunk i n d) none) refl)
 
 -- ---- a run, block by block
 
@@ -164,23 +200,32 @@ module _ (p q : ℕ → Bool) (opposite : (x : ℕ) → q x ≡ not (p x)) where
 
   all_pass : (xs : List ℕ) → prefix_len (λ x. not (p x)) xs ≡ length xs → mask_l (map p xs) ≡ 0
   all_pass [] e = refl
-  all_pass (x ∷ xs) e = none_fails (p x) _ (length xs) _ (prefix_len-le-length (λ y. not (p y)) xs) (omega arith) (all_pass xs)
+  all_pass (x ∷ xs) e =
+      none_fails (p x) _ (length xs) _ (prefix_len-le-length (λ y. not (p y)) xs) (omega arith) (all_pass xs)
 
-  split : (d : List ℕ) (i n : ℕ) → prefix_len q (drop i d) ≡ cond (eqb (prefix_len q (chunk i n d)) (length (chunk i n d))) (length (chunk i n d) + prefix_len q (drop (i + n) d)) (prefix_len q (chunk i n d))
+  split : (d : List ℕ) (i n : ℕ)
+      → prefix_len q (drop i d) ≡ cond (eqb (prefix_len q (chunk i n d)) (length (chunk i n d))) (length (chunk i n d)
+      + prefix_len q (drop (i + n) d)) (prefix_len q (chunk i n d))
   split d i n = ap (prefix_len q) (chunk-drop i n d) ∙ prefix_len-append q (chunk i n d) (drop (i + n) d)
 
   -- the run goes through a block in which no byte fails
-  pub run_through : (d : List ℕ) (i n : ℕ) → i + n ≤ length d → mask_l (map p (chunk i n d)) ≡ 0 → prefix_len q (drop i d) ≡ n + prefix_len q (drop (i + n) d)
+  pub run_through : (d : List ℕ) (i n : ℕ) → i + n ≤ length d → mask_l (map p (chunk i n d)) ≡ 0
+      → prefix_len q (drop i d) ≡ n + prefix_len q (drop (i + n) d)
   run_through d i n room none =
       let c = chunk i n d in
-      split d i n ∙ ap (λ b. cond b (length c + prefix_len q (drop (i + n) d)) (prefix_len q c)) (eq-eqb _ _ (same_run c ∙ leading_from_mask_l p c none))
+      split d i n
+      ∙ ap (λ b. cond b (length c + prefix_len q (drop (i + n) d)) (prefix_len q c))
+      (eq-eqb _ _ (same_run c ∙ leading_from_mask_l p c none))
       ∙ ap (λ k. k + prefix_len q (drop (i + n) d)) (length-chunk i n d room)
 
   -- and ends in one where some byte fails
-  pub run_stops : (d : List ℕ) (i n : ℕ) → i + n ≤ length d → n ≤ 64 → 0 < mask_l (map p (chunk i n d)) → prefix_len q (drop i d) ≡ count_trailing_zeros 64 (mask_l (map p (chunk i n d)))
+  pub run_stops : (d : List ℕ) (i n : ℕ) → i + n ≤ length d → n ≤ 64 → 0 < mask_l (map p (chunk i n d))
+      → prefix_len q (drop i d) ≡ count_trailing_zeros 64 (mask_l (map p (chunk i n d)))
   run_stops d i n room short some =
       let c = chunk i n d in
-      split d i n ∙ ap (λ b. cond b (length c + prefix_len q (drop (i + n) d)) (prefix_len q c)) (ne_eqb _ _ (λ (e : prefix_len q c ≡ length c). omega (arith, all_pass c (sym (same_run c) ∙ e))))
+      split d i n
+      ∙ ap (λ b. cond b (length c + prefix_len q (drop (i + n) d)) (prefix_len q c))
+      (ne_eqb _ _ (λ (e : prefix_len q c ≡ length c). omega (arith, all_pass c (sym (same_run c) ∙ e))))
       ∙ same_run c ∙ sym (trailing_mask_l p 64 c (omega (arith, length-chunk i n d room)) some)
 
 -- after a whole run comes none
@@ -191,9 +236,11 @@ after_run p xs = elim (cases_lt (prefix_len p xs) (length xs)) [
 ]
 
 -- a run that goes through so many bytes, and then through n to its end
-pub run_whole : (p : ℕ → Bool) (d : List ℕ) (at n : ℕ) → prefix_len p d ≡ at + prefix_len p (drop at d) → prefix_len p (drop at d) ≡ n → prefix_len p d ≡ at + n + prefix_len p (drop (at + n) d)
+pub run_whole : (p : ℕ → Bool) (d : List ℕ) (at n : ℕ) → prefix_len p d ≡ at + prefix_len p (drop at d)
+    → prefix_len p (drop at d) ≡ n → prefix_len p d ≡ at + n + prefix_len p (drop (at + n) d)
 run_whole p d at n run is =
-    let none : prefix_len p (drop n (drop at d)) ≡ 0 = subst (λ (k : ℕ). prefix_len p (drop k (drop at d)) ≡ 0) is (after_run p (drop at d)) in
+    let none : prefix_len p (drop n (drop at d)) ≡ 0 =
+    subst (λ (k : ℕ). prefix_len p (drop k (drop at d)) ≡ 0) is (after_run p (drop at d)) in
     let rest : prefix_len p (drop (at + n) d) ≡ 0 = ap (prefix_len p) (sym (drop-drop n at d)) ∙ none in
     omega (arith, run, is, rest)
 
@@ -217,23 +264,39 @@ eq_over : (k c : ℕ) → k < c → eqb c k ≡ false
 eq_over k c h = ne_eqb c k (λ (e : c ≡ k). omega arith)
 
 between_over : (from to c : ℕ) → to < c → between from to c ≡ false
-between_over from to c h = elim (leb_tells c to) [ inl p ↦ absurd (let le = p.1 in omega arith) | inr p ↦ rw p.0 (and_none (nat_le from c)) ]
+between_over from to c h =
+    elim (leb_tells c to) [ inl p ↦ absurd (let le = p.1 in omega arith) | inr p ↦ rw p.0 (and_none (nat_le from c)) ]
 
 comment_over : (c : ℕ) → 256 ≤ c → is_comment c ≡ false
-comment_over c h = rw (eq_over 9 c (omega arith), between_over 0x20 0x7E c (omega arith), between_over 0x80 0xFF c (omega arith)) refl
+comment_over c h =
+    rw (eq_over 9 c (omega arith), between_over 0x20 0x7E c (omega arith), between_over 0x80 0xFF c (omega arith)) refl
 
 plain_over : (also a b c : ℕ) → also < 256 → 256 ≤ c → is_plain also a b c ≡ false
 plain_over also a b c small h = rw (comment_over c h, eq_over also c (omega arith)) refl
 
 basic_over : (c : ℕ) → 256 ≤ c → is_basic c ≡ false
 basic_over c h =
-    rw (eq_over 0x20 c (omega arith), eq_over 9 c (omega arith), eq_over 0x21 c (omega arith), between_over 0x23 0x5B c (omega arith), between_over 0x5D 0x7E c (omega arith), between_over 0x80 0xFF c (omega arith)) refl
+    rw (
+      eq_over 0x20 c (omega arith),
+      eq_over 9 c (omega arith),
+      eq_over 0x21 c (omega arith),
+      between_over 0x23 0x5B c (omega arith),
+      between_over 0x5D 0x7E c (omega arith),
+      between_over 0x80 0xFF c (omega arith),
+    ) refl
 
 literal_over : (c : ℕ) → 256 ≤ c → is_literal c ≡ false
-literal_over c h = rw (eq_over 9 c (omega arith), between_over 0x20 0x26 c (omega arith), between_over 0x28 0x7E c (omega arith), between_over 0x80 0xFF c (omega arith)) refl
+literal_over c h =
+    rw (
+      eq_over 9 c (omega arith),
+      between_over 0x20 0x26 c (omega arith),
+      between_over 0x28 0x7E c (omega arith),
+      between_over 0x80 0xFF c (omega arith),
+    ) refl
 
 -- two classes that agree on bytes, and have nothing else
-module _ (p q : ℕ → Bool) (bytes : upto (λ x. same (p x) (q x)) 256 ≡ true) (p_none : (x : ℕ) → 256 ≤ x → p x ≡ false) (q_none : (x : ℕ) → 256 ≤ x → q x ≡ false) where
+module _ (p q : ℕ → Bool) (bytes : upto (λ x. same (p x) (q x)) 256 ≡ true) (p_none : (x : ℕ) → 256 ≤ x → p x ≡ false)
+    (q_none : (x : ℕ) → 256 ≤ x → q x ≡ false) where
   one_class : (x : ℕ) → p x ≡ q x
   one_class x = elim (leb_tells 256 x) [
     | inl far ↦ p_none x far.1 ∙ sym (q_none x far.1)
@@ -246,22 +309,31 @@ module _ (p q : ℕ → Bool) (bytes : upto (λ x. same (p x) (q x)) 256 ≡ tru
 
 -- a run of a class goes on after as many bytes as a run of plain bytes, with no control character but the tab, is known
 -- to have
-module _ (q : ℕ → Bool) (a b : ℕ) (bytes : upto (λ x. same (is_plain 9 a b x) (q x)) 256 ≡ true) (none : (x : ℕ) → 256 ≤ x → q x ≡ false) where
+module _ (q : ℕ → Bool) (a b : ℕ) (bytes : upto (λ x. same (is_plain 9 a b x) (q x)) 256 ≡ true)
+    (none : (x : ℕ) → 256 ≤ x → q x ≡ false) where
   pub class_is : (x : ℕ) → is_plain 9 a b x ≡ q x
   class_is = one_class (is_plain 9 a b) q bytes (λ x far. plain_over 9 a b x (omega arith) far) none
 
-  pub class_run : (d : List ℕ) (i : ℕ) → prefix_len (is_plain 9 a b) d ≡ i + prefix_len (is_plain 9 a b) (drop i d) → prefix_len q d ≡ i + prefix_len q (drop i d)
+  pub class_run : (d : List ℕ) (i : ℕ) → prefix_len (is_plain 9 a b) d ≡ i + prefix_len (is_plain 9 a b) (drop i d)
+      → prefix_len q d ≡ i + prefix_len q (drop i d)
   class_run d i run =
-      let same_run : (xs : List ℕ) → prefix_len (is_plain 9 a b) xs ≡ prefix_len q xs = one_run (is_plain 9 a b) q bytes (λ x far. plain_over 9 a b x (omega arith) far) none in
+      let same_run : (xs : List ℕ) → prefix_len (is_plain 9 a b) xs ≡ prefix_len q xs =
+      one_run (is_plain 9 a b) q bytes (λ x far. plain_over 9 a b x (omega arith) far) none in
       sym (same_run d) ∙ run ∙ ap (λ (n : ℕ). i + n) (same_run (drop i d))
 
-pub comment_class : (d : List ℕ) (i : ℕ) → prefix_len (is_plain 9 0x7F 0x7F) d ≡ i + prefix_len (is_plain 9 0x7F 0x7F) (drop i d) → prefix_len is_comment d ≡ i + prefix_len is_comment (drop i d)
+pub comment_class : (d : List ℕ) (i : ℕ)
+    → prefix_len (is_plain 9 0x7F 0x7F) d ≡ i + prefix_len (is_plain 9 0x7F 0x7F) (drop i d)
+    → prefix_len is_comment d ≡ i + prefix_len is_comment (drop i d)
 comment_class = class_run is_comment 0x7F 0x7F refl comment_over
 
-pub basic_class : (d : List ℕ) (i : ℕ) → prefix_len (is_plain 9 0x22 0x5C) d ≡ i + prefix_len (is_plain 9 0x22 0x5C) (drop i d) → prefix_len is_basic d ≡ i + prefix_len is_basic (drop i d)
+pub basic_class : (d : List ℕ) (i : ℕ)
+    → prefix_len (is_plain 9 0x22 0x5C) d ≡ i + prefix_len (is_plain 9 0x22 0x5C) (drop i d)
+    → prefix_len is_basic d ≡ i + prefix_len is_basic (drop i d)
 basic_class = class_run is_basic 0x22 0x5C refl basic_over
 
-pub literal_class : (d : List ℕ) (i : ℕ) → prefix_len (is_plain 9 0x27 0x27) d ≡ i + prefix_len (is_plain 9 0x27 0x27) (drop i d) → prefix_len is_literal d ≡ i + prefix_len is_literal (drop i d)
+pub literal_class : (d : List ℕ) (i : ℕ)
+    → prefix_len (is_plain 9 0x27 0x27) d ≡ i + prefix_len (is_plain 9 0x27 0x27) (drop i d)
+    → prefix_len is_literal d ≡ i + prefix_len is_literal (drop i d)
 literal_class = class_run is_literal 0x27 0x27 refl literal_over
 
 -- ---- over many lines
@@ -276,7 +348,9 @@ other_plain also a b c other e =
     ]
 
 pub basic_or_line_feed : (c : ℕ) → (c == 0x0A) ≡ false → is_plain 0x0A 0x22 0x5C c ≡ true → is_basic c ≡ true
-basic_or_line_feed c other e = sym (class_is is_basic 0x22 0x5C refl basic_over c) ∙ other_plain 0x0A 0x22 0x5C c other e
+basic_or_line_feed c other e =
+    sym (class_is is_basic 0x22 0x5C refl basic_over c) ∙ other_plain 0x0A 0x22 0x5C c other e
 
 pub literal_or_line_feed : (c : ℕ) → (c == 0x0A) ≡ false → is_plain 0x0A 0x27 0x27 c ≡ true → is_literal c ≡ true
-literal_or_line_feed c other e = sym (class_is is_literal 0x27 0x27 refl literal_over c) ∙ other_plain 0x0A 0x27 0x27 c other e
+literal_or_line_feed c other e =
+    sym (class_is is_literal 0x27 0x27 refl literal_over c) ∙ other_plain 0x0A 0x27 0x27 c other e

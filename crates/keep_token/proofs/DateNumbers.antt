@@ -6,7 +6,8 @@
 -- the first that passes is that of the date or the time itself.
 --
 -- Theorems: `word_leaf_date`, `word_leaf_time`, `word_leaf_date_time` and `word_leaf_offset_date_time`.
-use Rattle.std.proofs.Common.{◌≡◌, ℕ, suc, ◌+◌, ◌<◌, Bool, true, false, ◌&&◌, ◌||◌, ◌==◌, List, [], ◌∷◌, ◌++◌, length, take, drop, refl, ap, ◌∙◌, arith, Some}
+use Rattle.std.proofs.Common.{◌≡◌, ℕ, suc, ◌+◌, ◌<◌, Bool, true, false, ◌&&◌, ◌||◌, ◌==◌, List, [], ◌∷◌, ◌++◌, length}
+use Rattle.std.proofs.Common.{take, drop, refl, ap, ◌∙◌, arith, Some}
 use Rattle.std.specs.Prelude.{slice_index}
 use Rattle.std.proofs.lemmas.Bool.{and_parts}
 use Rattle.std.proofs.lemmas.Bool.Decides.{nat_tests}
@@ -17,9 +18,13 @@ use Rattle.keep_types.specs.declared.leaf.Profile.{Profile}
 use Rattle.keep_types.specs.declared.leaf.Leaf.TheVariants as leaf
 use Rattle.keep_token.specs.Dates.{LocalDate, LocalTime, LocalDateTime, OffsetDateTime}
 use Rattle.keep_token.specs.Numbers.{is_digits, is_underscore, is_decimal, is_sign}
-use Rattle.keep_token.specs.Words.{is_integer, is_integer_text, is_prefixed, is_float, is_number, is_special, is_three, is_whole, is_boolean, is_date, is_time, is_date_time, is_offset_date_time, word_leaf}
+use Rattle.keep_token.specs.Words.{is_integer, is_integer_text, is_prefixed, is_float, is_number, is_special, is_three}
+use Rattle.keep_token.specs.Words.{is_whole, is_boolean, is_date, is_time, is_date_time, is_offset_date_time, word_leaf}
 use Rattle.keep_token.proofs.DateLaws.{date_to, time_to, date_time_to, offset_date_time_to, parted}
-use Rattle.keep_token.proofs.DateShapes.{ShowsDateTime, date_shows, time_shows, date_time_shows, offset_date_time_shows, time_not_date, date_time_not_date, date_time_not_time, offset_date_time_not_date, offset_date_time_not_time, offset_date_time_not_date_time}
+use Rattle.keep_token.proofs.DateShapes.{ShowsDateTime, date_shows, time_shows, date_time_shows, offset_date_time_shows}
+use Rattle.keep_token.proofs.DateShapes.{time_not_date, date_time_not_date, date_time_not_time}
+use Rattle.keep_token.proofs.DateShapes.{offset_date_time_not_date, offset_date_time_not_time}
+use Rattle.keep_token.proofs.DateShapes.{offset_date_time_not_date_time}
 
 -- a dash or a colon
 abbrev pub is_stop : ℕ → Bool
@@ -35,10 +40,19 @@ pub record BeginsAsDate (t : List ℕ) : Type 0 where
   pub all : list_all is_ascii_digit digits ≡ true
   pub stops : is_stop stop ≡ true
 
-begins_at : (t : List ℕ) (n : ℕ) → 1 < n → n < length t → list_all is_ascii_digit (take n t) ≡ true → is_stop (slice_index t n) ≡ true → BeginsAsDate t
+begins_at : (t : List ℕ) (n : ℕ) → 1 < n → n < length t → list_all is_ascii_digit (take n t) ≡ true
+    → is_stop (slice_index t n) ≡ true → BeginsAsDate t
 begins_at t n two lt all stops =
     let len : length (take n t) ≡ n = length-take-le n t (omega arith) in
-    record { digits = take n t; stop = slice_index t n; more = drop (suc n) t; spelled = parted t n lt; two = omega arith; all = all; stops = stops }
+    record {
+      digits = take n t;
+      stop = slice_index t n;
+      more = drop (suc n) t;
+      spelled = parted t n lt;
+      two = omega arith;
+      all = all;
+      stops = stops;
+    }
 
 dash_stops : (c : ℕ) → c ≡ 0x2D → is_stop c ≡ true
 dash_stops c e = rw e refl
@@ -47,10 +61,14 @@ colon_stops : (c : ℕ) → c ≡ 0x3A → is_stop c ≡ true
 colon_stops c e = rw e refl
 
 pub date_begins : (t : List ℕ) → is_date t ≡ true → BeginsAsDate t
-date_begins t k = let s = date_shows t k in begins_at t 4 (omega arith) (omega (arith, s.ten)) s.prefix (dash_stops (slice_index t 4) s.dash)
+date_begins t k =
+    let s = date_shows t k in
+    begins_at t 4 (omega arith) (omega (arith, s.ten)) s.prefix (dash_stops (slice_index t 4) s.dash)
 
 pub time_begins : (profile : Profile) (t : List ℕ) → is_time profile t ≡ true → BeginsAsDate t
-time_begins profile t k = let s = time_shows profile t k in begins_at t 2 (omega arith) (omega (arith, s.long)) s.prefix (colon_stops (slice_index t 2) s.colon)
+time_begins profile t k =
+    let s = time_shows profile t k in
+    begins_at t 2 (omega arith) (omega (arith, s.long)) s.prefix (colon_stops (slice_index t 2) s.colon)
 
 seen_begins : (t : List ℕ) → ShowsDateTime t → BeginsAsDate t
 seen_begins t s = begins_at t 4 (omega arith) (omega (arith, s.long)) s.prefix (dash_stops (slice_index t 4) s.dash)
@@ -73,7 +91,8 @@ stop_digits : (s : ℕ) (more : List ℕ) → is_stop s ≡ true → is_digits i
 stop_digits s [] h = (stop_is s h).0
 stop_digits s (c ∷ cs) h = rw (stop_is s h).0 refl
 
-no_digits : (f : List ℕ) (s : ℕ) (more : List ℕ) → list_all is_ascii_digit f ≡ true → is_stop s ≡ true → is_digits is_ascii_digit (f ++ (s ∷ more)) ≡ false
+no_digits : (f : List ℕ) (s : ℕ) (more : List ℕ) → list_all is_ascii_digit f ≡ true → is_stop s ≡ true
+    → is_digits is_ascii_digit (f ++ (s ∷ more)) ≡ false
 no_digits [] s more all h = stop_digits s more h
 no_digits (d ∷ []) s more all h =
     let (here, rest) = and_parts (is_ascii_digit d) true all in
@@ -83,7 +102,8 @@ no_digits (d ∷ e ∷ f) s more all h =
     let next = (and_parts (is_ascii_digit e) (list_all is_ascii_digit f) rest).0 in
     rw (here, (digit_is_no e next).0) (no_digits (e ∷ f) s more rest h)
 
-no_decimal : (f : List ℕ) (s : ℕ) (more : List ℕ) → 1 < length f → list_all is_ascii_digit f ≡ true → is_stop s ≡ true → is_decimal (f ++ (s ∷ more)) ≡ false
+no_decimal : (f : List ℕ) (s : ℕ) (more : List ℕ) → 1 < length f → list_all is_ascii_digit f ≡ true → is_stop s ≡ true
+    → is_decimal (f ++ (s ∷ more)) ≡ false
 no_decimal [] s more two all h = absurd (omega arith)
 no_decimal (d ∷ f) s more two all h =
     let (here, rest) = and_parts (is_ascii_digit d) (list_all is_ascii_digit f) all in
@@ -98,7 +118,8 @@ and_never : (x y z : Bool) → y ≡ false → ((x && y) && z) ≡ false
 and_never true y z h = rw h refl
 and_never false y z h = refl
 
-no_prefixed : (base letter : ℕ) (f : List ℕ) (s : ℕ) (more : List ℕ) → 57 < letter → 1 < length f → list_all is_ascii_digit f ≡ true → is_prefixed base letter (f ++ (s ∷ more)) ≡ false
+no_prefixed : (base letter : ℕ) (f : List ℕ) (s : ℕ) (more : List ℕ) → 57 < letter → 1 < length f
+    → list_all is_ascii_digit f ≡ true → is_prefixed base letter (f ++ (s ∷ more)) ≡ false
 no_prefixed base letter [] s more k two all = absurd (omega arith)
 no_prefixed base letter (z ∷ []) s more k two all = absurd (omega arith)
 no_prefixed base letter (z ∷ x ∷ f) s more k two all =
@@ -122,11 +143,13 @@ no_integer t b =
 take_one : (n c : ℕ) (cs : List ℕ) → take (1 + n) (c ∷ cs) ≡ c ∷ take n cs
 take_one n c cs = let one : 1 + n ≡ suc n = omega arith in rw one refl
 
-whole_run : (f : List ℕ) (s : ℕ) (more : List ℕ) → list_all is_ascii_digit f ≡ true → is_stop s ≡ true → take (prefix_len is_whole (f ++ (s ∷ more))) (f ++ (s ∷ more)) ≡ f ++ (s ∷ take (prefix_len is_whole more) more)
+whole_run : (f : List ℕ) (s : ℕ) (more : List ℕ) → list_all is_ascii_digit f ≡ true → is_stop s ≡ true
+    → take (prefix_len is_whole (f ++ (s ∷ more))) (f ++ (s ∷ more)) ≡ f ++ (s ∷ take (prefix_len is_whole more) more)
 whole_run [] s more all h = rw (stop_is s h).2 (take_one (prefix_len is_whole more) s more)
 whole_run (d ∷ f) s more all h =
     let (here, rest) = and_parts (is_ascii_digit d) (list_all is_ascii_digit f) all in
-    rw (digit_is_no d here).2 (take_one (prefix_len is_whole (f ++ (s ∷ more))) d (f ++ (s ∷ more)) ∙ ap (λ (u : List ℕ). d ∷ u) (whole_run f s more rest h))
+    rw (digit_is_no d here).2 (take_one (prefix_len is_whole (f ++ (s ∷ more))) d (f ++ (s ∷ more))
+    ∙ ap (λ (u : List ℕ). d ∷ u) (whole_run f s more rest h))
 
 three_no : (c : ℕ) (cs : List ℕ) → (c == 0x69) ≡ false → (c == 0x6E) ≡ false → is_three (c ∷ cs) ≡ false
 three_no c (a ∷ b ∷ []) h k = rw (h, k) refl
@@ -134,10 +157,13 @@ three_no c _ h k = refl
 
 special_no : (t : List ℕ) → is_ascii_digit (slice_index t 0) ≡ true → is_special t ≡ false
 special_no [] h = refl
-special_no (c ∷ cs) h = rw (digit_is_no c h).1 (three_no c cs (digit_no_letter c 0x69 h (omega arith)) (digit_no_letter c 0x6E h (omega arith)))
+special_no (c ∷ cs) h =
+    rw (digit_is_no c h).1 (three_no c cs (digit_no_letter c 0x69 h (omega arith))
+    (digit_no_letter c 0x6E h (omega arith)))
 
 -- the first byte is a digit
-first_digit : (f : List ℕ) (s : ℕ) (more : List ℕ) → 1 < length f → list_all is_ascii_digit f ≡ true → is_ascii_digit (slice_index (f ++ (s ∷ more)) 0) ≡ true
+first_digit : (f : List ℕ) (s : ℕ) (more : List ℕ) → 1 < length f → list_all is_ascii_digit f ≡ true
+    → is_ascii_digit (slice_index (f ++ (s ∷ more)) 0) ≡ true
 first_digit [] s more two all = absurd (omega arith)
 first_digit (d ∷ f) s more two all = (and_parts (is_ascii_digit d) (list_all is_ascii_digit f) all).0
 
@@ -146,7 +172,12 @@ begins_with_digit t b = rw b.spelled (first_digit b.digits b.stop b.more b.two b
 
 pub no_float : (t : List ℕ) → BeginsAsDate t → is_float t ≡ false
 no_float t b =
-    let none : is_number t ≡ false = rw (b.spelled, whole_run b.digits b.stop b.more b.all b.stops, no_decimal b.digits b.stop (take (prefix_len is_whole b.more) b.more) b.two b.all b.stops) refl in
+    let none : is_number t ≡ false =
+    rw (
+      b.spelled,
+      whole_run b.digits b.stop b.more b.all b.stops,
+      no_decimal b.digits b.stop (take (prefix_len is_whole b.more) b.more) b.two b.all b.stops,
+    ) refl in
     rw (none, special_no t (begins_with_digit t b)) refl
 
 -- ---- truth values
@@ -175,16 +206,27 @@ word_leaf_time profile t h =
     let b = time_begins profile t k in
     rw (no_integer t b, no_float t b, no_boolean t b, time_not_date profile t k, k) refl
 
-pub word_leaf_date_time : (profile : Profile) (t : List ℕ) → LocalDateTime profile t → word_leaf profile t ≡ Some leaf.LocalDateTime
+pub word_leaf_date_time : (profile : Profile) (t : List ℕ) → LocalDateTime profile t
+    → word_leaf profile t ≡ Some leaf.LocalDateTime
 unfolding word_leaf
 word_leaf_date_time profile t h =
     let k = date_time_to profile t h in
     let b = date_time_begins profile t k in
-    rw (no_integer t b, no_float t b, no_boolean t b, date_time_not_date profile t k, date_time_not_time profile t k, k) refl
+    rw (no_integer t b, no_float t b, no_boolean t b, date_time_not_date profile t k, date_time_not_time profile t k, k)
+    refl
 
-pub word_leaf_offset_date_time : (profile : Profile) (t : List ℕ) → OffsetDateTime profile t → word_leaf profile t ≡ Some leaf.OffsetDateTime
+pub word_leaf_offset_date_time : (profile : Profile) (t : List ℕ) → OffsetDateTime profile t
+    → word_leaf profile t ≡ Some leaf.OffsetDateTime
 unfolding word_leaf
 word_leaf_offset_date_time profile t h =
     let k = offset_date_time_to profile t h in
     let b = offset_date_time_begins profile t k in
-    rw (no_integer t b, no_float t b, no_boolean t b, offset_date_time_not_date profile t k, offset_date_time_not_time profile t k, offset_date_time_not_date_time profile t k, k) refl
+    rw (
+      no_integer t b,
+      no_float t b,
+      no_boolean t b,
+      offset_date_time_not_date profile t k,
+      offset_date_time_not_time profile t k,
+      offset_date_time_not_date_time profile t k,
+      k,
+    ) refl

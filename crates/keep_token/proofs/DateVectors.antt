@@ -41,55 +41,331 @@ last_day : IsLeaf Strict leaf.LocalDate (codes "9999-12-31")
 last_day = (9999, 12, 31, omega arith, omega arith, omega arith, omega arith, omega arith, refl)
 
 time : IsLeaf Strict leaf.LocalTime (codes "07:32:00")
-time = (codes "07:32:00", [], refl, (codes "07:32", codes ":00", refl, (7, 32, omega arith, omega arith, refl), (0, omega arith, refl)), inl refl)
+time = (
+  codes "07:32:00",
+  [],
+  refl,
+  (codes "07:32", codes ":00", refl, (7, 32, omega arith, omega arith, refl), (0, omega arith, refl)),
+  inl refl,
+)
 
 midnight : IsLeaf Strict leaf.LocalTime (codes "00:00:00")
-midnight = (codes "00:00:00", [], refl, (codes "00:00", codes ":00", refl, (0, 0, omega arith, omega arith, refl), (0, omega arith, refl)), inl refl)
+midnight = (
+  codes "00:00:00",
+  [],
+  refl,
+  (codes "00:00", codes ":00", refl, (0, 0, omega arith, omega arith, refl), (0, omega arith, refl)),
+  inl refl,
+)
 
 leap_second : IsLeaf Strict leaf.LocalTime (codes "00:00:60")
-leap_second = (codes "00:00:60", [], refl, (codes "00:00", codes ":60", refl, (0, 0, omega arith, omega arith, refl), (60, omega arith, refl)), inl refl)
+leap_second = (
+  codes "00:00:60",
+  [],
+  refl,
+  (codes "00:00", codes ":60", refl, (0, 0, omega arith, omega arith, refl), (60, omega arith, refl)),
+  inl refl,
+)
 
 fraction_nought : IsLeaf Strict leaf.LocalTime (codes "23:59:59.0")
-fraction_nought = (codes "23:59:59", codes ".0", refl, (codes "23:59", codes ":59", refl, (23, 59, omega arith, omega arith, refl), (59, omega arith, refl)), inr (codes ".", codes "0", refl, refl, (omega arith, refl)))
+fraction_nought = (
+  codes "23:59:59",
+  codes ".0",
+  refl,
+  (codes "23:59", codes ":59", refl, (23, 59, omega arith, omega arith, refl), (59, omega arith, refl)),
+  inr (codes ".", codes "0", refl, refl, (omega arith, refl)),
+)
 
 fraction_six : IsLeaf Strict leaf.LocalTime (codes "00:32:00.999999")
-fraction_six = (codes "00:32:00", codes ".999999", refl, (codes "00:32", codes ":00", refl, (0, 32, omega arith, omega arith, refl), (0, omega arith, refl)), inr (codes ".", codes "999999", refl, refl, (omega arith, refl)))
+fraction_six = (
+  codes "00:32:00",
+  codes ".999999",
+  refl,
+  (codes "00:32", codes ":00", refl, (0, 32, omega arith, omega arith, refl), (0, omega arith, refl)),
+  inr (codes ".", codes "999999", refl, refl, (omega arith, refl)),
+)
 
 fraction_long : IsLeaf Strict leaf.LocalTime (codes "00:32:00.123456789012345")
-fraction_long = (codes "00:32:00", codes ".123456789012345", refl, (codes "00:32", codes ":00", refl, (0, 32, omega arith, omega arith, refl), (0, omega arith, refl)), inr (codes ".", codes "123456789012345", refl, refl, (omega arith, refl)))
+fraction_long = (
+  codes "00:32:00",
+  codes ".123456789012345",
+  refl,
+  (codes "00:32", codes ":00", refl, (0, 32, omega arith, omega arith, refl), (0, omega arith, refl)),
+  inr (codes ".", codes "123456789012345", refl, refl, (omega arith, refl)),
+)
 
 at_t : IsLeaf Strict leaf.LocalDateTime (codes "1979-05-27T07:32:00")
-at_t = (codes "1979-05-27", codes "T07:32:00", refl, (1979, 5, 27, omega arith, omega arith, omega arith, omega arith, omega arith, refl), (codes "T", codes "07:32:00", refl, (0x54, refl, refl), (codes "07:32:00", [], refl, (codes "07:32", codes ":00", refl, (7, 32, omega arith, omega arith, refl), (0, omega arith, refl)), inl refl)))
+at_t = (
+  codes "1979-05-27",
+  codes "T07:32:00",
+  refl,
+  (1979, 5, 27, omega arith, omega arith, omega arith, omega arith, omega arith, refl),
+  (
+    codes "T",
+    codes "07:32:00",
+    refl,
+    (0x54, refl, refl),
+    (
+      codes "07:32:00",
+      [],
+      refl,
+      (codes "07:32", codes ":00", refl, (7, 32, omega arith, omega arith, refl), (0, omega arith, refl)),
+      inl refl,
+    ),
+  ),
+)
 
 at_small_t : IsLeaf Strict leaf.LocalDateTime (codes "1979-05-27t07:32:00")
-at_small_t = (codes "1979-05-27", codes "t07:32:00", refl, (1979, 5, 27, omega arith, omega arith, omega arith, omega arith, omega arith, refl), (codes "t", codes "07:32:00", refl, (0x74, refl, refl), (codes "07:32:00", [], refl, (codes "07:32", codes ":00", refl, (7, 32, omega arith, omega arith, refl), (0, omega arith, refl)), inl refl)))
+at_small_t = (
+  codes "1979-05-27",
+  codes "t07:32:00",
+  refl,
+  (1979, 5, 27, omega arith, omega arith, omega arith, omega arith, omega arith, refl),
+  (
+    codes "t",
+    codes "07:32:00",
+    refl,
+    (0x74, refl, refl),
+    (
+      codes "07:32:00",
+      [],
+      refl,
+      (codes "07:32", codes ":00", refl, (7, 32, omega arith, omega arith, refl), (0, omega arith, refl)),
+      inl refl,
+    ),
+  ),
+)
 
 at_space : IsLeaf Strict leaf.LocalDateTime (codes "1979-05-27 07:32:00")
-at_space = (codes "1979-05-27", codes " 07:32:00", refl, (1979, 5, 27, omega arith, omega arith, omega arith, omega arith, omega arith, refl), (codes " ", codes "07:32:00", refl, (0x20, refl, refl), (codes "07:32:00", [], refl, (codes "07:32", codes ":00", refl, (7, 32, omega arith, omega arith, refl), (0, omega arith, refl)), inl refl)))
+at_space = (
+  codes "1979-05-27",
+  codes " 07:32:00",
+  refl,
+  (1979, 5, 27, omega arith, omega arith, omega arith, omega arith, omega arith, refl),
+  (
+    codes " ",
+    codes "07:32:00",
+    refl,
+    (0x20, refl, refl),
+    (
+      codes "07:32:00",
+      [],
+      refl,
+      (codes "07:32", codes ":00", refl, (7, 32, omega arith, omega arith, refl), (0, omega arith, refl)),
+      inl refl,
+    ),
+  ),
+)
 
 at_fraction : IsLeaf Strict leaf.LocalDateTime (codes "1979-05-27T00:32:00.999999")
-at_fraction = (codes "1979-05-27", codes "T00:32:00.999999", refl, (1979, 5, 27, omega arith, omega arith, omega arith, omega arith, omega arith, refl), (codes "T", codes "00:32:00.999999", refl, (0x54, refl, refl), (codes "00:32:00", codes ".999999", refl, (codes "00:32", codes ":00", refl, (0, 32, omega arith, omega arith, refl), (0, omega arith, refl)), inr (codes ".", codes "999999", refl, refl, (omega arith, refl)))))
+at_fraction = (
+  codes "1979-05-27",
+  codes "T00:32:00.999999",
+  refl,
+  (1979, 5, 27, omega arith, omega arith, omega arith, omega arith, omega arith, refl),
+  (
+    codes "T",
+    codes "00:32:00.999999",
+    refl,
+    (0x54, refl, refl),
+    (
+      codes "00:32:00",
+      codes ".999999",
+      refl,
+      (codes "00:32", codes ":00", refl, (0, 32, omega arith, omega arith, refl), (0, omega arith, refl)),
+      inr (codes ".", codes "999999", refl, refl, (omega arith, refl)),
+    ),
+  ),
+)
 
 zulu : IsLeaf Strict leaf.OffsetDateTime (codes "1979-05-27T07:32:00Z")
-zulu = (codes "1979-05-27T07:32:00", codes "Z", refl, (codes "1979-05-27", codes "T07:32:00", refl, (1979, 5, 27, omega arith, omega arith, omega arith, omega arith, omega arith, refl), (codes "T", codes "07:32:00", refl, (0x54, refl, refl), (codes "07:32:00", [], refl, (codes "07:32", codes ":00", refl, (7, 32, omega arith, omega arith, refl), (0, omega arith, refl)), inl refl))), inl (0x5A, refl, refl))
+zulu = (
+  codes "1979-05-27T07:32:00",
+  codes "Z",
+  refl,
+  (
+    codes "1979-05-27",
+    codes "T07:32:00",
+    refl,
+    (1979, 5, 27, omega arith, omega arith, omega arith, omega arith, omega arith, refl),
+    (
+      codes "T",
+      codes "07:32:00",
+      refl,
+      (0x54, refl, refl),
+      (
+        codes "07:32:00",
+        [],
+        refl,
+        (codes "07:32", codes ":00", refl, (7, 32, omega arith, omega arith, refl), (0, omega arith, refl)),
+        inl refl,
+      ),
+    ),
+  ),
+  inl (0x5A, refl, refl),
+)
 
 small_zulu : IsLeaf Strict leaf.OffsetDateTime (codes "1979-05-27t07:32:00z")
-small_zulu = (codes "1979-05-27t07:32:00", codes "z", refl, (codes "1979-05-27", codes "t07:32:00", refl, (1979, 5, 27, omega arith, omega arith, omega arith, omega arith, omega arith, refl), (codes "t", codes "07:32:00", refl, (0x74, refl, refl), (codes "07:32:00", [], refl, (codes "07:32", codes ":00", refl, (7, 32, omega arith, omega arith, refl), (0, omega arith, refl)), inl refl))), inl (0x7A, refl, refl))
+small_zulu = (
+  codes "1979-05-27t07:32:00",
+  codes "z",
+  refl,
+  (
+    codes "1979-05-27",
+    codes "t07:32:00",
+    refl,
+    (1979, 5, 27, omega arith, omega arith, omega arith, omega arith, omega arith, refl),
+    (
+      codes "t",
+      codes "07:32:00",
+      refl,
+      (0x74, refl, refl),
+      (
+        codes "07:32:00",
+        [],
+        refl,
+        (codes "07:32", codes ":00", refl, (7, 32, omega arith, omega arith, refl), (0, omega arith, refl)),
+        inl refl,
+      ),
+    ),
+  ),
+  inl (0x7A, refl, refl),
+)
 
 west : IsLeaf Strict leaf.OffsetDateTime (codes "1979-05-27T00:32:00-07:00")
-west = (codes "1979-05-27T00:32:00", codes "-07:00", refl, (codes "1979-05-27", codes "T00:32:00", refl, (1979, 5, 27, omega arith, omega arith, omega arith, omega arith, omega arith, refl), (codes "T", codes "00:32:00", refl, (0x54, refl, refl), (codes "00:32:00", [], refl, (codes "00:32", codes ":00", refl, (0, 32, omega arith, omega arith, refl), (0, omega arith, refl)), inl refl))), inr (codes "-", codes "07:00", refl, (0x2D, refl, refl), (7, 0, omega arith, omega arith, refl)))
+west = (
+  codes "1979-05-27T00:32:00",
+  codes "-07:00",
+  refl,
+  (
+    codes "1979-05-27",
+    codes "T00:32:00",
+    refl,
+    (1979, 5, 27, omega arith, omega arith, omega arith, omega arith, omega arith, refl),
+    (
+      codes "T",
+      codes "00:32:00",
+      refl,
+      (0x54, refl, refl),
+      (
+        codes "00:32:00",
+        [],
+        refl,
+        (codes "00:32", codes ":00", refl, (0, 32, omega arith, omega arith, refl), (0, omega arith, refl)),
+        inl refl,
+      ),
+    ),
+  ),
+  inr (codes "-", codes "07:00", refl, (0x2D, refl, refl), (7, 0, omega arith, omega arith, refl)),
+)
 
 west_fraction : IsLeaf Strict leaf.OffsetDateTime (codes "1979-05-27T00:32:00.999999-07:00")
-west_fraction = (codes "1979-05-27T00:32:00.999999", codes "-07:00", refl, (codes "1979-05-27", codes "T00:32:00.999999", refl, (1979, 5, 27, omega arith, omega arith, omega arith, omega arith, omega arith, refl), (codes "T", codes "00:32:00.999999", refl, (0x54, refl, refl), (codes "00:32:00", codes ".999999", refl, (codes "00:32", codes ":00", refl, (0, 32, omega arith, omega arith, refl), (0, omega arith, refl)), inr (codes ".", codes "999999", refl, refl, (omega arith, refl))))), inr (codes "-", codes "07:00", refl, (0x2D, refl, refl), (7, 0, omega arith, omega arith, refl)))
+west_fraction = (
+  codes "1979-05-27T00:32:00.999999",
+  codes "-07:00",
+  refl,
+  (
+    codes "1979-05-27",
+    codes "T00:32:00.999999",
+    refl,
+    (1979, 5, 27, omega arith, omega arith, omega arith, omega arith, omega arith, refl),
+    (
+      codes "T",
+      codes "00:32:00.999999",
+      refl,
+      (0x54, refl, refl),
+      (
+        codes "00:32:00",
+        codes ".999999",
+        refl,
+        (codes "00:32", codes ":00", refl, (0, 32, omega arith, omega arith, refl), (0, omega arith, refl)),
+        inr (codes ".", codes "999999", refl, refl, (omega arith, refl)),
+      ),
+    ),
+  ),
+  inr (codes "-", codes "07:00", refl, (0x2D, refl, refl), (7, 0, omega arith, omega arith, refl)),
+)
 
 east_space : IsLeaf Strict leaf.OffsetDateTime (codes "1979-05-27 07:32:00+23:59")
-east_space = (codes "1979-05-27 07:32:00", codes "+23:59", refl, (codes "1979-05-27", codes " 07:32:00", refl, (1979, 5, 27, omega arith, omega arith, omega arith, omega arith, omega arith, refl), (codes " ", codes "07:32:00", refl, (0x20, refl, refl), (codes "07:32:00", [], refl, (codes "07:32", codes ":00", refl, (7, 32, omega arith, omega arith, refl), (0, omega arith, refl)), inl refl))), inr (codes "+", codes "23:59", refl, (0x2B, refl, refl), (23, 59, omega arith, omega arith, refl)))
+east_space = (
+  codes "1979-05-27 07:32:00",
+  codes "+23:59",
+  refl,
+  (
+    codes "1979-05-27",
+    codes " 07:32:00",
+    refl,
+    (1979, 5, 27, omega arith, omega arith, omega arith, omega arith, omega arith, refl),
+    (
+      codes " ",
+      codes "07:32:00",
+      refl,
+      (0x20, refl, refl),
+      (
+        codes "07:32:00",
+        [],
+        refl,
+        (codes "07:32", codes ":00", refl, (7, 32, omega arith, omega arith, refl), (0, omega arith, refl)),
+        inl refl,
+      ),
+    ),
+  ),
+  inr (codes "+", codes "23:59", refl, (0x2B, refl, refl), (23, 59, omega arith, omega arith, refl)),
+)
 
 unknown_offset : IsLeaf Strict leaf.OffsetDateTime (codes "1979-05-27T07:32:00-00:00")
-unknown_offset = (codes "1979-05-27T07:32:00", codes "-00:00", refl, (codes "1979-05-27", codes "T07:32:00", refl, (1979, 5, 27, omega arith, omega arith, omega arith, omega arith, omega arith, refl), (codes "T", codes "07:32:00", refl, (0x54, refl, refl), (codes "07:32:00", [], refl, (codes "07:32", codes ":00", refl, (7, 32, omega arith, omega arith, refl), (0, omega arith, refl)), inl refl))), inr (codes "-", codes "00:00", refl, (0x2D, refl, refl), (0, 0, omega arith, omega arith, refl)))
+unknown_offset = (
+  codes "1979-05-27T07:32:00",
+  codes "-00:00",
+  refl,
+  (
+    codes "1979-05-27",
+    codes "T07:32:00",
+    refl,
+    (1979, 5, 27, omega arith, omega arith, omega arith, omega arith, omega arith, refl),
+    (
+      codes "T",
+      codes "07:32:00",
+      refl,
+      (0x54, refl, refl),
+      (
+        codes "07:32:00",
+        [],
+        refl,
+        (codes "07:32", codes ":00", refl, (7, 32, omega arith, omega arith, refl), (0, omega arith, refl)),
+        inl refl,
+      ),
+    ),
+  ),
+  inr (codes "-", codes "00:00", refl, (0x2D, refl, refl), (0, 0, omega arith, omega arith, refl)),
+)
 
 leap_second_zulu : IsLeaf Strict leaf.OffsetDateTime (codes "1990-12-31T23:59:60Z")
-leap_second_zulu = (codes "1990-12-31T23:59:60", codes "Z", refl, (codes "1990-12-31", codes "T23:59:60", refl, (1990, 12, 31, omega arith, omega arith, omega arith, omega arith, omega arith, refl), (codes "T", codes "23:59:60", refl, (0x54, refl, refl), (codes "23:59:60", [], refl, (codes "23:59", codes ":60", refl, (23, 59, omega arith, omega arith, refl), (60, omega arith, refl)), inl refl))), inl (0x5A, refl, refl))
+leap_second_zulu = (
+  codes "1990-12-31T23:59:60",
+  codes "Z",
+  refl,
+  (
+    codes "1990-12-31",
+    codes "T23:59:60",
+    refl,
+    (1990, 12, 31, omega arith, omega arith, omega arith, omega arith, omega arith, refl),
+    (
+      codes "T",
+      codes "23:59:60",
+      refl,
+      (0x54, refl, refl),
+      (
+        codes "23:59:60",
+        [],
+        refl,
+        (codes "23:59", codes ":60", refl, (23, 59, omega arith, omega arith, refl), (60, omega arith, refl)),
+        inl refl,
+      ),
+    ),
+  ),
+  inl (0x5A, refl, refl),
+)
 
 short_time : IsLeaf Wide leaf.LocalTime (codes "07:32")
 short_time = inr (7, 32, omega arith, omega arith, refl)
@@ -98,13 +374,43 @@ short_last : IsLeaf Wide leaf.LocalTime (codes "23:59")
 short_last = inr (23, 59, omega arith, omega arith, refl)
 
 short_at_t : IsLeaf Wide leaf.LocalDateTime (codes "1979-05-27T07:32")
-short_at_t = (codes "1979-05-27", codes "T07:32", refl, (1979, 5, 27, omega arith, omega arith, omega arith, omega arith, omega arith, refl), (codes "T", codes "07:32", refl, (0x54, refl, refl), inr (7, 32, omega arith, omega arith, refl)))
+short_at_t = (
+  codes "1979-05-27",
+  codes "T07:32",
+  refl,
+  (1979, 5, 27, omega arith, omega arith, omega arith, omega arith, omega arith, refl),
+  (codes "T", codes "07:32", refl, (0x54, refl, refl), inr (7, 32, omega arith, omega arith, refl)),
+)
 
 short_zulu : IsLeaf Wide leaf.OffsetDateTime (codes "1979-05-27 07:32Z")
-short_zulu = (codes "1979-05-27 07:32", codes "Z", refl, (codes "1979-05-27", codes " 07:32", refl, (1979, 5, 27, omega arith, omega arith, omega arith, omega arith, omega arith, refl), (codes " ", codes "07:32", refl, (0x20, refl, refl), inr (7, 32, omega arith, omega arith, refl))), inl (0x5A, refl, refl))
+short_zulu = (
+  codes "1979-05-27 07:32",
+  codes "Z",
+  refl,
+  (
+    codes "1979-05-27",
+    codes " 07:32",
+    refl,
+    (1979, 5, 27, omega arith, omega arith, omega arith, omega arith, omega arith, refl),
+    (codes " ", codes "07:32", refl, (0x20, refl, refl), inr (7, 32, omega arith, omega arith, refl)),
+  ),
+  inl (0x5A, refl, refl),
+)
 
 short_west : IsLeaf Wide leaf.OffsetDateTime (codes "1979-05-27T07:32-07:00")
-short_west = (codes "1979-05-27T07:32", codes "-07:00", refl, (codes "1979-05-27", codes "T07:32", refl, (1979, 5, 27, omega arith, omega arith, omega arith, omega arith, omega arith, refl), (codes "T", codes "07:32", refl, (0x54, refl, refl), inr (7, 32, omega arith, omega arith, refl))), inr (codes "-", codes "07:00", refl, (0x2D, refl, refl), (7, 0, omega arith, omega arith, refl)))
+short_west = (
+  codes "1979-05-27T07:32",
+  codes "-07:00",
+  refl,
+  (
+    codes "1979-05-27",
+    codes "T07:32",
+    refl,
+    (1979, 5, 27, omega arith, omega arith, omega arith, omega arith, omega arith, refl),
+    (codes "T", codes "07:32", refl, (0x54, refl, refl), inr (7, 32, omega arith, omega arith, refl)),
+  ),
+  inr (codes "-", codes "07:00", refl, (0x2D, refl, refl), (7, 0, omega arith, omega arith, refl)),
+)
 
 -- ---- their kinds
 
@@ -224,9 +530,11 @@ kind_short_west = refl
 
 -- no date, no time and not both
 abbrev IsNoDate : Profile → List ℕ → Type 0
-IsNoDate profile t = (LocalDate t → ⊥) × (LocalTime profile t → ⊥) × (LocalDateTime profile t → ⊥) × (OffsetDateTime profile t → ⊥)
+IsNoDate profile t =
+    (LocalDate t → ⊥) × (LocalTime profile t → ⊥) × (LocalDateTime profile t → ⊥) × (OffsetDateTime profile t → ⊥)
 
-refused : (profile : Profile) (t : List ℕ) → is_date t ≡ false → is_time profile t ≡ false → is_date_time profile t ≡ false → is_offset_date_time profile t ≡ false → IsNoDate profile t
+refused : (profile : Profile) (t : List ℕ) → is_date t ≡ false → is_time profile t ≡ false
+    → is_date_time profile t ≡ false → is_offset_date_time profile t ≡ false → IsNoDate profile t
 refused profile t a b c d = (
   λ h. let k = date_to t h in cc,
   λ h. let k = time_to profile t h in cc,

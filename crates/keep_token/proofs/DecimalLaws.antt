@@ -1,5 +1,6 @@
 -- The decimal text of a number is an integer of the language, and its value is the number.
-use Rattle.std.proofs.Common.{◌≡◌, ℕ, ℤ, pos, negsuc, suc, ◌-◌, ◌^◌, ◌<◌, true, false, not, ◌==◌, List, [], ◌∷◌, length, get_or, refl, ◌∙◌, ap, subst, eq-zero-or-pos, inl, inr, ◌⊎◌, arith, FitsSigned, w64}
+use Rattle.std.proofs.Common.{◌≡◌, ℕ, ℤ, pos, negsuc, suc, ◌-◌, ◌^◌, ◌<◌, true, false, not, ◌==◌, List, [], ◌∷◌, length}
+use Rattle.std.proofs.Common.{get_or, refl, ◌∙◌, ap, subst, eq-zero-or-pos, inl, inr, ◌⊎◌, arith, FitsSigned, w64}
 use Rattle.std.proofs.lemmas.Bool.Decides.{nat_tests}
 use Rattle.std.proofs.lemmas.Bool.{and_parts, and_from}
 use Rattle.std.proofs.Math.Nat.{eq-or-lt_of_le}
@@ -10,7 +11,8 @@ use Rattle.std.specs.Int.{IsInRange}
 use Rattle.std.proofs.lemmas.Str.Parse.{IsDigitsTest, WeighsDigits, IsNumeralModel, numerals_by_weight}
 use Rattle.std.proofs.lemmas.Fmt.{digits_decimal, digits_value-decimal, decimal_nonempty, decimal_digit, first_decimal}
 use Rattle.keep_token.specs.Abnf.{between}
-use Rattle.keep_token.specs.Numbers.{is_underscore, is_digits, sum_of_digits, digits_value, negated, integer_value, Unsigned, Integer}
+use Rattle.keep_token.specs.Numbers.{is_underscore, is_digits, sum_of_digits, digits_value, negated, integer_value}
+use Rattle.keep_token.specs.Numbers.{Unsigned, Integer}
 
 -- ---- decimal texts are numerals
 
@@ -46,7 +48,8 @@ digits_text d [] h = (and_parts (is_ascii_digit d) true h).0
 digits_text d (c ∷ cs) h =
     let k = and_parts (is_ascii_digit d) (list_all is_ascii_digit (c ∷ cs)) h in
     let m = and_parts (is_ascii_digit c) (list_all is_ascii_digit cs) k.1 in
-    rw (no_underscore c m.0) (and_from (is_ascii_digit d) (is_digits is_ascii_digit (c ∷ cs)) k.0 (digits_text c cs k.1))
+    rw (no_underscore c m.0) (and_from (is_ascii_digit d) (is_digits is_ascii_digit (c ∷ cs)) k.0
+    (digits_text c cs k.1))
 
 all_preserved : (ds : List ℕ) → list_all is_ascii_digit ds ≡ true → filter (λ c. not (is_underscore c)) ds ≡ ds
 all_preserved [] h = refl
@@ -60,7 +63,8 @@ value_is ds h = ap (sum_of_digits 10) (all_preserved ds h)
 leads : (d : ℕ) → is_ascii_digit d ≡ true → 48 < d → between 0x31 0x39 d ≡ true
 leads d h k = grind (arith, nat_tests)
 
-unsigned_text : (d : ℕ) (ds : List ℕ) → list_all is_ascii_digit (d ∷ ds) ≡ true → (ds ≡ []) ⊎ (48 < d) → Unsigned (d ∷ ds)
+unsigned_text : (d : ℕ) (ds : List ℕ) → list_all is_ascii_digit (d ∷ ds) ≡ true → (ds ≡ []) ⊎ (48 < d)
+    → Unsigned (d ∷ ds)
 unsigned_text d [] h e = inl (d, refl, (and_parts (is_ascii_digit d) true h).0)
 unsigned_text d (c ∷ cs) h e =
     let k = and_parts (is_ascii_digit d) (list_all is_ascii_digit (c ∷ cs)) h in
@@ -84,7 +88,10 @@ leading_value d ds h =
 unsigned_value : (d : ℕ) (ds : List ℕ) → list_all is_ascii_digit (d ∷ ds) ≡ true → (ds ≡ []) ⊎ (48 < d)
     → integer_value (d ∷ ds) ≡ pos (digits_value 10 (d ∷ ds))
 unsigned_value d [] h e =
-    elim (eq-or-lt_of_le (in_range d (and_parts (is_ascii_digit d) true h).0).0) [ inl nought ↦ zero_value d nought | inr more ↦ leading_value d [] more ]
+    elim (eq-or-lt_of_le (in_range d (and_parts (is_ascii_digit d) true h).0).0) [
+      | inl nought ↦ zero_value d nought
+      | inr more ↦ leading_value d [] more
+    ]
 unsigned_value d (c ∷ cs) h e =
     elim e [ inl none ↦ let never : ⊥ = cc in absurd never | inr more ↦ leading_value d (c ∷ cs) more ]
 
@@ -113,17 +120,20 @@ plain_of n (d ∷ ds) some digits value above nought = record {
 
 plain_decimal : (n : ℕ) → n < 2 ^ 64 → IsPlainDecimal n (decimal n)
 plain_decimal n h =
-    plain_of n (decimal n) (decimal_nonempty n h) (digits_decimal numerals n h) (digits_value-decimal numerals n h) (λ g. first_decimal n g h) (λ z. decimal_digit n (omega arith) ∙ rw z refl)
+    plain_of n (decimal n) (decimal_nonempty n h) (digits_decimal numerals n h) (digits_value-decimal numerals n h)
+    (λ g. first_decimal n g h) (λ z. decimal_digit n (omega arith) ∙ rw z refl)
 
 -- ---- what `encode_int` writes
 
-pub decimal_at : (n d : ℕ) (ds : List ℕ) → list_all is_ascii_digit (d ∷ ds) ≡ true → sum_of_digits 10 (d ∷ ds) ≡ n → (ds ≡ []) ⊎ (48 < d)
-    → FitsSigned w64 (pos n) → Integer (d ∷ ds) × (integer_value (d ∷ ds) ≡ pos n)
+pub decimal_at : (n d : ℕ) (ds : List ℕ) → list_all is_ascii_digit (d ∷ ds) ≡ true → sum_of_digits 10 (d ∷ ds) ≡ n
+    → (ds ≡ []) ⊎ (48 < d) → FitsSigned w64 (pos n) → Integer (d ∷ ds) × (integer_value (d ∷ ds) ≡ pos n)
 decimal_at n d ds digits value leading fits =
-    let is : integer_value (d ∷ ds) ≡ pos n = unsigned_value d ds digits leading ∙ ap pos (value_is (d ∷ ds) digits ∙ value) in
+    let is : integer_value (d ∷ ds) ≡ pos n =
+    unsigned_value d ds digits leading ∙ ap pos (value_is (d ∷ ds) digits ∙ value) in
     ((inl ([], d ∷ ds, refl, inl refl, unsigned_text d ds digits leading), rw is fits), is)
 
-negative_at : (n d : ℕ) (ds : List ℕ) → list_all is_ascii_digit (d ∷ ds) ≡ true → sum_of_digits 10 (d ∷ ds) ≡ suc n → (ds ≡ []) ⊎ (48 < d)
+negative_at : (n d : ℕ) (ds : List ℕ) → list_all is_ascii_digit (d ∷ ds) ≡ true → sum_of_digits 10 (d ∷ ds) ≡ suc n
+    → (ds ≡ []) ⊎ (48 < d)
     → FitsSigned w64 (negsuc n) → Integer (0x2D ∷ d ∷ ds) × (integer_value (0x2D ∷ d ∷ ds) ≡ negsuc n)
 negative_at n d ds digits value leading fits =
     let is : integer_value (0x2D ∷ d ∷ ds) ≡ negsuc n = ap negated (value_is (d ∷ ds) digits ∙ value) in

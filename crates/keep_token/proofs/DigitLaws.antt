@@ -1,5 +1,6 @@
 -- The number that hexadecimal digits write grows digit by digit, and stays below the power of their count.
-use Rattle.std.proofs.Common.{◌≡◌, ℕ, zero, suc, ◌+◌, ◌*◌, ◌^◌, ◌<◌, ◌≤◌, true, List, [], ◌∷◌, ◌++◌, length, get_or, take, refl, ap, ◌∙◌, arith, length-append}
+use Rattle.std.proofs.Common.{◌≡◌, ℕ, zero, suc, ◌+◌, ◌*◌, ◌^◌, ◌<◌, ◌≤◌, true, List, [], ◌∷◌, ◌++◌, length, get_or}
+use Rattle.std.proofs.Common.{take, refl, ap, ◌∙◌, arith, length-append}
 use Rattle.std.proofs.Math.Nat.{pow-suc}
 use Rattle.std.proofs.lemmas.List.{take_more}
 use Rattle.std.proofs.lemmas.List.Folds.{list_all_more}
@@ -18,9 +19,11 @@ sum_of_digits-push (x ∷ xs) d =
     let one : length (xs ++ d ∷ []) ≡ suc (length xs) = omega (arith, length-append xs (d ∷ [])) in
     let power : 16 ^ length (xs ++ d ∷ []) ≡ 16 ^ length xs * 16 = ap (λ n. 16 ^ n) one ∙ pow-suc 16 (length xs) in
     ap (λ n. digit_value x * 16 ^ length (xs ++ d ∷ []) + n) (sum_of_digits-push xs d)
-    ∙ rearranged (digit_value x) (16 ^ length xs) (16 ^ length (xs ++ d ∷ [])) (sum_of_digits 16 xs) (digit_value d) power
+    ∙ rearranged (digit_value x) (16 ^ length xs) (16 ^ length (xs ++ d ∷ [])) (sum_of_digits 16 xs) (digit_value d)
+    power
 
-pub sum_of_digits_more : (xs : List ℕ) (i : ℕ) → i < length xs → sum_of_digits 16 (take (i + 1) xs) ≡ sum_of_digits 16 (take i xs) * 16 + digit_value (get_or xs i 0)
+pub sum_of_digits_more : (xs : List ℕ) (i : ℕ) → i < length xs
+    → sum_of_digits 16 (take (i + 1) xs) ≡ sum_of_digits 16 (take i xs) * 16 + digit_value (get_or xs i 0)
 sum_of_digits_more xs i h = ap (sum_of_digits 16) (take_more xs i 0 h) ∙ sum_of_digits-push (take i xs) (get_or xs i 0)
 
 -- seven digits and one more fit 32 bits
@@ -41,8 +44,10 @@ power_more i n d h k =
     omega (arith, one)
 
 -- one more digit, d: the value and the test of the digits so far
-pub one_more : (xs : List ℕ) (i d : ℕ) → i < length xs → d ≡ digit_value (get_or xs i 0) → d < 16 → list_all (λ c. is_digit c 16) (take i xs) ≡ true
-    → (sum_of_digits 16 (take i xs) * 16 + d ≡ sum_of_digits 16 (take (i + 1) xs)) × (list_all (λ c. is_digit c 16) (take (i + 1) xs) ≡ true)
+pub one_more : (xs : List ℕ) (i d : ℕ) → i < length xs → d ≡ digit_value (get_or xs i 0) → d < 16
+    → list_all (λ c. is_digit c 16) (take i xs) ≡ true
+    → (sum_of_digits 16 (take i xs) * 16 + d ≡ sum_of_digits 16 (take (i + 1) xs))
+    × (list_all (λ c. is_digit c 16) (take (i + 1) xs) ≡ true)
 one_more xs i d h e below all =
     let test : is_digit (get_or xs i 0) 16 ≡ true = lt-ltb (digit_value (get_or xs i 0)) 16 (omega (arith, e)) in
     (omega (arith, sum_of_digits_more xs i h, e), list_all_more (λ c. is_digit c 16) xs i 0 h ∙ (rw (all, test) refl))

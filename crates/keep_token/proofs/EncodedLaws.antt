@@ -1,5 +1,7 @@
 -- What the steps of writing a string or a key give is the encoded text, and the encoded text means the text.
-use Rattle.std.proofs.Common.{◌≡◌, ℕ, ◌+◌, ◌<◌, Bool, true, false, List, [], ◌∷◌, ◌++◌, length, length-append, length-take, take, drop, get_or, refl, sym, ◌∙◌, ap, arith, append_assoc, ◌≤◌, add-one, one-add, append-nil, inl, inr, ◌⊎◌, drop-cons, rules, String, string_bytes, string_len}
+use Rattle.std.proofs.Common.{◌≡◌, ℕ, ◌+◌, ◌<◌, Bool, true, false, List, [], ◌∷◌, ◌++◌, length, length-append}
+use Rattle.std.proofs.Common.{length-take, take, drop, get_or, refl, sym, ◌∙◌, ap, arith, append_assoc, ◌≤◌, add-one}
+use Rattle.std.proofs.Common.{one-add, append-nil, inl, inr, ◌⊎◌, drop-cons, rules, String, string_bytes, string_len}
 use Rattle.std.proofs.Math.Seq.{take-append_seam}
 use Rattle.std.proofs.lemmas.List.{take-take}
 use Rattle.std.proofs.lemmas.List.Sums.{prefix_len-le-length, prefix_len_stops}
@@ -37,7 +39,8 @@ run_preserved p f keeps (c ∷ cs) =
 
 -- a run of plain bytes is written as it is
 plain_run : (text : List ℕ)
-    → flat_map encoded_byte text ≡ take (prefix_len is_plain text) text ++ flat_map encoded_byte (drop (prefix_len is_plain text) text)
+    → flat_map encoded_byte text ≡ take (prefix_len is_plain text) text
+    ++ flat_map encoded_byte (drop (prefix_len is_plain text) text)
 plain_run text = run_preserved is_plain encoded_byte plain_byte text
 
 -- and the byte after it by its escape
@@ -45,32 +48,39 @@ escape_next : (text : List ℕ) (n : ℕ) → n < length text
     → flat_map encoded_byte (drop n text) ≡ encoded_byte (get_or text n 0) ++ flat_map encoded_byte (drop (n + 1) text)
 escape_next text n h = rw (drop-cons text n 0, add-one n) refl
 
-pub not_plain : (text : List ℕ) (n : ℕ) → n ≡ prefix_len is_plain text → n < length text → is_plain (get_or text n 0) ≡ false
+pub not_plain : (text : List ℕ) (n : ℕ) → n ≡ prefix_len is_plain text → n < length text
+    → is_plain (get_or text n 0) ≡ false
 not_plain text n e h = rw e (prefix_len_stops is_plain text 0 (omega arith))
 
 -- a text may be cut where a run of plain bytes ends, and after the byte that ends it
 pub plain_end : (text : List ℕ) (n : ℕ) → n ≡ prefix_len is_plain text → IsCharBoundary text n
-plain_end text n e =
-    (omega (arith, prefix_len-le-length is_plain text), λ more big. absurd (omega (arith, escaped_ascii (get_or text n 0) (not_plain text n e more))))
+plain_end text n e = (
+  omega (arith, prefix_len-le-length is_plain text),
+  λ more big. absurd (omega (arith, escaped_ascii (get_or text n 0) (not_plain text n e more))),
+)
 
-pub escape_end : (text : List ℕ) (n : ℕ) → IsUtf8 text → n ≡ prefix_len is_plain text → n < length text → IsCharBoundary text (n + 1)
+pub escape_end : (text : List ℕ) (n : ℕ) → IsUtf8 text → n ≡ prefix_len is_plain text → n < length text
+    → IsCharBoundary text (n + 1)
 escape_end text n utf8 e more = IsCharBoundary-after_ascii text n utf8 more (escaped_ascii _ (not_plain text n e more))
 
 -- the whole is written where the rest is plain
 pub encoded_last : (text before now whole : List ℕ) (n : ℕ) → n ≡ prefix_len is_plain text → n ≡ length text
     → before ++ flat_map encoded_byte text ≡ whole → now ≡ before ++ take n text → now ≡ whole
 encoded_last text before now whole n e all so_far now_is =
-    let rest : flat_map encoded_byte text ≡ take n text ++ flat_map encoded_byte (drop n text) = rw e (plain_run text) in
+    let rest : flat_map encoded_byte text ≡ take n text ++ flat_map encoded_byte (drop n text) =
+    rw e (plain_run text) in
     let none : drop n text ≡ [] = grind (arith, common_steps) in
     let it : flat_map encoded_byte text ≡ take n text = rest ∙ (rw none (append-nil (take n text))) in
     now_is ∙ ap (λ (t : List ℕ). before ++ t) (sym it) ∙ so_far
 
 -- a run and an escape are written: the whole is what is written and the rest
 pub encoded_more : (text before now next whole : List ℕ) (n : ℕ) → n ≡ prefix_len is_plain text → n < length text
-    → before ++ flat_map encoded_byte text ≡ whole → now ≡ before ++ take n text → next ≡ now ++ encoded_byte (get_or text n 0)
+    → before ++ flat_map encoded_byte text ≡ whole → now ≡ before ++ take n text
+    → next ≡ now ++ encoded_byte (get_or text n 0)
     → next ++ flat_map encoded_byte (drop (n + 1) text) ≡ whole
 encoded_more text before now next whole n e more so_far now_is next_is =
-    let rest : flat_map encoded_byte text ≡ take n text ++ (encoded_byte (get_or text n 0) ++ flat_map encoded_byte (drop (n + 1) text)) =
+    let rest : flat_map encoded_byte text ≡ take n text
+    ++ (encoded_byte (get_or text n 0) ++ flat_map encoded_byte (drop (n + 1) text)) =
     rw e (plain_run text) ∙ ap (λ (t : List ℕ). take n text ++ t) (escape_next text n more) in
     rw (next_is, now_is) (simp append_assoc (ap (λ (t : List ℕ). before ++ t) (sym rest) ∙ so_far))
 
@@ -81,7 +91,8 @@ pub grown : (old new more : List ℕ) → new ≡ old ++ more → take (length o
 grown old new more e = ap (take (length old)) e ∙ take-append_seam old more
 
 -- also where more was added in two steps
-pub grown_then : (old mid new : List ℕ) → take (length old) mid ≡ old → take (length mid) new ≡ mid → take (length old) new ≡ old
+pub grown_then : (old mid new : List ℕ) → take (length old) mid ≡ old → take (length mid) new ≡ mid
+    → take (length old) new ≡ old
 grown_then old mid new h k =
     let fits : length old ≤ length mid = omega (arith, length-take (length old) mid, ap length h) in
     sym (take-take (length old) (length mid) new fits) ∙ (ap (take (length old)) k ∙ h)
@@ -94,21 +105,30 @@ on_err (Ok x) p = tt
 on_err (Err e) p = p
 
 -- where a part of the rest has no room, the whole has none
-pub no_room : (before now rest whole : List ℕ) (old_room room n : ℕ) → now ++ rest ≡ before ++ whole → old_room ≤ room → room < length now + n → n ≤ length rest → old_room < length before + length whole
-no_room before now rest whole old_room room n e more less part = omega (arith, more, less, part, ap length e, length-append now rest, length-append before whole)
+pub no_room : (before now rest whole : List ℕ) (old_room room n : ℕ) → now ++ rest ≡ before ++ whole → old_room ≤ room
+    → room < length now + n → n ≤ length rest → old_room < length before + length whole
+no_room before now rest whole old_room room n e more less part =
+    omega (arith, more, less, part, ap length e, length-append now rest, length-append before whole)
 
 -- a run of plain bytes, and with it the escape of the byte after it, are no longer than the text as it is written
-pub plain_part : (text : List ℕ) (n : ℕ) → n ≡ prefix_len is_plain text → length (take n text) ≤ length (flat_map encoded_byte text)
+pub plain_part : (text : List ℕ) (n : ℕ) → n ≡ prefix_len is_plain text
+    → length (take n text) ≤ length (flat_map encoded_byte text)
 plain_part text n e =
     let run : flat_map encoded_byte text ≡ take n text ++ flat_map encoded_byte (drop n text) = rw e (plain_run text) in
     omega (arith, ap length run, length-append (take n text) (flat_map encoded_byte (drop n text)))
 
-pub escape_part : (text : List ℕ) (n : ℕ) → n ≡ prefix_len is_plain text → n < length text → length (take n text) + length (encoded_byte (get_or text n 0)) ≤ length (flat_map encoded_byte text)
+pub escape_part : (text : List ℕ) (n : ℕ) → n ≡ prefix_len is_plain text → n < length text
+    → length (take n text) + length (encoded_byte (get_or text n 0)) ≤ length (flat_map encoded_byte text)
 escape_part text n e more =
     let after = flat_map encoded_byte (drop (n + 1) text) in
     let run : flat_map encoded_byte text ≡ take n text ++ (encoded_byte (get_or text n 0) ++ after) =
     rw e (plain_run text) ∙ ap (λ (t : List ℕ). take n text ++ t) (escape_next text n more) in
-    omega (arith, ap length run, length-append (take n text) (encoded_byte (get_or text n 0) ++ after), length-append (encoded_byte (get_or text n 0)) after)
+    omega (
+      arith,
+      ap length run,
+      length-append (take n text) (encoded_byte (get_or text n 0) ++ after),
+      length-append (encoded_byte (get_or text n 0)) after,
+    )
 
 -- a text with a byte or more is bare where each byte is
 pub bare_text_of : (text : List ℕ) → 0 < length text → is_bare_text text ≡ list_all is_bare text

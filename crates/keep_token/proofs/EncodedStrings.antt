@@ -1,5 +1,7 @@
 -- An encoded string is a basic string of the language, and it means the text.
-use Rattle.std.proofs.Common.{◌≡◌, ℕ, suc, ◌/◌, ◌%◌, ◌<◌, true, false, ◌||◌, nat_lt, ◌==◌, IsTrue, List, [], ◌∷◌, get_or, refl, sym, subst, arith, inl, inr, lit<, Fits, w8, Result, Ok, Err, IfOk, String, string_bytes}
+use Rattle.std.proofs.Common.{◌≡◌, ℕ, suc, ◌/◌, ◌%◌, ◌<◌, true, false, ◌||◌, nat_lt, ◌==◌, IsTrue, List, [], ◌∷◌}
+use Rattle.std.proofs.Common.{get_or, refl, sym, subst, arith, inl, inr, lit<, Fits, w8, Result, Ok, Err, IfOk, String}
+use Rattle.std.proofs.Common.{string_bytes}
 use Rattle.std.proofs.lemmas.Bool.Decides.{nat_tests}
 use Rattle.std.proofs.lemmas.Bool.{cases_Bool, eqb-true, lt-ltb, and_from, false≢true}
 use Rattle.std.proofs.lemmas.Str.{encode_ascii}
@@ -8,7 +10,8 @@ use Rattle.std.specs.List.{flat_map}
 use Rattle.keep_types.specs.declared.leaf.Profile.TheVariants.{Strict}
 use Rattle.keep_types.specs.declared.leaf.Leaf.TheVariants as leaf
 use Rattle.keep_token.specs.Numbers.{sum_of_digits}
-use Rattle.keep_token.specs.Strings.{Piece, Plain, Letter, Number, piece_text, piece_value, is_basic, is_scalar, IsBasicPiece, Each, text_of, value_of}
+use Rattle.keep_token.specs.Strings.{Piece, Plain, Letter, Number, piece_text, piece_value, is_basic, is_scalar}
+use Rattle.keep_token.specs.Strings.{IsBasicPiece, Each, text_of, value_of}
 use Rattle.keep_token.specs.Encoded.{digit, encoded_byte, encoded_string, encoded_key, encoded_key_leaf, is_bare_text}
 use Rattle.keep_token.specs.Leaves.{IsLeaf, Means}
 
@@ -36,19 +39,25 @@ number c = Number 0x75 (48 ∷ 48 ∷ digit (c / 16) ∷ digit (c % 16) ∷ [])
 
 number_valid : (c : ℕ) → c < 128 → IsBasicPiece Strict (number c)
 number_valid c h =
-    let P : ℕ → Type 0 = λ n. IsTrue (is_scalar n) in
-    (lit< tt, refl, and_from _ _ (hex_digit (c / 16) (omega arith)) (and_from _ true (hex_digit (c % 16) (omega arith)) refl), subst P (sym (digits_sum c h)) (small_scalar c h))
+    let P : ℕ → Type 0 = λ n. IsTrue (is_scalar n) in (
+      lit< tt,
+      refl,
+      and_from _ _ (hex_digit (c / 16) (omega arith)) (and_from _ true (hex_digit (c % 16) (omega arith)) refl),
+      subst P (sym (digits_sum c h)) (small_scalar c h),
+    )
 
 number_means : (c : ℕ) → c < 128 → piece_value (number c) ≡ c ∷ []
 number_means c h = rw (digits_sum c h) (encode_ascii c h)
 
-plain_valid : (c : ℕ) → c < 256 → (nat_lt c 0x20 || c == 0x7F) ≡ false → (c == 0x22) ≡ false → (c == 0x5C) ≡ false → is_basic c ≡ true
+plain_valid : (c : ℕ) → c < 256 → (nat_lt c 0x20 || c == 0x7F) ≡ false → (c == 0x22) ≡ false → (c == 0x5C) ≡ false
+    → is_basic c ≡ true
 plain_valid c h e quote backslash = grind (arith, nat_tests)
 
 control_ascii : (c : ℕ) → (nat_lt c 0x20 || c == 0x7F) ≡ true → c < 128
 control_ascii c e = grind (arith, nat_tests)
 
-by_letter : (letter c : ℕ) → piece_text (Letter letter) ≡ encoded_byte c → IsBasicPiece Strict (Letter letter) → piece_value (Letter letter) ≡ c ∷ [] → IsWritten c
+by_letter : (letter c : ℕ) → piece_text (Letter letter) ≡ encoded_byte c → IsBasicPiece Strict (Letter letter)
+    → piece_value (Letter letter) ≡ c ∷ [] → IsWritten c
 by_letter letter c s v m = record { piece = Letter letter; spelled = s; valid = v; means = m }
 
 known : (c k : ℕ) → (c == k) ≡ true → IsWritten k → IsWritten c
@@ -77,7 +86,13 @@ written c h =
                   | inl e ↦ known c 0x0D e (by_letter 0x72 0x0D refl (lit< tt) refl)
                   | inr r ↦ elim (cases_Bool (nat_lt c 0x20 || c == 0x7F)) [
                     | inl e ↦ by_number c e (rw (quote, backslash, b, t, n, f, r, e) refl)
-                    | inr e ↦ record { piece = Plain c; spelled = rw (quote, backslash, b, t, n, f, r, e) refl; valid = plain_valid c h e quote backslash; means = refl }
+                    | inr e ↦
+                        record {
+                          piece = Plain c;
+                          spelled = rw (quote, backslash, b, t, n, f, r, e) refl;
+                          valid = plain_valid c h e quote backslash;
+                          means = refl;
+                        }
                   ]
                 ]
               ]
@@ -108,12 +123,14 @@ all_written : (text : List ℕ) → ((i : ℕ) → Fits w8 (get_or text i 0)) �
 all_written [] h = record { pieces = []; spelled = refl; valid = tt; means = refl }
 all_written (c ∷ cs) h = one_more c cs (written c (h 0).fits) (all_written cs (λ i. h (suc i)))
 
-pub encoded_means : (text : List ℕ) → ((i : ℕ) → Fits w8 (get_or text i 0)) → Means Strict leaf.Basic (encoded_string text) text
+pub encoded_means : (text : List ℕ) → ((i : ℕ) → Fits w8 (get_or text i 0))
+    → Means Strict leaf.Basic (encoded_string text) text
 encoded_means text h =
     let w = all_written text h in
     (w.pieces, record { spelled = rw w.spelled refl; each = w.valid }, w.means)
 
-pub encoded_is_leaf : (text : List ℕ) → ((i : ℕ) → Fits w8 (get_or text i 0)) → IsLeaf Strict leaf.Basic (encoded_string text)
+pub encoded_is_leaf : (text : List ℕ) → ((i : ℕ) → Fits w8 (get_or text i 0))
+    → IsLeaf Strict leaf.Basic (encoded_string text)
 encoded_is_leaf text h = let m = encoded_means text h in (m.0, m.1)
 
 -- ---- keys
@@ -122,10 +139,13 @@ bare_is_leaf : (text : List ℕ) → is_bare_text text ≡ true → IsLeaf Stric
 bare_is_leaf [] h = absurd (false≢true h)
 bare_is_leaf (c ∷ cs) h = (omega arith, h)
 
-pub key_is_leaf : (text : List ℕ) → ((i : ℕ) → Fits w8 (get_or text i 0)) → IsLeaf Strict (encoded_key_leaf text) (encoded_key text)
-key_is_leaf text h = elim (cases_Bool (is_bare_text text)) [ inl e ↦ rw e (bare_is_leaf text e) | inr e ↦ rw e (encoded_is_leaf text h) ]
+pub key_is_leaf : (text : List ℕ) → ((i : ℕ) → Fits w8 (get_or text i 0))
+    → IsLeaf Strict (encoded_key_leaf text) (encoded_key text)
+key_is_leaf text h =
+    elim (cases_Bool (is_bare_text text)) [ inl e ↦ rw e (bare_is_leaf text e) | inr e ↦ rw e (encoded_is_leaf text h) ]
 
-pub key_means : (text : List ℕ) → ((i : ℕ) → Fits w8 (get_or text i 0)) → Means Strict (encoded_key_leaf text) (encoded_key text) text
+pub key_means : (text : List ℕ) → ((i : ℕ) → Fits w8 (get_or text i 0))
+    → Means Strict (encoded_key_leaf text) (encoded_key text) text
 key_means text h = elim (cases_Bool (is_bare_text text)) [ inl e ↦ rw e refl | inr e ↦ rw e (encoded_means text h) ]
 
 -- what holds of the text holds of the string that has it

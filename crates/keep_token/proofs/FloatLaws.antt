@@ -5,7 +5,8 @@
 -- a text that passes is one of the language (`.._from`), by cutting it where the test cuts it.
 --
 -- Theorems: `float_to` and `float_from`.
-use Rattle.std.proofs.Common.{◌≡◌, ℕ, Bool, true, false, cond, ◌&&◌, ◌||◌, ◌==◌, List, [], ◌∷◌, ◌++◌, length, take, drop, refl, sym, subst, ap, inl, inr, arith, eqb-true, take_at, drop_at}
+use Rattle.std.proofs.Common.{◌≡◌, ℕ, Bool, true, false, cond, ◌&&◌, ◌||◌, ◌==◌, List, [], ◌∷◌, ◌++◌, length, take}
+use Rattle.std.proofs.Common.{drop, refl, sym, subst, ap, inl, inr, arith, eqb-true, take_at, drop_at}
 use Rattle.std.proofs.lemmas.List.{append-nil, take-append-drop}
 use Rattle.std.proofs.lemmas.Bool.{and_parts, or_left, or_right, or_cases}
 use Rattle.std.proofs.lemmas.Bool.Decides.{nat_tests}
@@ -13,13 +14,16 @@ use Rattle.std.specs.List.{prefix_len, list_all}
 use Rattle.std.specs.Char.{is_ascii_digit}
 use Rattle.keep_token.specs.Abnf.{Just, Maybe, One, ◌⨾◌, ◌or◌}
 use Rattle.keep_token.specs.Scanning.{first}
-use Rattle.keep_token.specs.Numbers.{Decimal, Digits, Float, Fraction, Exponent, is_decimal, is_digits, is_unsigned, is_sign}
-use Rattle.keep_token.specs.Words.{is_e, is_whole, is_part, is_signed_digits, is_exponent, is_maybe_exponent, is_fraction, is_number, is_three, is_special, is_float}
+use Rattle.keep_token.specs.Numbers.{Decimal, Digits, Float, Fraction, Exponent, is_decimal, is_digits, is_unsigned}
+use Rattle.keep_token.specs.Numbers.{is_sign}
+use Rattle.keep_token.specs.Words.{is_e, is_whole, is_part, is_signed_digits, is_exponent, is_maybe_exponent}
+use Rattle.keep_token.specs.Words.{is_fraction, is_number, is_three, is_special, is_float}
 use Rattle.keep_token.proofs.RunLaws.{tested, prefix_len-run, prefix_len-all, take_all, drop_all}
 use Rattle.keep_token.proofs.NumberLaws.{decimal_from, decimal_to, digits_first, digit_no_sign, unsigned_digits}
 
 -- each byte of digits passes a test that the digits and the underscore pass
-pub digits_pass : (digit p : ℕ → Bool) → ((c : ℕ) → digit c ≡ true → p c ≡ true) → p 0x5F ≡ true → (ds : List ℕ) → is_digits digit ds ≡ true → list_all p ds ≡ true
+pub digits_pass : (digit p : ℕ → Bool) → ((c : ℕ) → digit c ≡ true → p c ≡ true) → p 0x5F ≡ true → (ds : List ℕ)
+    → is_digits digit ds ≡ true → list_all p ds ≡ true
 digits_pass digit p f u [] h = absurd cc
 digits_pass digit p f u (d ∷ []) h = rw (f d h) refl
 digits_pass digit p f u (d ∷ c ∷ cs) h =
@@ -33,7 +37,9 @@ digits_pass digit p f u (d ∷ c ∷ cs) h =
     ]
 
 -- each byte of a decimal integer passes a test that its digits, its signs and the underscore pass
-pub decimal_pass : (p : ℕ → Bool) → ((c : ℕ) → is_ascii_digit c ≡ true → p c ≡ true) → ((c : ℕ) → is_sign c ≡ true → p c ≡ true) → p 0x5F ≡ true → (t : List ℕ) → is_decimal t ≡ true → list_all p t ≡ true
+pub decimal_pass : (p : ℕ → Bool) → ((c : ℕ) → is_ascii_digit c ≡ true → p c ≡ true)
+    → ((c : ℕ) → is_sign c ≡ true → p c ≡ true) → p 0x5F ≡ true → (t : List ℕ) → is_decimal t ≡ true
+    → list_all p t ≡ true
 decimal_pass p f s u [] h = absurd cc
 decimal_pass p f s u (c ∷ cs) h =
     elim (tested (is_sign c)) [
@@ -109,7 +115,14 @@ maybe_exponent_from (c ∷ cs) h = inr (exponent_from (c ∷ cs) h)
 pub fraction_to : (t : List ℕ) → (Fraction ⨾ Maybe Exponent) t → is_fraction t ≡ true
 fraction_to t (a, b, e, (x, ds, f, dot, digits), inl none) =
     let all = digits_pass is_ascii_digit is_part digit_part refl ds digits in
-    rw (e, f, dot, none) (subst (λ (u : List ℕ). (is_digits is_ascii_digit (take (prefix_len is_part u) u) && is_maybe_exponent (drop (prefix_len is_part u) u)) ≡ true) (sym (append-nil ds)) (rw (prefix_len-all is_part ds all, take_all ds, drop_all ds, digits) refl))
+    rw (
+      e,
+      f,
+      dot,
+      none,
+    ) (subst (λ (u : List ℕ).
+    (is_digits is_ascii_digit (take (prefix_len is_part u) u) && is_maybe_exponent (drop (prefix_len is_part u) u))
+    ≡ true) (sym (append-nil ds)) (rw (prefix_len-all is_part ds all, take_all ds, drop_all ds, digits) refl))
 fraction_to t (a, b, e, (x, ds, f, dot, digits), inr m) =
     let ex = exponent_to b m in
     let all = digits_pass is_ascii_digit is_part digit_part refl ds digits in
@@ -122,18 +135,31 @@ fraction_from (c ∷ cs) h =
     let n = prefix_len is_part cs in
     let (dot, more) = and_parts (c == 0x2E) (is_digits is_ascii_digit (take n cs) && is_maybe_exponent (drop n cs)) h in
     let (digits, ends) = and_parts (is_digits is_ascii_digit (take n cs)) (is_maybe_exponent (drop n cs)) more in
-    let spelled : c ∷ cs ≡ (c ∷ take n cs) ++ drop n cs = ap (λ (u : List ℕ). c ∷ u) (sym (take-append-drop n cs)) in
-    (c ∷ take n cs, drop n cs, spelled, (c ∷ [], take n cs, refl, rw (eqb-true c 0x2E dot) refl, digits), maybe_exponent_from (drop n cs) ends)
+    let spelled : c ∷ cs ≡ (c ∷ take n cs) ++ drop n cs = ap (λ (u : List ℕ). c ∷ u) (sym (take-append-drop n cs)) in (
+      c ∷ take n cs,
+      drop n cs,
+      spelled,
+      (c ∷ [], take n cs, refl, rw (eqb-true c 0x2E dot) refl, digits),
+      maybe_exponent_from (drop n cs) ends,
+    )
 
 pub fraction_first : (t : List ℕ) → is_fraction t ≡ true → (first t == 0x2E) ≡ true
 fraction_first [] h = absurd cc
-fraction_first (c ∷ cs) h = (and_parts (c == 0x2E) (is_digits is_ascii_digit (take (prefix_len is_part cs) cs) && is_maybe_exponent (drop (prefix_len is_part cs) cs)) h).0
+fraction_first (c ∷ cs) h =
+    (and_parts (c == 0x2E) (is_digits is_ascii_digit (take (prefix_len is_part cs) cs)
+    && is_maybe_exponent (drop (prefix_len is_part cs) cs)) h).0
 
 -- ---- numbers with a fraction or an exponent
 
-number_prefix : (a b : List ℕ) → is_decimal a ≡ true → is_whole (first b) ≡ false → (is_exponent b || is_fraction b) ≡ true → is_number (a ++ b) ≡ true
+number_prefix : (a b : List ℕ) → is_decimal a ≡ true → is_whole (first b) ≡ false
+    → (is_exponent b || is_fraction b) ≡ true → is_number (a ++ b) ≡ true
 number_prefix a b h stop tail =
-    rw (prefix_len-run is_whole a b (decimal_whole a h) stop, take_at a b (length a) refl, drop_at a b (length a) refl, h) tail
+    rw (
+      prefix_len-run is_whole a b (decimal_whole a h) stop,
+      take_at a b (length a) refl,
+      drop_at a b (length a) refl,
+      h,
+    ) tail
 
 number_to : (t : List ℕ) → (Decimal ⨾ (Exponent or (Fraction ⨾ Maybe Exponent))) t → is_number t ≡ true
 number_to t (a, b, e, d, inl ex) =
@@ -141,15 +167,28 @@ number_to t (a, b, e, d, inl ex) =
     rw e (number_prefix a b (decimal_to a d) (not_whole (first b) (exponent_first b k)) (rw k refl))
 number_to t (a, b, e, d, inr fr) =
     let k = fraction_to b fr in
-    rw e (number_prefix a b (decimal_to a d) (rw (fraction_first b k) refl) (or_right (is_exponent b) (is_fraction b) k))
+    rw e (number_prefix a b (decimal_to a d) (rw (fraction_first b k) refl)
+    (or_right (is_exponent b) (is_fraction b) k))
 
 number_from : (t : List ℕ) → is_number t ≡ true → (Decimal ⨾ (Exponent or (Fraction ⨾ Maybe Exponent))) t
 number_from t h =
     let n = prefix_len is_whole t in
     let (decimal, ends) = and_parts (is_decimal (take n t)) (is_exponent (drop n t) || is_fraction (drop n t)) h in
     elim (or_cases (is_exponent (drop n t)) (is_fraction (drop n t)) ends) [
-      | inl k ↦ (take n t, drop n t, sym (take-append-drop n t), decimal_from (take n t) decimal, inl (exponent_from (drop n t) k))
-      | inr k ↦ (take n t, drop n t, sym (take-append-drop n t), decimal_from (take n t) decimal, inr (fraction_from (drop n t) k))
+      | inl k ↦ (
+        take n t,
+        drop n t,
+        sym (take-append-drop n t),
+        decimal_from (take n t) decimal,
+        inl (exponent_from (drop n t) k),
+      )
+      | inr k ↦ (
+        take n t,
+        drop n t,
+        sym (take-append-drop n t),
+        decimal_from (take n t) decimal,
+        inr (fraction_from (drop n t) k),
+      )
     ]
 
 -- ---- inf and nan
@@ -171,13 +210,15 @@ three_from (a ∷ b ∷ c ∷ []) h =
     ]
 three_from (a ∷ b ∷ c ∷ d ∷ more) h = absurd cc
 
-special_to : (t : List ℕ) → (Maybe (One is_sign) ⨾ (Just (0x69 ∷ 0x6E ∷ 0x66 ∷ []) or Just (0x6E ∷ 0x61 ∷ 0x6E ∷ []))) t → is_special t ≡ true
+special_to : (t : List ℕ) → (Maybe (One is_sign) ⨾ (Just (0x69 ∷ 0x6E ∷ 0x66 ∷ []) or Just (0x6E ∷ 0x61 ∷ 0x6E ∷ []))) t
+    → is_special t ≡ true
 special_to t (a, b, e, inl none, inl w) = rw (e, none, w) refl
 special_to t (a, b, e, inl none, inr w) = rw (e, none, w) refl
 special_to t (a, b, e, inr (c, one, sign), inl w) = rw (e, one, w, sign) refl
 special_to t (a, b, e, inr (c, one, sign), inr w) = rw (e, one, w, sign) refl
 
-special_from : (t : List ℕ) → is_special t ≡ true → (Maybe (One is_sign) ⨾ (Just (0x69 ∷ 0x6E ∷ 0x66 ∷ []) or Just (0x6E ∷ 0x61 ∷ 0x6E ∷ []))) t
+special_from : (t : List ℕ) → is_special t ≡ true
+    → (Maybe (One is_sign) ⨾ (Just (0x69 ∷ 0x6E ∷ 0x66 ∷ []) or Just (0x6E ∷ 0x61 ∷ 0x6E ∷ []))) t
 special_from [] h = absurd cc
 special_from (c ∷ cs) h =
     elim (tested (is_sign c)) [

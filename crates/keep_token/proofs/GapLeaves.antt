@@ -5,7 +5,9 @@
 -- comment's bytes, or one newline. There is one longest leaf (`longest_one`), so the two agree.
 --
 -- Theorems: `gap_found` and `gap_one`.
-use Rattle.std.proofs.Common.{◌≡◌, ℕ, zero, suc, ◌+◌, ◌<◌, ◌≤◌, Bool, true, false, ◌&&◌, ◌==◌, List, [], ◌∷◌, ◌++◌, length, get_or, take, drop, Option, Some, None, refl, ap, ◌∙◌, subst, inl, inr, arith, eqb-true}
+use Rattle.std.proofs.Common.{◌≡◌, ℕ, zero, suc, ◌+◌, ◌<◌, ◌≤◌, Bool, true, false, ◌&&◌, ◌==◌, List, [], ◌∷◌, ◌++◌}
+use Rattle.std.proofs.Common.{length, get_or, take, drop, Option, Some, None, refl, ap, ◌∙◌, subst, inl, inr, arith}
+use Rattle.std.proofs.Common.{eqb-true}
 use Rattle.std.proofs.lemmas.Bool.{cases_lt, and_parts}
 use Rattle.std.proofs.lemmas.List.{get_or-take, length-take}
 use Rattle.std.proofs.lemmas.List.Sums.{prefix_len_stops}
@@ -26,14 +28,16 @@ all_pass p (x ∷ xs) zero h lt = (and_parts (p x) (list_all p xs) h).0
 all_pass p (x ∷ xs) (suc i) h lt = all_pass p xs i (and_parts (p x) (list_all p xs) h).1 (omega arith)
 
 -- a prefix of passing bytes is no longer than the run
-pub run_longest : (p : ℕ → Bool) (text : List ℕ) (m : ℕ) → m ≤ length text → list_all p (take m text) ≡ true → m ≤ prefix_len p text
+pub run_longest : (p : ℕ → Bool) (text : List ℕ) (m : ℕ) → m ≤ length text → list_all p (take m text) ≡ true
+    → m ≤ prefix_len p text
 run_longest p text m le h =
     elim (cases_lt (prefix_len p text) m) [
       | inr ok ↦ ok
       | inl lt ↦
           let stop = prefix_len_stops p text 0 (omega arith) in
           let at = all_pass p (take m text) (prefix_len p text) h (omega (arith, length-take m text)) in
-          let same : get_or (take m text) (prefix_len p text) 0 ≡ get_or text (prefix_len p text) 0 = get_or-take m text (prefix_len p text) 0 lt in
+          let same : get_or (take m text) (prefix_len p text) 0 ≡ get_or text (prefix_len p text) 0 =
+          get_or-take m text (prefix_len p text) 0 lt in
           absurd (let k : p (get_or text (prefix_len p text) 0) ≡ true = rw (← same) at in cc)
     ]
 
@@ -48,11 +52,20 @@ longest_one A text n m a b =
 pub ws_leaf : (text : List ℕ) → is_ws (first text) ≡ true → GapLeaf text leaf.Ws (prefix_len is_ws text)
 ws_leaf text e =
     let (at, found, stop) = ws_found text e in
-    record { kind = refl; leaf = record { within = found.within; belongs = found.leaf; longest = λ m le h. run_longest is_ws text m le h.1 } }
+    record {
+      kind = refl;
+      leaf = record {
+        within = found.within;
+        belongs = found.leaf;
+        longest = λ m le h. run_longest is_ws text m le h.1;
+      };
+    }
 
 -- a newline before a text that begins with LF, or CR LF, has that length
-newline_len_one : (text : List ℕ) (m : ℕ) → (first text == 0x0A) ≡ true → m ≤ length text → IsLeaf Strict leaf.Newline (take m text) → m ≤ 1
-newline_len_one text m e le (inl h) = let k : length (take m text) ≡ 1 = ap length h in omega (arith, length-take m text)
+newline_len_one : (text : List ℕ) (m : ℕ) → (first text == 0x0A) ≡ true → m ≤ length text
+    → IsLeaf Strict leaf.Newline (take m text) → m ≤ 1
+newline_len_one text m e le (inl h) =
+    let k : length (take m text) ≡ 1 = ap length h in omega (arith, length-take m text)
 newline_len_one [] m e le (inr h) = absurd cc
 newline_len_one (c ∷ cs) zero e le (inr h) = omega arith
 newline_len_one (c ∷ cs) (suc m) e le (inr h) =
@@ -67,14 +80,22 @@ newline_len_two text m le (inr h) = let k : length (take m text) ≡ 2 = ap leng
 newline_leaf_one : (text : List ℕ) → (first text == 0x0A) ≡ true → GapLeaf text leaf.Newline 1
 newline_leaf_one text e =
     let found = newline_one text e in
-    record { kind = refl; leaf = record { within = found.within; belongs = found.leaf; longest = λ m le h. newline_len_one text m e le h } }
+    record {
+      kind = refl;
+      leaf = record { within = found.within; belongs = found.leaf; longest = λ m le h. newline_len_one text m e le h };
+    }
 
-newline_leaf_two : (text : List ℕ) → (first text == 0x0D) ≡ true → (get_or text 1 0 == 0x0A) ≡ true → GapLeaf text leaf.Newline 2
+newline_leaf_two : (text : List ℕ) → (first text == 0x0D) ≡ true → (get_or text 1 0 == 0x0A) ≡ true
+    → GapLeaf text leaf.Newline 2
 newline_leaf_two text e f =
     let found = newline_two text e f in
-    record { kind = refl; leaf = record { within = found.within; belongs = found.leaf; longest = λ m le h. newline_len_two text m le h } }
+    record {
+      kind = refl;
+      leaf = record { within = found.within; belongs = found.leaf; longest = λ m le h. newline_len_two text m le h };
+    }
 
-comment_longest : (text : List ℕ) (m : ℕ) → m ≤ length text → IsLeaf Strict leaf.Comment (take m text) → m ≤ 1 + prefix_len is_comment (drop 1 text)
+comment_longest : (text : List ℕ) (m : ℕ) → m ≤ length text → IsLeaf Strict leaf.Comment (take m text)
+    → m ≤ 1 + prefix_len is_comment (drop 1 text)
 comment_longest text zero le h = omega arith
 comment_longest [] (suc m) le h = absurd (omega arith)
 comment_longest (c ∷ cs) (suc m) le (a, b, spelled, hash, all) =
@@ -83,10 +104,14 @@ comment_longest (c ∷ cs) (suc m) le (a, b, spelled, hash, all) =
     let pass : list_all is_comment (take m cs) ≡ true = rw after all in
     omega (arith, run_longest is_comment cs m (omega arith) pass)
 
-comment_leaf : (text : List ℕ) → (first text == 0x23) ≡ true → GapLeaf text leaf.Comment (1 + prefix_len is_comment (drop 1 text))
+comment_leaf : (text : List ℕ) → (first text == 0x23) ≡ true
+    → GapLeaf text leaf.Comment (1 + prefix_len is_comment (drop 1 text))
 comment_leaf text e =
     let (found, stops) = comment_found text e in
-    record { kind = refl; leaf = record { within = found.within; belongs = found.leaf; longest = λ m le h. comment_longest text m le h } }
+    record {
+      kind = refl;
+      leaf = record { within = found.within; belongs = found.leaf; longest = λ m le h. comment_longest text m le h };
+    }
 
 -- ---- the leaf of a gap, by the first bytes
 
@@ -116,8 +141,10 @@ line_kind (c ∷ d ∷ cs) (suc (suc n)) (inr h) =
     lines refl (rw k refl) (rw j refl)
 
 comment_first : (text : List ℕ) (n : ℕ) → IsLeaf Strict leaf.Comment (take n text) → (first text == 0x23) ≡ true
-comment_first text zero (a, b, spelled, hash, all) = absurd (let k : [] ≡ 0x23 ∷ b = spelled ∙ ap (λ (x : List ℕ). x ++ b) hash in cc)
-comment_first [] (suc n) (a, b, spelled, hash, all) = absurd (let k : [] ≡ 0x23 ∷ b = spelled ∙ ap (λ (x : List ℕ). x ++ b) hash in cc)
+comment_first text zero (a, b, spelled, hash, all) =
+    absurd (let k : [] ≡ 0x23 ∷ b = spelled ∙ ap (λ (x : List ℕ). x ++ b) hash in cc)
+comment_first [] (suc n) (a, b, spelled, hash, all) =
+    absurd (let k : [] ≡ 0x23 ∷ b = spelled ∙ ap (λ (x : List ℕ). x ++ b) hash in cc)
 comment_first (c ∷ cs) (suc n) (a, b, spelled, hash, all) =
     let whole : c ∷ take n cs ≡ 0x23 ∷ b = spelled ∙ ap (λ (x : List ℕ). x ++ b) hash in
     let k : c ≡ 0x23 = ap first whole in rw k refl
@@ -149,7 +176,8 @@ gap_one text l n h =
           let another : (first text == 0x0A) ≡ false = rw (eqb-true (first text) 0x0D e) refl in
           rw (k, other, another, e, f) (ap (λ (m : ℕ). Some (leaf.Newline, m)) same)
       | comment k e ↦
-          let same = same_length text leaf.Comment (1 + prefix_len is_comment (drop 1 text)) n (comment_leaf text e) (rw k at h) in
+          let same =
+          same_length text leaf.Comment (1 + prefix_len is_comment (drop 1 text)) n (comment_leaf text e) (rw k at h) in
           let other : is_ws (first text) ≡ false = rw (eqb-true (first text) 0x23 e) refl in
           let another : (first text == 0x0A) ≡ false = rw (eqb-true (first text) 0x23 e) refl in
           let third : (first text == 0x0D) ≡ false = rw (eqb-true (first text) 0x23 e) refl in
@@ -157,7 +185,8 @@ gap_one text l n h =
     ]
 
 -- a leaf of this kind and length, under other names
-found_as : (text : List ℕ) (k : Leaf) (m : ℕ) (l : Leaf) (n : ℕ) → GapLeaf text k m → ◌≡◌ {A = Option (Leaf × ℕ)} (Some (k, m)) (Some (l, n)) → GapLeaf text l n
+found_as : (text : List ℕ) (k : Leaf) (m : ℕ) (l : Leaf) (n : ℕ) → GapLeaf text k m
+    → ◌≡◌ {A = Option (Leaf × ℕ)} (Some (k, m)) (Some (l, n)) → GapLeaf text l n
 found_as text k m l n h e =
     let same : ◌≡◌ {A = Leaf × ℕ} (k, m) (l, n) = cc in
     subst (λ (p : Leaf × ℕ). GapLeaf text p.0 p.1) same h
@@ -175,7 +204,9 @@ gap_found text l n at =
               let (h, k) = and_parts (first text == 0x0D) (get_or text 1 0 == 0x0A) g in
               found_as text leaf.Newline 2 l n (newline_leaf_two text h k) (rw (e, f, g) at at)
           | inr g ↦ elim (tested (first text == 0x23)) [
-            | inl h ↦ found_as text leaf.Comment (1 + prefix_len is_comment (drop 1 text)) l n (comment_leaf text h) (rw (e, f, g, h) at at)
+            | inl h ↦
+                found_as text leaf.Comment (1 + prefix_len is_comment (drop 1 text)) l n (comment_leaf text h)
+                (rw (e, f, g, h) at at)
             | inr h ↦ absurd (let none : None ≡ Some (l, n) = rw (e, f, g, h) at at in cc)
           ]
         ]

@@ -1,11 +1,13 @@
 -- The tests of integers and of truth values decide their languages.
-use Rattle.std.proofs.Common.{◌≡◌, ℕ, true, false, not, cond, ◌&&◌, ◌||◌, ◌==◌, List, [], ◌∷◌, length, refl, inl, inr, arith, eqb-true}
+use Rattle.std.proofs.Common.{◌≡◌, ℕ, true, false, not, cond, ◌&&◌, ◌||◌, ◌==◌, List, [], ◌∷◌, length, refl, inl, inr}
+use Rattle.std.proofs.Common.{arith, eqb-true}
 use Rattle.std.specs.Prelude.{nat_lt, slice_index}
 use lib.Signed.{mag}
 use Rattle.std.proofs.lemmas.Bool.{and_parts, and_from, or_right, or_cases, lt-ltb, ltb-true}
 use Rattle.std.proofs.lemmas.Bool.Decides.{nat_tests}
 use Rattle.std.specs.Char.{is_ascii_digit}
-use Rattle.keep_token.specs.Numbers.{Decimal, Unsigned, Prefixed, IntegerText, Integer, Boolean, is_decimal, is_digits, is_unsigned, is_sign, is_in_base, integer_value}
+use Rattle.keep_token.specs.Numbers.{Decimal, Unsigned, Prefixed, IntegerText, Integer, Boolean, is_decimal, is_digits}
+use Rattle.keep_token.specs.Numbers.{is_unsigned, is_sign, is_in_base, integer_value}
 use Rattle.keep_token.specs.Words.{is_prefixed, is_integer_text, is_integer, is_boolean}
 use Rattle.keep_token.proofs.RunLaws.{tested}
 
@@ -14,7 +16,9 @@ use Rattle.keep_token.proofs.RunLaws.{tested}
 -- the first byte of digits is a digit
 pub digits_first : (d : ℕ) (ds : List ℕ) → is_digits is_ascii_digit (d ∷ ds) ≡ true → is_ascii_digit d ≡ true
 digits_first d [] h = h
-digits_first d (c ∷ cs) h = (and_parts (is_ascii_digit d) (cond (c == 0x5F) (is_digits is_ascii_digit cs) (is_digits is_ascii_digit (c ∷ cs))) h).0
+digits_first d (c ∷ cs) h =
+    (and_parts (is_ascii_digit d) (cond (c == 0x5F) (is_digits is_ascii_digit cs) (is_digits is_ascii_digit (c ∷ cs)))
+    h).0
 
 pub unsigned_from : (t : List ℕ) → is_unsigned t ≡ true → Unsigned t
 unsigned_from [] h = absurd cc
@@ -22,7 +26,8 @@ unsigned_from (d ∷ []) h =
     let (digit, rest) = and_parts (is_ascii_digit d) true h in
     inl (d, refl, digit)
 unsigned_from (d ∷ c ∷ cs) h =
-    let (digits, rest) = and_parts (is_digits is_ascii_digit (d ∷ c ∷ cs)) (length (d ∷ c ∷ cs) == 1 || not (d == 0x30)) h in
+    let (digits, rest) =
+    and_parts (is_digits is_ascii_digit (d ∷ c ∷ cs)) (length (d ∷ c ∷ cs) == 1 || not (d == 0x30)) h in
     let digit = digits_first d (c ∷ cs) digits in
     inr (digits, omega arith, grind (arith, nat_tests))
 
@@ -32,7 +37,8 @@ unsigned_to [] (inr h) = absurd (omega (arith, h.1))
 unsigned_to (d ∷ []) (inr h) = absurd (omega (arith, h.1))
 unsigned_to (d ∷ c ∷ cs) (inr h) =
     let first : not (d == 0x30) ≡ true = let k = h.2 in grind (arith, nat_tests) in
-    and_from (is_digits is_ascii_digit (d ∷ c ∷ cs)) (length (d ∷ c ∷ cs) == 1 || not (d == 0x30)) h.0 (or_right (length (d ∷ c ∷ cs) == 1) (not (d == 0x30)) first)
+    and_from (is_digits is_ascii_digit (d ∷ c ∷ cs)) (length (d ∷ c ∷ cs) == 1 || not (d == 0x30)) h.0
+    (or_right (length (d ∷ c ∷ cs) == 1) (not (d == 0x30)) first)
 
 pub decimal_from : (t : List ℕ) → is_decimal t ≡ true → Decimal t
 decimal_from [] h = absurd cc
@@ -59,7 +65,8 @@ decimal_to t (a, b, e, inr (c, one, sign), u) = rw (e, one, sign) (unsigned_to b
 
 -- ---- integers of any size
 
-pub prefixed_from : (base letter : ℕ) (t : List ℕ) → is_prefixed base letter t ≡ true → Prefixed base (0x30 ∷ letter ∷ []) t
+pub prefixed_from : (base letter : ℕ) (t : List ℕ) → is_prefixed base letter t ≡ true
+    → Prefixed base (0x30 ∷ letter ∷ []) t
 prefixed_from base letter [] h = absurd cc
 prefixed_from base letter (z ∷ []) h = absurd cc
 prefixed_from base letter (z ∷ x ∷ ds) h =
@@ -67,7 +74,8 @@ prefixed_from base letter (z ∷ x ∷ ds) h =
     let (nought, same) = and_parts (z == 0x30) (x == letter) prefix in
     (z ∷ x ∷ [], ds, refl, rw (eqb-true z 0x30 nought, eqb-true x letter same) refl, digits)
 
-pub prefixed_to : (base letter : ℕ) (t : List ℕ) → Prefixed base (0x30 ∷ letter ∷ []) t → is_prefixed base letter t ≡ true
+pub prefixed_to : (base letter : ℕ) (t : List ℕ) → Prefixed base (0x30 ∷ letter ∷ []) t
+    → is_prefixed base letter t ≡ true
 prefixed_to base letter t (a, b, e, prefix, digits) =
     let same : (letter == letter) ≡ true = grind (arith, nat_tests) in
     rw (e, prefix, same) digits
@@ -87,11 +95,16 @@ integer_text_from t h =
 
 pub integer_text_to : (t : List ℕ) → IntegerText t → is_integer_text t ≡ true
 integer_text_to t (inl d) = rw (decimal_to t d) refl
-integer_text_to t (inr (inl d)) = or_right (is_decimal t) (is_prefixed 16 0x78 t || (is_prefixed 8 0x6F t || is_prefixed 2 0x62 t)) (rw (prefixed_to 16 0x78 t d) refl)
+integer_text_to t (inr (inl d)) =
+    or_right (is_decimal t) (is_prefixed 16 0x78 t || (is_prefixed 8 0x6F t || is_prefixed 2 0x62 t))
+    (rw (prefixed_to 16 0x78 t d) refl)
 integer_text_to t (inr (inr (inl d))) =
-    or_right (is_decimal t) (is_prefixed 16 0x78 t || (is_prefixed 8 0x6F t || is_prefixed 2 0x62 t)) (or_right (is_prefixed 16 0x78 t) (is_prefixed 8 0x6F t || is_prefixed 2 0x62 t) (rw (prefixed_to 8 0x6F t d) refl))
+    or_right (is_decimal t) (is_prefixed 16 0x78 t || (is_prefixed 8 0x6F t || is_prefixed 2 0x62 t))
+    (or_right (is_prefixed 16 0x78 t) (is_prefixed 8 0x6F t || is_prefixed 2 0x62 t) (rw (prefixed_to 8 0x6F t d) refl))
 integer_text_to t (inr (inr (inr d))) =
-    or_right (is_decimal t) (is_prefixed 16 0x78 t || (is_prefixed 8 0x6F t || is_prefixed 2 0x62 t)) (or_right (is_prefixed 16 0x78 t) (is_prefixed 8 0x6F t || is_prefixed 2 0x62 t) (or_right (is_prefixed 8 0x6F t) (is_prefixed 2 0x62 t) (prefixed_to 2 0x62 t d)))
+    or_right (is_decimal t) (is_prefixed 16 0x78 t || (is_prefixed 8 0x6F t || is_prefixed 2 0x62 t))
+    (or_right (is_prefixed 16 0x78 t) (is_prefixed 8 0x6F t || is_prefixed 2 0x62 t)
+    (or_right (is_prefixed 8 0x6F t) (is_prefixed 2 0x62 t) (prefixed_to 2 0x62 t d)))
 
 -- ---- integers in 64 bits
 
@@ -101,7 +114,9 @@ integer_from t h =
     (integer_text_from t text, record { sfits = ltb-true _ _ fits })
 
 pub integer_to : (t : List ℕ) → Integer t → is_integer t ≡ true
-integer_to t h = and_from (is_integer_text t) (nat_lt (mag (integer_value t)) 0x8000_0000_0000_0000) (integer_text_to t h.0) (lt-ltb _ _ h.1.sfits)
+integer_to t h =
+    and_from (is_integer_text t) (nat_lt (mag (integer_value t)) 0x8000_0000_0000_0000) (integer_text_to t h.0)
+    (lt-ltb _ _ h.1.sfits)
 
 -- ---- truth values
 
@@ -120,7 +135,13 @@ boolean_from (a ∷ b ∷ c ∷ d ∷ e ∷ []) h =
     let (abc, d_is) = and_parts ((a == 0x66 && b == 0x61) && c == 0x6C) (d == 0x73) abcd in
     let (ab, c_is) = and_parts (a == 0x66 && b == 0x61) (c == 0x6C) abc in
     let (a_is, b_is) = and_parts (a == 0x66) (b == 0x61) ab in
-    inr (rw (eqb-true a 0x66 a_is, eqb-true b 0x61 b_is, eqb-true c 0x6C c_is, eqb-true d 0x73 d_is, eqb-true e 0x65 e_is) refl)
+    inr (rw (
+      eqb-true a 0x66 a_is,
+      eqb-true b 0x61 b_is,
+      eqb-true c 0x6C c_is,
+      eqb-true d 0x73 d_is,
+      eqb-true e 0x65 e_is,
+    ) refl)
 boolean_from (a ∷ b ∷ c ∷ d ∷ e ∷ f ∷ more) h = absurd cc
 
 pub boolean_to : (t : List ℕ) → Boolean t → is_boolean t ≡ true

@@ -1,5 +1,6 @@
 -- No two kinds of numbers share a text: a float is no integer, and a truth value is neither.
-use Rattle.std.proofs.Common.{◌≡◌, ℕ, suc, Bool, true, false, ◌&&◌, ◌||◌, ◌==◌, List, [], ◌∷◌, take, refl, sym, subst, inl, inr, arith, eqb-true}
+use Rattle.std.proofs.Common.{◌≡◌, ℕ, suc, Bool, true, false, ◌&&◌, ◌||◌, ◌==◌, List, [], ◌∷◌, take, refl, sym, subst}
+use Rattle.std.proofs.Common.{inl, inr, arith, eqb-true}
 use Rattle.std.specs.Prelude.{nat_lt}
 use lib.Signed.{mag}
 use Rattle.std.proofs.lemmas.Bool.{and_parts, or_cases}
@@ -7,7 +8,8 @@ use Rattle.std.proofs.lemmas.Bool.Decides.{nat_tests}
 use Rattle.std.specs.List.{prefix_len}
 use Rattle.std.specs.Char.{is_ascii_digit}
 use Rattle.keep_token.specs.Numbers.{is_decimal, is_digits, is_sign, is_in_base, integer_value}
-use Rattle.keep_token.specs.Words.{is_whole, is_number, is_three, is_special, is_float, is_prefixed, is_integer_text, is_integer, is_boolean}
+use Rattle.keep_token.specs.Words.{is_whole, is_number, is_three, is_special, is_float, is_prefixed, is_integer_text}
+use Rattle.keep_token.specs.Words.{is_integer, is_boolean}
 use Rattle.keep_token.proofs.RunLaws.{tested, prefix_len-all, take_all, drop_all}
 use Rattle.keep_token.proofs.NumberLaws.{boolean_from, unsigned_digits, digit_no_sign, digits_first}
 use Rattle.keep_token.proofs.FloatLaws.{decimal_whole}
@@ -27,8 +29,11 @@ three_first a [] h = absurd cc
 three_first a (b ∷ []) h = absurd cc
 three_first a (b ∷ c ∷ []) h =
     elim (or_cases ((a == 0x69 && b == 0x6E) && c == 0x66) ((a == 0x6E && b == 0x61) && c == 0x6E) h) [
-      | inl k ↦ let i = (and_parts (a == 0x69) (b == 0x6E) (and_parts (a == 0x69 && b == 0x6E) (c == 0x66) k).0).0 in rw i refl
-      | inr k ↦ let n = (and_parts (a == 0x6E) (b == 0x61) (and_parts (a == 0x6E && b == 0x61) (c == 0x6E) k).0).0 in grind (arith, nat_tests)
+      | inl k ↦ let i =
+          (and_parts (a == 0x69) (b == 0x6E) (and_parts (a == 0x69 && b == 0x6E) (c == 0x66) k).0).0 in rw i refl
+      | inr k ↦ let n =
+          (and_parts (a == 0x6E) (b == 0x61) (and_parts (a == 0x6E && b == 0x61) (c == 0x6E) k).0).0 in
+          grind (arith, nat_tests)
     ]
 three_first a (b ∷ c ∷ d ∷ more) h = absurd cc
 
@@ -48,8 +53,12 @@ decimal_no_special (c ∷ []) h =
     ]
 decimal_no_special (c ∷ d ∷ ds) h =
     elim (tested (is_sign c)) [
-      | inl e ↦ rw e (refuted (is_three (d ∷ ds)) (digit_no_three d ds (digits_first d ds (unsigned_digits (d ∷ ds) (rw e at h)))))
-      | inr e ↦ rw e (refuted (is_three (c ∷ d ∷ ds)) (digit_no_three c (d ∷ ds) (digits_first c (d ∷ ds) (unsigned_digits (c ∷ d ∷ ds) (rw e at h)))))
+      | inl e ↦
+          rw e (refuted (is_three (d ∷ ds))
+          (digit_no_three d ds (digits_first d ds (unsigned_digits (d ∷ ds) (rw e at h)))))
+      | inr e ↦
+          rw e (refuted (is_three (c ∷ d ∷ ds))
+          (digit_no_three c (d ∷ ds) (digits_first c (d ∷ ds) (unsigned_digits (c ∷ d ∷ ds) (rw e at h)))))
     ]
 
 decimal_no_float : (t : List ℕ) → is_decimal t ≡ true → is_float t ≡ false
@@ -74,7 +83,8 @@ letter_no_float x ds h =
     let n : prefix_len is_whole (0x30 ∷ x ∷ ds) ≡ suc (suc (prefix_len is_whole ds)) = rw whole (omega arith) in
     rw (n, plain, letter_no_decimal x (take (prefix_len is_whole ds) ds) h) (digit_no_special 0x30 (x ∷ ds) refl)
 
-prefixed_letter : (base letter : ℕ) (t : List ℕ) → is_letter letter ≡ true → is_prefixed base letter t ≡ true → is_float t ≡ false
+prefixed_letter : (base letter : ℕ) (t : List ℕ) → is_letter letter ≡ true → is_prefixed base letter t ≡ true
+    → is_float t ≡ false
 prefixed_letter base letter [] is h = absurd cc
 prefixed_letter base letter (z ∷ []) is h = absurd cc
 prefixed_letter base letter (z ∷ x ∷ ds) is h =

@@ -1,5 +1,6 @@
 -- Integers with their values, floats, truth values, and words that no scalar is.
-use Rattle.std.proofs.Common.{◌≡◌, ℕ, ℤ, pos, negsuc, Bool, true, false, not, ◌&&◌, ◌||◌, ◌==◌, List, [], ◌∷◌, Option, Some, None, refl, sym, ◌∙◌}
+use Rattle.std.proofs.Common.{◌≡◌, ℕ, ℤ, pos, negsuc, Bool, true, false, not, ◌&&◌, ◌||◌, ◌==◌, List, [], ◌∷◌, Option}
+use Rattle.std.proofs.Common.{Some, None, refl, sym, ◌∙◌}
 use Rattle.std.specs.Prelude.{codes, is_none}
 use Rattle.std.proofs.lemmas.Bool.{and_parts}
 use Rattle.std.specs.List.{list_all}
@@ -69,7 +70,8 @@ AreAll P [] = Unit {0}
 AreAll P (t ∷ ts) = P t × AreAll P ts
 
 -- where a test decides a language, a table is decided at once
-all_are : (P : List ℕ → Type 0) (test : List ℕ → Bool) → ((t : List ℕ) → test t ≡ true → P t) → (ts : List (List ℕ)) → list_all test ts ≡ true → AreAll P ts
+all_are : (P : List ℕ → Type 0) (test : List ℕ → Bool) → ((t : List ℕ) → test t ≡ true → P t) → (ts : List (List ℕ))
+    → list_all test ts ≡ true → AreAll P ts
 all_are P test from [] h = tt
 all_are P test from (t ∷ ts) h =
     let (here, more) = and_parts (test t) (list_all test ts) h in
@@ -79,8 +81,10 @@ all_are P test from (t ∷ ts) h =
 
 abbrev float_texts : List (List ℕ)
 float_texts =
-    codes "1e06" ∷ codes "-0.0" ∷ codes "6.6_2E-3_4" ∷ codes "+inf" ∷ codes "nan" ∷ codes "-nan" ∷ codes "0e0" ∷ codes "+1_0.0_1e+00" ∷ codes "99999999999999999999.0" ∷ codes "3.1415"
-    ∷ codes "5e+22" ∷ codes "-2E-2" ∷ codes "224_617.445_991_228" ∷ codes "inf" ∷ codes "-inf" ∷ codes "+nan" ∷ codes "1e00" ∷ codes "0.00" ∷ []
+    codes "1e06" ∷ codes "-0.0" ∷ codes "6.6_2E-3_4" ∷ codes "+inf" ∷ codes "nan" ∷ codes "-nan" ∷ codes "0e0"
+    ∷ codes "+1_0.0_1e+00" ∷ codes "99999999999999999999.0" ∷ codes "3.1415"
+    ∷ codes "5e+22" ∷ codes "-2E-2" ∷ codes "224_617.445_991_228" ∷ codes "inf" ∷ codes "-inf" ∷ codes "+nan"
+    ∷ codes "1e00" ∷ codes "0.00" ∷ []
 
 floats : AreAll Float float_texts
 floats = all_are Float is_float float_from float_texts refl
@@ -113,18 +117,26 @@ no_string _ _ h = absurd cc
 no_word : (profile : Profile) (l : Leaf) (t : List ℕ) → word_leaf profile t ≡ None → word_leaf profile t ≡ Some l → ⊥
 no_word profile l t none some = let e = sym none ∙ some in cc
 
-by_kind : (profile : Profile) (t : List ℕ) → word_leaf profile t ≡ None → (first t == 0x22) ≡ false → (first t == 0x27) ≡ false → (l : Leaf) → is_scalar_leaf l ≡ true → IsLeaf profile l t → ⊥
+by_kind : (profile : Profile) (t : List ℕ) → word_leaf profile t ≡ None → (first t == 0x22) ≡ false
+    → (first t == 0x27) ≡ false → (l : Leaf) → is_scalar_leaf l ≡ true → IsLeaf profile l t → ⊥
 by_kind profile t none quote apostrophe leaf.Basic s (pieces, h) = let k = rw h.spelled at quote in cc
 by_kind profile t none quote apostrophe leaf.Literal s (pieces, h) = let k = rw h.spelled at apostrophe in cc
 by_kind profile t none quote apostrophe leaf.MlBasic s (pieces, h) = let k = rw h.spelled at quote in cc
 by_kind profile t none quote apostrophe leaf.MlLiteral s (pieces, h) = let k = rw h.spelled at apostrophe in cc
-by_kind profile t none quote apostrophe leaf.Integer s h = no_word profile leaf.Integer t none (word_leaf_again profile leaf.Integer t refl h)
-by_kind profile t none quote apostrophe leaf.Float s h = no_word profile leaf.Float t none (word_leaf_again profile leaf.Float t refl h)
-by_kind profile t none quote apostrophe leaf.Boolean s h = no_word profile leaf.Boolean t none (word_leaf_again profile leaf.Boolean t refl h)
-by_kind profile t none quote apostrophe leaf.LocalDate s h = no_word profile leaf.LocalDate t none (word_leaf_again profile leaf.LocalDate t refl h)
-by_kind profile t none quote apostrophe leaf.LocalTime s h = no_word profile leaf.LocalTime t none (word_leaf_again profile leaf.LocalTime t refl h)
-by_kind profile t none quote apostrophe leaf.LocalDateTime s h = no_word profile leaf.LocalDateTime t none (word_leaf_again profile leaf.LocalDateTime t refl h)
-by_kind profile t none quote apostrophe leaf.OffsetDateTime s h = no_word profile leaf.OffsetDateTime t none (word_leaf_again profile leaf.OffsetDateTime t refl h)
+by_kind profile t none quote apostrophe leaf.Integer s h =
+    no_word profile leaf.Integer t none (word_leaf_again profile leaf.Integer t refl h)
+by_kind profile t none quote apostrophe leaf.Float s h =
+    no_word profile leaf.Float t none (word_leaf_again profile leaf.Float t refl h)
+by_kind profile t none quote apostrophe leaf.Boolean s h =
+    no_word profile leaf.Boolean t none (word_leaf_again profile leaf.Boolean t refl h)
+by_kind profile t none quote apostrophe leaf.LocalDate s h =
+    no_word profile leaf.LocalDate t none (word_leaf_again profile leaf.LocalDate t refl h)
+by_kind profile t none quote apostrophe leaf.LocalTime s h =
+    no_word profile leaf.LocalTime t none (word_leaf_again profile leaf.LocalTime t refl h)
+by_kind profile t none quote apostrophe leaf.LocalDateTime s h =
+    no_word profile leaf.LocalDateTime t none (word_leaf_again profile leaf.LocalDateTime t refl h)
+by_kind profile t none quote apostrophe leaf.OffsetDateTime s h =
+    no_word profile leaf.OffsetDateTime t none (word_leaf_again profile leaf.OffsetDateTime t refl h)
 by_kind profile t none quote apostrophe _ s h = absurd cc
 
 refused : (profile : Profile) (t : List ℕ) → is_refused profile t ≡ true → IsNoScalar profile t
@@ -135,10 +147,14 @@ refused profile t h =
 
 abbrev refused_texts : List (List ℕ)
 refused_texts =
-    codes "01" ∷ codes "1__0" ∷ codes "_1" ∷ codes "1_" ∷ codes "0X1" ∷ codes "+0x1" ∷ codes "-0x1" ∷ codes "0xG" ∷ codes "0x" ∷ codes "0x_1" ∷ codes "0o8" ∷ codes "0b2" ∷ codes "0O7" ∷ codes "0B1"
-    ∷ codes "9223372036854775808" ∷ codes "-9223372036854775809" ∷ codes "0x8000000000000000" ∷ codes "0o1000000000000000000000" ∷ codes "36893488147419103233" ∷ codes "-36893488147419103233"
-    ∷ codes "1." ∷ codes "1.e5" ∷ codes ".5" ∷ codes "1e" ∷ codes "1e+" ∷ codes "1e_5" ∷ codes "1_.5" ∷ codes "1._5" ∷ codes "01.5" ∷ codes "1.5_" ∷ codes "1e5.0" ∷ codes "1.2.3" ∷ codes "+-1" ∷ codes "+" ∷ codes "-"
-    ∷ codes "infinity" ∷ codes "Inf" ∷ codes "+ inf" ∷ codes "NaN" ∷ codes "True" ∷ codes "TRUE" ∷ codes "tru" ∷ codes "truex" ∷ codes "+true" ∷ codes "" ∷ codes " 1" ∷ codes ", 1" ∷ []
+    codes "01" ∷ codes "1__0" ∷ codes "_1" ∷ codes "1_" ∷ codes "0X1" ∷ codes "+0x1" ∷ codes "-0x1" ∷ codes "0xG"
+    ∷ codes "0x" ∷ codes "0x_1" ∷ codes "0o8" ∷ codes "0b2" ∷ codes "0O7" ∷ codes "0B1"
+    ∷ codes "9223372036854775808" ∷ codes "-9223372036854775809" ∷ codes "0x8000000000000000"
+    ∷ codes "0o1000000000000000000000" ∷ codes "36893488147419103233" ∷ codes "-36893488147419103233"
+    ∷ codes "1." ∷ codes "1.e5" ∷ codes ".5" ∷ codes "1e" ∷ codes "1e+" ∷ codes "1e_5" ∷ codes "1_.5" ∷ codes "1._5"
+    ∷ codes "01.5" ∷ codes "1.5_" ∷ codes "1e5.0" ∷ codes "1.2.3" ∷ codes "+-1" ∷ codes "+" ∷ codes "-"
+    ∷ codes "infinity" ∷ codes "Inf" ∷ codes "+ inf" ∷ codes "NaN" ∷ codes "True" ∷ codes "TRUE" ∷ codes "tru"
+    ∷ codes "truex" ∷ codes "+true" ∷ codes "" ∷ codes " 1" ∷ codes ", 1" ∷ []
 
 refused_strict : AreAll (IsNoScalar Strict) refused_texts
 unfolding word_leaf

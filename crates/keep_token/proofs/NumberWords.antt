@@ -4,7 +4,8 @@ use Rattle.std.proofs.lemmas.Bool.Decides.{nat_tests}
 use Rattle.std.specs.List.{list_all}
 use Rattle.std.specs.Char.{is_ascii_digit}
 use Rattle.keep_token.specs.Abnf.{Maybe, One, ◌⨾◌, is_word}
-use Rattle.keep_token.specs.Numbers.{Decimal, Digits, Prefixed, IntegerText, Integer, Fraction, Exponent, Float, Boolean, is_sign, is_in_base}
+use Rattle.keep_token.specs.Numbers.{Decimal, Digits, Prefixed, IntegerText, Integer, Fraction, Exponent, Float}
+use Rattle.keep_token.specs.Numbers.{Boolean, is_sign, is_in_base}
 use Rattle.keep_token.proofs.RunLaws.{list_all-both}
 use Rattle.keep_token.proofs.NumberLaws.{decimal_to}
 use Rattle.keep_token.proofs.FloatLaws.{digits_pass, decimal_pass}
@@ -27,9 +28,11 @@ digits_word = digits_pass is_ascii_digit is_word digit_word refl
 decimal_word : (t : List ℕ) → Decimal t → list_all is_word t ≡ true
 decimal_word t h = decimal_pass is_word digit_word sign_word refl t (decimal_to t h)
 
-prefixed_word : (base : ℕ) (p t : List ℕ) → base ≤ 16 → list_all is_word p ≡ true → Prefixed base p t → list_all is_word t ≡ true
+prefixed_word : (base : ℕ) (p t : List ℕ) → base ≤ 16 → list_all is_word p ≡ true → Prefixed base p t
+    → list_all is_word t ≡ true
 prefixed_word base p t small prefix (a, b, e, f, digits) =
-    rw (e, f) (list_all-both is_word p b prefix (digits_pass (is_in_base base) is_word (λ c h. base_word base c small h) refl b digits))
+    rw (e, f) (list_all-both is_word p b prefix
+    (digits_pass (is_in_base base) is_word (λ c h. base_word base c small h) refl b digits))
 
 integer_text_word : (t : List ℕ) → IntegerText t → list_all is_word t ≡ true
 integer_text_word t (inl h) = decimal_word t h
@@ -53,9 +56,14 @@ fraction_word t (a, b, e, dot, d) = rw (e, dot) (digits_word b d)
 pub float_word : (t : List ℕ) → Float t → list_all is_word t ≡ true
 float_word t (inl (a, b, e, d, inl x)) = rw e (list_all-both is_word a b (decimal_word a d) (exponent_word b x))
 float_word t (inl (a, b, e, d, inr (f, x, g, frac, inl none))) =
-    rw (e, g, none) (list_all-both is_word a (f ++ []) (decimal_word a d) (list_all-both is_word f [] (fraction_word f frac) refl))
+    rw (
+      e,
+      g,
+      none,
+    ) (list_all-both is_word a (f ++ []) (decimal_word a d) (list_all-both is_word f [] (fraction_word f frac) refl))
 float_word t (inl (a, b, e, d, inr (f, x, g, frac, inr h))) =
-    rw (e, g) (list_all-both is_word a (f ++ x) (decimal_word a d) (list_all-both is_word f x (fraction_word f frac) (exponent_word x h)))
+    rw (e, g) (list_all-both is_word a (f ++ x) (decimal_word a d)
+    (list_all-both is_word f x (fraction_word f frac) (exponent_word x h)))
 float_word t (inr (a, b, e, inl none, inl w)) = rw (e, none, w) refl
 float_word t (inr (a, b, e, inl none, inr w)) = rw (e, none, w) refl
 float_word t (inr (a, b, e, inr (c, one, sign), inl w)) = rw (e, one, w, sign_word c sign) refl

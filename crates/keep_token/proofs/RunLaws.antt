@@ -1,5 +1,6 @@
 -- Runs of bytes of a class: how long they are, what comes after them, and that they are found again.
-use Rattle.std.proofs.Common.{◌≡◌, ℕ, suc, ◌+◌, ◌<◌, Bool, true, false, List, [], ◌∷◌, ◌++◌, length, take, drop, refl, inl, inr, arith, add-zero, get_or-drop, take_at, drop_at, ◌⊎◌}
+use Rattle.std.proofs.Common.{◌≡◌, ℕ, suc, ◌+◌, ◌<◌, Bool, true, false, List, [], ◌∷◌, ◌++◌, length, take, drop, refl}
+use Rattle.std.proofs.Common.{inl, inr, arith, add-zero, get_or-drop, take_at, drop_at, ◌⊎◌}
 use Rattle.std.proofs.lemmas.Bool.{cases_lt, and_parts}
 use Rattle.std.proofs.lemmas.List.{append-nil, get_or_past}
 use Rattle.std.proofs.lemmas.List.Sums.{prefix_len_stops}
@@ -12,7 +13,8 @@ tested true = inl refl
 tested false = inr refl
 
 -- a run is found again before a byte that does not pass
-pub prefix_len-run : (p : ℕ → Bool) (run rest : List ℕ) → list_all p run ≡ true → p (first rest) ≡ false → prefix_len p (run ++ rest) ≡ length run
+pub prefix_len-run : (p : ℕ → Bool) (run rest : List ℕ) → list_all p run ≡ true → p (first rest) ≡ false
+    → prefix_len p (run ++ rest) ≡ length run
 prefix_len-run p [] [] all stop = refl
 prefix_len-run p [] (c ∷ rest) all stop = rw stop
 prefix_len-run p (c ∷ run) rest all stop =
@@ -45,10 +47,12 @@ prefix_len-positive p (c ∷ cs) none e = rw e (omega arith)
 -- a run is the whole text where each byte passes
 pub prefix_len-all : (p : ℕ → Bool) (run : List ℕ) → list_all p run ≡ true → prefix_len p run ≡ length run
 prefix_len-all p [] h = refl
-prefix_len-all p (c ∷ cs) h = let (here, more) = and_parts (p c) (list_all p cs) h in rw here (omega (arith, prefix_len-all p cs more))
+prefix_len-all p (c ∷ cs) h =
+    let (here, more) = and_parts (p c) (list_all p cs) h in rw here (omega (arith, prefix_len-all p cs more))
 
 -- two runs are one
-pub list_all-both : (p : ℕ → Bool) (a b : List ℕ) → list_all p a ≡ true → list_all p b ≡ true → list_all p (a ++ b) ≡ true
+pub list_all-both : (p : ℕ → Bool) (a b : List ℕ) → list_all p a ≡ true → list_all p b ≡ true
+    → list_all p (a ++ b) ≡ true
 list_all-both p [] b h k = k
 list_all-both p (c ∷ cs) b h k =
     let (here, more) = and_parts (p c) (list_all p cs) h in

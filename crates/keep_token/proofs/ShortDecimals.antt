@@ -1,5 +1,6 @@
 -- A decimal number of few digits is an integer: it fits into 64 bits.
-use Rattle.std.proofs.Common.{◌≡◌, ℕ, suc, ◌*◌, ◌^◌, ◌<◌, ◌≤◌, true, not, ◌&&◌, ◌==◌, List, [], ◌∷◌, length, refl, inr, arith}
+use Rattle.std.proofs.Common.{◌≡◌, ℕ, suc, ◌*◌, ◌^◌, ◌<◌, ◌≤◌, true, not, ◌&&◌, ◌==◌, List, [], ◌∷◌, length, refl, inr}
+use Rattle.std.proofs.Common.{arith}
 use Rattle.std.proofs.lemmas.Bool.Decides.{nat_tests}
 use Rattle.std.proofs.lemmas.Bool.{and_parts}
 use Rattle.std.proofs.Math.Nat.{mul-le-mul_right, pow-le-pow_right, pow-suc}
@@ -32,4 +33,5 @@ short_integer (d ∷ ds) h =
     let below : sum_of_digits 10 (d ∷ ds) < 10 ^ length (d ∷ ds) = below_power (d ∷ ds) rest.1 in
     let ten : 0 < 10 = omega arith in
     let power : 10 ^ length (d ∷ ds) ≤ 10 ^ 18 = pow-le-pow_right ten short in
-    integer_to (d ∷ ds) (decimal_at (sum_of_digits 10 (d ∷ ds)) d ds rest.1 refl (inr above) (record { sfits = omega (arith, below, power) })).0
+    integer_to (d ∷ ds) (decimal_at (sum_of_digits 10 (d ∷ ds)) d ds rest.1 refl (inr
+    above) (record { sfits = omega (arith, below, power) })).0

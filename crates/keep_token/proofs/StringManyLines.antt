@@ -8,12 +8,15 @@
 -- `ending` splits it by how many marks come last, and shows that before that fewer than three are in a row.
 --
 -- Theorems: `prefix_many`: what is found is a string over many lines; `again_many`: it is found again, or a longer one.
-use Rattle.std.proofs.Common.{◌≡◌, ℕ, zero, suc, ◌+◌, ◌-◌, ◌<◌, ◌≤◌, min, true, false, not, ◌&&◌, ◌||◌, ◌==◌, nat_le, List, [], ◌∷◌, ◌++◌, length, drop, Option, Some, None, refl, sym, ap, ◌∙◌, subst, inl, inr, arith, ◌⊎◌, append_assoc, drop_at, length-append, eqb-true, eq-eqb, le-leb, leb-true}
+use Rattle.std.proofs.Common.{◌≡◌, ℕ, zero, suc, ◌+◌, ◌-◌, ◌<◌, ◌≤◌, min, true, false, not, ◌&&◌, ◌||◌, ◌==◌, nat_le}
+use Rattle.std.proofs.Common.{List, [], ◌∷◌, ◌++◌, length, drop, Option, Some, None, refl, sym, ap, ◌∙◌, subst, inl}
+use Rattle.std.proofs.Common.{inr, arith, ◌⊎◌, append_assoc, drop_at, length-append, eqb-true, eq-eqb, le-leb, leb-true}
 use Rattle.std.proofs.lemmas.Bool.{and_parts, cases_Bool, or_parts, or_from, not-true, lt-leb}
 use Rattle.std.proofs.lemmas.Bool.Decides.{nat_tests}
 use Rattle.std.specs.List.{prefix_len}
 use Rattle.keep_token.specs.Abnf.{is_ws, Newline}
-use Rattle.keep_token.specs.Strings.{Piece, Plain, Letter, Number, Break, LineEnd, piece_text, text_of, Each, no_three, takes_all}
+use Rattle.keep_token.specs.Strings.{Piece, Plain, Letter, Number, Break, LineEnd, piece_text, text_of, Each, no_three}
+use Rattle.keep_token.specs.Strings.{takes_all}
 use Rattle.keep_token.specs.Pieces.{first, blank_len, some_of, closes, onward, pieces_by, pieces_of}
 use Rattle.keep_token.proofs.StringSteps.{Stops, PieceLaws, stepped, spelled_more, first_of_found, piece_count}
 
@@ -22,7 +25,8 @@ use Rattle.keep_token.proofs.StringSteps.{Stops, PieceLaws, stepped, spelled_mor
 abbrev marks : ℕ → List ℕ → ℕ
 marks mark text = prefix_len (λ c. c == mark) text
 
-mark_step : (mark : ℕ) (text : List ℕ) → 0 < marks mark text → (cs : List ℕ) × (text ≡ mark ∷ cs) × (marks mark text ≡ suc (marks mark cs))
+mark_step : (mark : ℕ) (text : List ℕ) → 0 < marks mark text
+    → (cs : List ℕ) × (text ≡ mark ∷ cs) × (marks mark text ≡ suc (marks mark cs))
 mark_step mark [] h = absurd (omega arith)
 mark_step mark (c ∷ cs) h =
     elim (cases_Bool (c == mark)) [
@@ -34,7 +38,8 @@ mark_more : (mark : ℕ) (text cs rest : List ℕ) → text ≡ mark ∷ cs → 
 mark_more mark text cs rest e f = e ∙ ap (λ t. mark ∷ t) f
 
 -- so many marks and three more come first
-marks_prefix : (mark k : ℕ) (text : List ℕ) → k + 3 ≤ marks mark text → (rest : List ℕ) × (text ≡ text_of (some_of k mark) ++ (mark ∷ mark ∷ mark ∷ rest))
+marks_prefix : (mark k : ℕ) (text : List ℕ) → k + 3 ≤ marks mark text
+    → (rest : List ℕ) × (text ≡ text_of (some_of k mark) ++ (mark ∷ mark ∷ mark ∷ rest))
 marks_prefix mark zero text h =
     let a = mark_step mark text (omega arith) in
     let b = mark_step mark a.0 (omega (arith, a.2)) in
@@ -45,7 +50,9 @@ marks_prefix mark (suc k) text h =
     let b = marks_prefix mark k a.0 (omega (arith, a.2)) in
     (b.0, mark_more mark text a.0 (text_of (some_of k mark) ++ (mark ∷ mark ∷ mark ∷ b.0)) a.1 b.1)
 
-closes_many_found : (mark : ℕ) (text : List ℕ) (ps : List Piece) → closes true mark text ≡ Some ps → (k : ℕ) × (rest : List ℕ) × (k ≤ 2) × (ps ≡ some_of k mark) × (text ≡ text_of (some_of k mark) ++ (mark ∷ mark ∷ mark ∷ rest))
+closes_many_found : (mark : ℕ) (text : List ℕ) (ps : List Piece) → closes true mark text ≡ Some ps
+    → (k : ℕ) × (rest : List ℕ) × (k ≤ 2) × (ps ≡ some_of k mark)
+    × (text ≡ text_of (some_of k mark) ++ (mark ∷ mark ∷ mark ∷ rest))
 closes_many_found mark text ps e =
     elim (cases_Bool (nat_le 3 (marks mark text))) [
       | inl m ↦
@@ -75,7 +82,8 @@ takes_all_mark mark zero = refl
 takes_all_mark mark (suc zero) = refl
 takes_all_mark mark (suc (suc k)) = takes_all_mark mark (suc k)
 
-no_three_more : (mark : ℕ) (p : Piece) (ps : List Piece) (tail : List ℕ) → closes true mark (text_of (p ∷ ps) ++ tail) ≡ None → no_three mark ps ≡ true → no_three mark (p ∷ ps) ≡ true
+no_three_more : (mark : ℕ) (p : Piece) (ps : List Piece) (tail : List ℕ)
+    → closes true mark (text_of (p ∷ ps) ++ tail) ≡ None → no_three mark ps ≡ true → no_three mark (p ∷ ps) ≡ true
 no_three_more mark (Plain a) (Plain b ∷ Plain c ∷ more) tail still h =
     elim (cases_Bool ((a == mark && b == mark) && c == mark)) [
       | inl e ↦
@@ -89,10 +97,13 @@ no_three_more mark (Plain a) (Plain b ∷ Plain c ∷ more) tail still h =
 no_three_more mark p ps tail still h = h
 
 blank_len_starts : (c : ℕ) (cs : List ℕ) → blank_len (c ∷ cs) ≡ 0 → (is_ws c || c == 0x0A) ≡ false
-blank_len_starts c [] e = elim (cases_Bool (is_ws c || c == 0x0A)) [ inl w ↦ absurd (let f = rw w at e in omega (arith, f)) | inr w ↦ w ]
-blank_len_starts c (d ∷ cs) e = elim (cases_Bool (is_ws c || c == 0x0A)) [ inl w ↦ absurd (let f = rw w at e in omega (arith, f)) | inr w ↦ w ]
+blank_len_starts c [] e =
+    elim (cases_Bool (is_ws c || c == 0x0A)) [ inl w ↦ absurd (let f = rw w at e in omega (arith, f)) | inr w ↦ w ]
+blank_len_starts c (d ∷ cs) e =
+    elim (cases_Bool (is_ws c || c == 0x0A)) [ inl w ↦ absurd (let f = rw w at e in omega (arith, f)) | inr w ↦ w ]
 
-pub blank_len_none : (c : ℕ) (cs : List ℕ) → (is_ws c || c == 0x0A) ≡ false → (c == 0x0D) ≡ false → blank_len (c ∷ cs) ≡ 0
+pub blank_len_none : (c : ℕ) (cs : List ℕ) → (is_ws c || c == 0x0A) ≡ false → (c == 0x0D) ≡ false
+    → blank_len (c ∷ cs) ≡ 0
 blank_len_none c [] white cr = rw white refl
 blank_len_none c (d ∷ cs) white cr = rw (white, cr) refl
 
@@ -101,13 +112,16 @@ blank_len_newline newline [] (inl e) z = let f = rw e at z in omega (arith, f)
 blank_len_newline newline (c ∷ cs) (inl e) z = let f = rw e at z in omega (arith, f)
 blank_len_newline newline more (inr e) z = let f = rw e at z in omega (arith, f)
 
-takes_all_more : (P : Piece → Type 0) (piece : List ℕ → Option Piece) → PieceLaws P piece → (p : Piece) (ps : List Piece) (tail : List ℕ) → Each P ps → Stops p (text_of ps ++ tail) → takes_all ps ≡ true → takes_all (p ∷ ps) ≡ true
+takes_all_more : (P : Piece → Type 0) (piece : List ℕ → Option Piece) → PieceLaws P piece
+    → (p : Piece) (ps : List Piece) (tail : List ℕ) → Each P ps → Stops p (text_of ps ++ tail) → takes_all ps ≡ true
+    → takes_all (p ∷ ps) ≡ true
 takes_all_more P piece laws p [] tail each stops h = refl
 takes_all_more P piece laws (LineEnd a b c) (Plain byte ∷ more) tail each stops h =
     let white = or_parts (is_ws byte) (byte == 0x0A) (blank_len_starts byte (text_of more ++ tail) stops) in
     rw (white.0, h) refl
 takes_all_more P piece laws (LineEnd a b c) (Break newline ∷ more) tail each stops h =
-    absurd (blank_len_newline newline (text_of more ++ tail) (laws.newline newline each.0) (rw (append_assoc newline (text_of more) tail) at stops))
+    absurd (blank_len_newline newline (text_of more ++ tail) (laws.newline newline each.0)
+    (rw (append_assoc newline (text_of more) tail) at stops))
 takes_all_more P piece laws p (q ∷ more) tail each stops h = h
 
 -- the pieces found over many lines
@@ -118,12 +132,20 @@ pub record FoundMany (P : Piece → Type 0) (mark : ℕ) (text : List ℕ) (ps :
   pub no_end : no_three mark ps ≡ true
   pub whole : takes_all ps ≡ true
 
-closed_many : (P : Piece → Type 0) (mark : ℕ) → P (Plain mark) → (text : List ℕ) (ps : List Piece) (k : ℕ) (rest : List ℕ) → k ≤ 2 → ps ≡ some_of k mark
+closed_many : (P : Piece → Type 0) (mark : ℕ) → P (Plain mark)
+    → (text : List ℕ) (ps : List Piece) (k : ℕ) (rest : List ℕ) → k ≤ 2 → ps ≡ some_of k mark
     → text ≡ text_of (some_of k mark) ++ (mark ∷ mark ∷ mark ∷ rest) → FoundMany P mark text ps
 closed_many P mark is_mark text ps k rest small same spelled =
-    record { rest = rest; spelled = rw same spelled; each = rw same (each_mark P mark is_mark k); no_end = rw same (no_three_mark mark k small); whole = rw same (takes_all_mark mark k) }
+    record {
+      rest = rest;
+      spelled = rw same spelled;
+      each = rw same (each_mark P mark is_mark k);
+      no_end = rw same (no_three_mark mark k small);
+      whole = rw same (takes_all_mark mark k);
+    }
 
-pub many_lines_found : (P : Piece → Type 0) (piece : List ℕ → Option Piece) → PieceLaws P piece → (mark : ℕ) → P (Plain mark)
+pub many_lines_found : (P : Piece → Type 0) (piece : List ℕ → Option Piece) → PieceLaws P piece → (mark : ℕ)
+    → P (Plain mark)
     → (n : ℕ) (text : List ℕ) (ps : List Piece) → pieces_by n piece true mark text ≡ Some ps → FoundMany P mark text ps
 many_lines_found P piece laws mark is_mark zero text ps e = absurd cc
 many_lines_found P piece laws mark is_mark (suc n) text ps e =
@@ -137,7 +159,8 @@ many_lines_found P piece laws mark is_mark (suc n) text ps e =
           let tail = mark ∷ mark ∷ mark ∷ b.rest in
           let spelled = spelled_more s.here s.after text s.more tail s.spelled b.spelled in
           let stops : Stops s.here (text_of s.after ++ tail) = subst (λ t. Stops s.here t) b.spelled s.stops in
-          let still : closes true mark (text_of (s.here ∷ s.after) ++ tail) ≡ None = ap (closes true mark) (sym spelled) ∙ open_still.0 in
+          let still : closes true mark (text_of (s.here ∷ s.after) ++ tail) ≡ None =
+          ap (closes true mark) (sym spelled) ∙ open_still.0 in
           let found : FoundMany P mark text (s.here ∷ s.after) = record {
             rest = b.rest;
             spelled = spelled;
@@ -163,14 +186,18 @@ marks_more mark text = rw (eq-eqb mark mark refl) (omega arith)
 
 -- each piece is the mark itself, or begins with another byte
 abbrev pub MarkOrNot : (Piece → Type 0) → ℕ → Type 0
-MarkOrNot P mark = (p : Piece) → P p → (p ≡ Plain mark) ⊎ ((more : List ℕ) → (first (piece_text p ++ more) == mark) ≡ false)
+MarkOrNot P mark =
+    (p : Piece) → P p → (p ≡ Plain mark) ⊎ ((more : List ℕ) → (first (piece_text p ++ more) == mark) ≡ false)
 
 lead : (P : Piece → Type 0) (mark : ℕ) → MarkOrNot P mark → (ps : List Piece) → Each P ps → Lead mark ps
 lead P mark head [] h = ends refl
 lead P mark head (p ∷ ps) h =
     elim (head p h.0) [
       | inl e ↦ marked ps (ap (λ (q : Piece). q ∷ ps) e)
-      | inr f ↦ other (λ tail. marks_none mark (text_of (p ∷ ps) ++ tail) (rw (append_assoc (piece_text p) (text_of ps) tail) (f (text_of ps ++ tail))))
+      | inr f ↦
+          other (λ tail.
+          marks_none mark (text_of (p ∷ ps) ++ tail)
+          (rw (append_assoc (piece_text p) (text_of ps) tail) (f (text_of ps ++ tail))))
     ]
 
 -- the marks before the closing are at most two, and all of the body; or the string does not end here
@@ -178,26 +205,32 @@ data Ending (mark : ℕ) (ps : List Piece) : Type 0 where
   body : (k : ℕ) → k ≤ 2 → ps ≡ some_of k mark → Ending mark ps
   continues : ((tail : List ℕ) → marks mark (text_of ps ++ tail) < 3) → Ending mark ps
 
-ending_two : (P : Piece → Type 0) (mark : ℕ) → MarkOrNot P mark → (ps : List Piece) → Each P ps → no_three mark (Plain mark ∷ Plain mark ∷ ps) ≡ true → Ending mark (Plain mark ∷ Plain mark ∷ ps)
+ending_two : (P : Piece → Type 0) (mark : ℕ) → MarkOrNot P mark → (ps : List Piece) → Each P ps
+    → no_three mark (Plain mark ∷ Plain mark ∷ ps) ≡ true → Ending mark (Plain mark ∷ Plain mark ∷ ps)
 ending_two P mark head ps h three =
     let same = eq-eqb mark mark refl in
     elim (lead P mark head ps h) [
       | ends e ↦ body 2 (omega arith) (ap (λ (qs : List Piece). Plain mark ∷ Plain mark ∷ qs) e)
       | marked qs e ↦ absurd (let f = rw (e, same) at three in cc)
-      | other f ↦ continues (λ tail. omega (arith, marks_more mark (mark ∷ text_of ps ++ tail), marks_more mark (text_of ps ++ tail), f tail))
+      | other f ↦
+          continues (λ tail.
+          omega (arith, marks_more mark (mark ∷ text_of ps ++ tail), marks_more mark (text_of ps ++ tail), f tail))
     ]
 
-ending_one : (P : Piece → Type 0) (mark : ℕ) → MarkOrNot P mark → (ps : List Piece) → Each P ps → no_three mark (Plain mark ∷ ps) ≡ true → Ending mark (Plain mark ∷ ps)
+ending_one : (P : Piece → Type 0) (mark : ℕ) → MarkOrNot P mark → (ps : List Piece) → Each P ps
+    → no_three mark (Plain mark ∷ ps) ≡ true → Ending mark (Plain mark ∷ ps)
 ending_one P mark head ps h three =
     elim (lead P mark head ps h) [
       | ends e ↦ body 1 (omega arith) (ap (λ (qs : List Piece). Plain mark ∷ qs) e)
       | marked qs e ↦
           let each = rw e at h in
-          subst (λ (rs : List Piece). Ending mark (Plain mark ∷ rs)) (sym e) (ending_two P mark head qs each.1 (rw e at three))
+          subst (λ (rs : List Piece). Ending mark (Plain mark ∷ rs)) (sym e)
+          (ending_two P mark head qs each.1 (rw e at three))
       | other f ↦ continues (λ tail. omega (arith, marks_more mark (text_of ps ++ tail), f tail))
     ]
 
-ending : (P : Piece → Type 0) (mark : ℕ) → MarkOrNot P mark → (ps : List Piece) → Each P ps → no_three mark ps ≡ true → Ending mark ps
+ending : (P : Piece → Type 0) (mark : ℕ) → MarkOrNot P mark → (ps : List Piece) → Each P ps → no_three mark ps ≡ true
+    → Ending mark ps
 ending P mark head ps h three =
     elim (lead P mark head ps h) [
       | ends e ↦ body 0 (omega arith) e
@@ -209,7 +242,8 @@ ending P mark head ps h three =
 
 marks_of_some : (mark k : ℕ) (text : List ℕ) → marks mark (text_of (some_of k mark) ++ text) ≡ k + marks mark text
 marks_of_some mark zero text = omega arith
-marks_of_some mark (suc k) text = omega (arith, marks_more mark (text_of (some_of k mark) ++ text), marks_of_some mark k text)
+marks_of_some mark (suc k) text =
+    omega (arith, marks_more mark (text_of (some_of k mark) ++ text), marks_of_some mark k text)
 
 length-some : (mark k : ℕ) → length (text_of (some_of k mark)) ≡ k
 length-some mark zero = refl
@@ -223,13 +257,16 @@ pub record Again (piece : List ℕ → Option Piece) (n mark : ℕ) (ps : List P
   pub same : (first rest == mark) ≡ false → all ≡ ps
 
 three_marks : (mark : ℕ) (rest : List ℕ) → marks mark (mark ∷ mark ∷ mark ∷ rest) ≡ 3 + marks mark rest
-three_marks mark rest = omega (arith, marks_more mark (mark ∷ mark ∷ rest), marks_more mark (mark ∷ rest), marks_more mark rest)
+three_marks mark rest =
+    omega (arith, marks_more mark (mark ∷ mark ∷ rest), marks_more mark (mark ∷ rest), marks_more mark rest)
 
-again_closed : (piece : List ℕ → Option Piece) (n mark : ℕ) (ps : List Piece) (rest : List ℕ) (k : ℕ) → k ≤ 2 → ps ≡ some_of k mark → Again piece (suc n) mark ps rest
+again_closed : (piece : List ℕ → Option Piece) (n mark : ℕ) (ps : List Piece) (rest : List ℕ) (k : ℕ) → k ≤ 2
+    → ps ≡ some_of k mark → Again piece (suc n) mark ps rest
 again_closed piece n mark ps rest k small e =
     let tail = mark ∷ mark ∷ mark ∷ rest in
     let text = text_of (some_of k mark) ++ tail in
-    let count : marks mark text ≡ k + (3 + marks mark rest) = marks_of_some mark k tail ∙ ap (λ m. k + m) (three_marks mark rest) in
+    let count : marks mark text ≡ k + (3 + marks mark rest) =
+    marks_of_some mark k tail ∙ ap (λ m. k + m) (three_marks mark rest) in
     let enough : nat_le 3 (marks mark text) ≡ true = le-leb 3 (marks mark text) (omega (arith, count)) in
     let closed : closes true mark text ≡ Some (some_of (min (marks mark text) 5 - 3) mark) = rw enough refl in
     record {
@@ -239,17 +276,22 @@ again_closed piece n mark ps rest k small e =
       same = λ stop. ap (λ m. some_of m mark) (omega (arith, count, marks_none mark rest stop)) ∙ sym e;
     }
 
-stops_prefix : (P : Piece → Type 0) (piece : List ℕ → Option Piece) → PieceLaws P piece → (p : Piece) (ps : List Piece) (c : ℕ) (rest : List ℕ) → Each P ps → takes_all (p ∷ ps) ≡ true
+stops_prefix : (P : Piece → Type 0) (piece : List ℕ → Option Piece) → PieceLaws P piece
+    → (p : Piece) (ps : List Piece) (c : ℕ) (rest : List ℕ) → Each P ps → takes_all (p ∷ ps) ≡ true
     → ((is_ws c || c == 0x0A) ≡ false) → ((c == 0x0D) ≡ false) → Stops p (text_of ps ++ (c ∷ rest))
 stops_prefix P piece laws (LineEnd x y z) [] c rest h all white cr = blank_len_none c rest white cr
 stops_prefix P piece laws (LineEnd x y z) (Plain b ∷ ps) c rest h all white cr =
     let parts = and_parts (not (is_ws b)) (takes_all (Plain b ∷ ps)) all in
     let line = laws.plain b h.0 in
-    blank_len_none b (text_of ps ++ (c ∷ rest)) (or_from (is_ws b) (b == 0x0A) (not-true (is_ws b) parts.0) line.0) line.1
-stops_prefix P piece laws (LineEnd x y z) (Letter b ∷ ps) c rest h all white cr = blank_len_none 0x5C (b ∷ text_of ps ++ (c ∷ rest)) refl refl
-stops_prefix P piece laws (LineEnd x y z) (Number b ds ∷ ps) c rest h all white cr = blank_len_none 0x5C (b ∷ (ds ++ text_of ps) ++ (c ∷ rest)) refl refl
+    blank_len_none b (text_of ps ++ (c ∷ rest)) (or_from (is_ws b) (b == 0x0A) (not-true (is_ws b) parts.0) line.0)
+    line.1
+stops_prefix P piece laws (LineEnd x y z) (Letter b ∷ ps) c rest h all white cr =
+    blank_len_none 0x5C (b ∷ text_of ps ++ (c ∷ rest)) refl refl
+stops_prefix P piece laws (LineEnd x y z) (Number b ds ∷ ps) c rest h all white cr =
+    blank_len_none 0x5C (b ∷ (ds ++ text_of ps) ++ (c ∷ rest)) refl refl
 stops_prefix P piece laws (LineEnd x y z) (Break b ∷ ps) c rest h all white cr = absurd cc
-stops_prefix P piece laws (LineEnd x y z) (LineEnd a b d ∷ ps) c rest h all white cr = blank_len_none 0x5C (((a ++ (b ++ d)) ++ text_of ps) ++ (c ∷ rest)) refl refl
+stops_prefix P piece laws (LineEnd x y z) (LineEnd a b d ∷ ps) c rest h all white cr =
+    blank_len_none 0x5C (((a ++ (b ++ d)) ++ text_of ps) ++ (c ∷ rest)) refl refl
 stops_prefix P piece laws (Plain b) ps c rest h all white cr = tt
 stops_prefix P piece laws (Letter b) ps c rest h all white cr = tt
 stops_prefix P piece laws (Number b ds) ps c rest h all white cr = tt
@@ -257,34 +299,54 @@ stops_prefix P piece laws (Break b) ps c rest h all white cr = tt
 
 pub takes_all_rest : (p : Piece) (ps : List Piece) → takes_all (p ∷ ps) ≡ true → takes_all ps ≡ true
 takes_all_rest p [] h = refl
-takes_all_rest (LineEnd a b c) (Plain byte ∷ more) h = (and_parts (not (is_ws byte)) (takes_all (Plain byte ∷ more)) h).1
+takes_all_rest (LineEnd a b c) (Plain byte ∷ more) h =
+    (and_parts (not (is_ws byte)) (takes_all (Plain byte ∷ more)) h).1
 takes_all_rest (LineEnd a b c) (Break newline ∷ more) h = absurd cc
 takes_all_rest p (q ∷ more) h = h
 
 no_three_rest : (mark : ℕ) (p : Piece) (ps : List Piece) → no_three mark (p ∷ ps) ≡ true → no_three mark ps ≡ true
-no_three_rest mark (Plain a) (Plain b ∷ Plain c ∷ more) h = (and_parts (not ((a == mark && b == mark) && c == mark)) (no_three mark (Plain b ∷ Plain c ∷ more)) h).1
+no_three_rest mark (Plain a) (Plain b ∷ Plain c ∷ more) h =
+    (and_parts (not ((a == mark && b == mark) && c == mark)) (no_three mark (Plain b ∷ Plain c ∷ more)) h).1
 no_three_rest mark p ps h = h
 
 -- a string over many lines is found again, or a longer one, where more marks follow
-pub many_lines_again : (P : Piece → Type 0) (piece : List ℕ → Option Piece) → PieceLaws P piece → (mark : ℕ) → P (Plain mark) → ((is_ws mark || mark == 0x0A) ≡ false) → ((mark == 0x0D) ≡ false)
-    → MarkOrNot P mark → (n : ℕ) (ps : List Piece) (rest : List ℕ) → Each P ps → no_three mark ps ≡ true → takes_all ps ≡ true → length ps < n → Again piece n mark ps rest
+pub many_lines_again : (P : Piece → Type 0) (piece : List ℕ → Option Piece) → PieceLaws P piece → (mark : ℕ)
+    → P (Plain mark) → ((is_ws mark || mark == 0x0A) ≡ false) → ((mark == 0x0D) ≡ false)
+    → MarkOrNot P mark → (n : ℕ) (ps : List Piece) (rest : List ℕ) → Each P ps → no_three mark ps ≡ true
+    → takes_all ps ≡ true → length ps < n → Again piece n mark ps rest
 many_lines_again P piece laws mark is_mark white cr head zero ps rest h three all few = absurd (omega arith)
-many_lines_again P piece laws mark is_mark white cr head (suc n) [] rest h three all few = again_closed piece n mark [] rest 0 (omega arith) refl
+many_lines_again P piece laws mark is_mark white cr head (suc n) [] rest h three all few =
+    again_closed piece n mark [] rest 0 (omega arith) refl
 many_lines_again P piece laws mark is_mark white cr head (suc n) (p ∷ ps) rest h three all few =
     elim (ending P mark head (p ∷ ps) h three) [
       | body k small e ↦ again_closed piece n mark (p ∷ ps) rest k small e
       | continues f ↦
           let tail = mark ∷ mark ∷ mark ∷ rest in
           let more = text_of ps ++ tail in
-          let ih = many_lines_again P piece laws mark is_mark white cr head n ps rest h.1 (no_three_rest mark p ps three) (takes_all_rest p ps all) (omega arith) in
-          let still : closes true mark (text_of (p ∷ ps) ++ tail) ≡ None = closes_few mark (text_of (p ∷ ps) ++ tail) (f tail) in
+          let ih =
+          many_lines_again P piece laws mark is_mark white cr head n ps rest h.1 (no_three_rest mark p ps three)
+          (takes_all_rest p ps all) (omega arith) in
+          let still : closes true mark (text_of (p ∷ ps) ++ tail) ≡ None =
+          closes_few mark (text_of (p ∷ ps) ++ tail) (f tail) in
           let split = append_assoc (piece_text p) (text_of ps) tail in
           let still' : closes true mark (piece_text p ++ more) ≡ None = ap (closes true mark) (sym split) ∙ still in
           let stops = stops_prefix P piece laws p ps mark (mark ∷ mark ∷ rest) h.1 all white cr in
           record {
             all = p ∷ ih.all;
-            found = ap (pieces_by (suc n) piece true mark) split ∙ (rw (still', laws.again p more h.0 stops, drop_at (piece_text p) more (length (piece_text p)) refl, ih.found) refl);
-            longer = omega (arith, ih.longer, length-append (piece_text p) (text_of ps), length-append (piece_text p) (text_of ih.all));
+            found = ap (pieces_by (suc n) piece true mark) split
+                ∙ (rw (
+                  still',
+                  laws.again p more h.0 stops,
+                  drop_at (piece_text p) more (length (piece_text p)) refl,
+                  ih.found,
+                ) refl);
+            longer =
+                omega (
+                  arith,
+                  ih.longer,
+                  length-append (piece_text p) (text_of ps),
+                  length-append (piece_text p) (text_of ih.all),
+                );
             same = λ stop. ap (λ (qs : List Piece). p ∷ qs) (ih.same stop);
           }
     ]
@@ -303,11 +365,15 @@ pub record PrefixMany (P : Piece → Type 0) (mark : ℕ) (text : List ℕ) (ps 
   pub whole : takes_all ps ≡ true
 
 pub prefix_many : (P : Piece → Type 0) (piece : List ℕ → Option Piece) → PieceLaws P piece → (mark : ℕ) → P (Plain mark)
-    → (text after : List ℕ) (ps : List Piece) → text ≡ mark ∷ mark ∷ mark ∷ after → pieces_of piece true mark (drop 3 text) ≡ Some ps → PrefixMany P mark text ps
+    → (text after : List ℕ) (ps : List Piece) → text ≡ mark ∷ mark ∷ mark ∷ after
+    → pieces_of piece true mark (drop 3 text) ≡ Some ps → PrefixMany P mark text ps
 prefix_many P piece laws mark is_mark text after ps opening e =
-    let found : pieces_of piece true mark after ≡ Some ps = ap (λ t. pieces_of piece true mark (drop 3 t)) (sym opening) ∙ e in
+    let found : pieces_of piece true mark after ≡ Some ps =
+    ap (λ t. pieces_of piece true mark (drop 3 t)) (sym opening) ∙ e in
     let f = many_lines_found P piece laws mark is_mark (suc (length after)) after ps found in
-    let spelled : text ≡ many_lines mark ps ++ f.rest = opening ∙ ap (λ t. mark ∷ mark ∷ mark ∷ t) (f.spelled ∙ sym (append_assoc (text_of ps) (mark ∷ mark ∷ mark ∷ []) f.rest)) in
+    let spelled : text ≡ many_lines mark ps ++ f.rest =
+    opening ∙ ap (λ t. mark ∷ mark ∷ mark ∷ t)
+    (f.spelled ∙ sym (append_assoc (text_of ps) (mark ∷ mark ∷ mark ∷ []) f.rest)) in
     record { rest = f.rest; spelled = spelled; each = f.each; no_end = f.no_end; whole = f.whole }
 
 -- the pieces found where a string over many lines is, which may be longer
@@ -317,14 +383,17 @@ pub record AgainMany (piece : List ℕ → Option Piece) (mark : ℕ) (ps : List
   pub longer : length (many_lines mark ps) ≤ length (many_lines mark all)
   pub same : (first rest == mark) ≡ false → all ≡ ps
 
-pub again_many : (P : Piece → Type 0) (piece : List ℕ → Option Piece) → PieceLaws P piece → (mark : ℕ) → P (Plain mark) → ((is_ws mark || mark == 0x0A) ≡ false) → ((mark == 0x0D) ≡ false)
-    → MarkOrNot P mark → (ps : List Piece) (rest : List ℕ) → Each P ps → no_three mark ps ≡ true → takes_all ps ≡ true → AgainMany piece mark ps rest
+pub again_many : (P : Piece → Type 0) (piece : List ℕ → Option Piece) → PieceLaws P piece → (mark : ℕ) → P (Plain mark)
+    → ((is_ws mark || mark == 0x0A) ≡ false) → ((mark == 0x0D) ≡ false)
+    → MarkOrNot P mark → (ps : List Piece) (rest : List ℕ) → Each P ps → no_three mark ps ≡ true → takes_all ps ≡ true
+    → AgainMany piece mark ps rest
 again_many P piece laws mark is_mark white cr head ps rest h three all =
     let closing = mark ∷ mark ∷ mark ∷ [] in
     let text = text_of ps ++ (mark ∷ mark ∷ mark ∷ rest) in
     let few = piece_count P piece laws ps h in
     let long = length-append (text_of ps) (mark ∷ mark ∷ mark ∷ rest) in
-    let f = many_lines_again P piece laws mark is_mark white cr head (suc (length text)) ps rest h three all (omega (arith, few, long)) in
+    let f = many_lines_again P piece laws mark is_mark white cr head (suc (length text)) ps rest h three all
+    (omega (arith, few, long)) in
     record {
       all = f.all;
       found = ap (pieces_of piece true mark) (append_assoc (text_of ps) closing rest) ∙ f.found;

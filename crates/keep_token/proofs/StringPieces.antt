@@ -10,7 +10,9 @@
 --
 -- Theorems: `basic_laws`, `literal_laws`, `ml_basic_laws`, `ml_literal_laws`: the laws of the pieces of each kind of
 -- string.
-use Rattle.std.proofs.Common.{◌≡◌, ℕ, suc, ◌+◌, ◌<◌, Bool, true, false, ◌&&◌, ◌||◌, ◌==◌, nat_lt, List, [], ◌∷◌, ◌++◌, length, take, drop, Option, Some, None, refl, sym, ap, ◌∙◌, subst, inl, inr, arith, ◌⊎◌, append_assoc, take_at, drop_at, take-append-drop, eqb-true, eq-eqb, lt-ltb}
+use Rattle.std.proofs.Common.{◌≡◌, ℕ, suc, ◌+◌, ◌<◌, Bool, true, false, ◌&&◌, ◌||◌, ◌==◌, nat_lt, List, [], ◌∷◌, ◌++◌}
+use Rattle.std.proofs.Common.{length, take, drop, Option, Some, None, refl, sym, ap, ◌∙◌, subst, inl, inr, arith, ◌⊎◌}
+use Rattle.std.proofs.Common.{append_assoc, take_at, drop_at, take-append-drop, eqb-true, eq-eqb, lt-ltb}
 use Rattle.std.proofs.lemmas.Bool.{and_parts, cases_Bool, ltb-true}
 use Rattle.std.proofs.lemmas.Bool.Decides.{nat_tests}
 use Rattle.std.specs.List.{prefix_len, list_all}
@@ -19,8 +21,11 @@ use Rattle.keep_types.specs.declared.leaf.Profile.{Profile}
 use Rattle.keep_types.specs.declared.leaf.Profile.TheVariants.{Strict, Wide}
 use Rattle.keep_token.specs.Abnf.{is_ws, Newline}
 use Rattle.keep_token.specs.Numbers.{sum_of_digits}
-use Rattle.keep_token.specs.Strings.{Piece, Plain, Letter, Number, Break, LineEnd, piece_text, letter_value, digit_count, is_scalar, is_basic, is_literal, is_blank_run, IsEscape, IsBasicPiece, IsMlBasicPiece, IsLiteralPiece, IsMlLiteralPiece}
-use Rattle.keep_token.specs.Pieces.{first, newline_len, blank_len, number_at, escape_at, line_end_at, or_else, basic_piece, literal_piece, break_at, ml_basic_piece, ml_literal_piece}
+use Rattle.keep_token.specs.Strings.{Piece, Plain, Letter, Number, Break, LineEnd, piece_text, letter_value}
+use Rattle.keep_token.specs.Strings.{digit_count, is_scalar, is_basic, is_literal, is_blank_run, IsEscape, IsBasicPiece}
+use Rattle.keep_token.specs.Strings.{IsMlBasicPiece, IsLiteralPiece, IsMlLiteralPiece}
+use Rattle.keep_token.specs.Pieces.{first, newline_len, blank_len, number_at, escape_at, line_end_at, or_else}
+use Rattle.keep_token.specs.Pieces.{basic_piece, literal_piece, break_at, ml_basic_piece, ml_literal_piece}
 use Rattle.keep_token.proofs.StringSteps.{Stops, PieceLaws}
 use Rattle.keep_token.proofs.StringManyLines.{MarkOrNot}
 
@@ -34,27 +39,38 @@ begins_from P text p q e b = let k : q ≡ p = cc in subst (λ r. Begins P text 
 -- ---- escapes
 
 number_found : (P : Piece → Type 0) (c count : ℕ) (cs : List ℕ) (p : Piece) → number_at c count cs ≡ Some p
-    → (length (take count cs) ≡ count → list_all (λ d. is_digit d 16) (take count cs) ≡ true → is_scalar (sum_of_digits 16 (take count cs)) ≡ true → P (Number c (take count cs)))
+    → (length (take count cs) ≡ count → list_all (λ d. is_digit d 16) (take count cs) ≡ true
+    → is_scalar (sum_of_digits 16 (take count cs)) ≡ true → P (Number c (take count cs)))
     → Begins P (0x5C ∷ c ∷ cs) p
 number_found P c count cs p e allowed =
     let digits = take count cs in
-    let test : Bool = (length digits == count && list_all (λ d. is_digit d 16) digits) && is_scalar (sum_of_digits 16 digits) in
+    let test : Bool =
+    (length digits == count && list_all (λ d. is_digit d 16) digits) && is_scalar (sum_of_digits 16 digits) in
     elim (cases_Bool test) [
       | inl t ↦
-          let scalar = and_parts (length digits == count && list_all (λ d. is_digit d 16) digits) (is_scalar (sum_of_digits 16 digits)) t in
+          let scalar =
+          and_parts (length digits == count && list_all (λ d. is_digit d 16) digits)
+          (is_scalar (sum_of_digits 16 digits)) t in
           let count_and = and_parts (length digits == count) (list_all (λ d. is_digit d 16) digits) scalar.0 in
-          let spelled : 0x5C ∷ c ∷ cs ≡ piece_text (Number c digits) ++ drop count cs = ap (λ (t : List ℕ). 0x5C ∷ c ∷ t) (sym (take-append-drop count cs)) in
-          begins_from P (0x5C ∷ c ∷ cs) p (Number c digits) (rw t at e) (drop count cs, spelled, allowed (eqb-true (length digits) count count_and.0) count_and.1 scalar.1, tt)
+          let spelled : 0x5C ∷ c ∷ cs ≡ piece_text (Number c digits) ++ drop count cs =
+          ap (λ (t : List ℕ). 0x5C ∷ c ∷ t) (sym (take-append-drop count cs)) in
+          begins_from P (0x5C ∷ c ∷ cs) p (Number c digits) (rw t at e)
+          (drop count cs, spelled, allowed (eqb-true (length digits) count count_and.0) count_and.1 scalar.1, tt)
       | inr t ↦ absurd (let f = rw t at e in cc)
     ]
 
-escape_found : (profile : Profile) (text : List ℕ) (p : Piece) → escape_at profile text ≡ Some p → Begins (IsEscape profile) (0x5C ∷ text) p
+escape_found : (profile : Profile) (text : List ℕ) (p : Piece) → escape_at profile text ≡ Some p
+    → Begins (IsEscape profile) (0x5C ∷ text) p
 escape_found profile [] p e = absurd cc
 escape_found profile (c ∷ cs) p e =
     elim (cases_Bool (nat_lt 0 (letter_value profile c))) [
-      | inl l ↦ begins_from (IsEscape profile) (0x5C ∷ c ∷ cs) p (Letter c) (rw l at e) (cs, refl, ltb-true 0 (letter_value profile c) l, tt)
+      | inl l ↦
+          begins_from (IsEscape profile) (0x5C ∷ c ∷ cs) p (Letter c) (rw l at e)
+          (cs, refl, ltb-true 0 (letter_value profile c) l, tt)
       | inr l ↦ elim (cases_Bool (nat_lt 0 (digit_count profile c))) [
-        | inl d ↦ number_found (IsEscape profile) c (digit_count profile c) cs p (rw (l, d) at e) (λ f g h. (ltb-true 0 (digit_count profile c) d, f, g, h))
+        | inl d ↦
+            number_found (IsEscape profile) c (digit_count profile c) cs p (rw (l, d) at e)
+            (λ f g h. (ltb-true 0 (digit_count profile c) d, f, g, h))
         | inr d ↦ absurd (let f = rw (l, d) at e in cc)
       ]
     ]
@@ -64,21 +80,33 @@ no_letter : (profile : Profile) (c : ℕ) → 0 < digit_count profile c → nat_
 no_letter Strict c h = grind (arith, nat_tests)
 no_letter Wide c h = grind (arith, nat_tests)
 
-letter_again : (profile : Profile) (letter : ℕ) (more : List ℕ) → IsEscape profile (Letter letter) → escape_at profile (letter ∷ more) ≡ Some (Letter letter)
+letter_again : (profile : Profile) (letter : ℕ) (more : List ℕ) → IsEscape profile (Letter letter)
+    → escape_at profile (letter ∷ more) ≡ Some (Letter letter)
 letter_again profile letter more h = rw (lt-ltb 0 (letter_value profile letter) h) refl
 
-number_again : (profile : Profile) (letter : ℕ) (digits more : List ℕ) → IsEscape profile (Number letter digits) → escape_at profile (letter ∷ digits ++ more) ≡ Some (Number letter digits)
+number_again : (profile : Profile) (letter : ℕ) (digits more : List ℕ) → IsEscape profile (Number letter digits)
+    → escape_at profile (letter ∷ digits ++ more) ≡ Some (Number letter digits)
 number_again profile letter digits more h =
-    rw (no_letter profile letter h.0, lt-ltb 0 (digit_count profile letter) h.0, take_at digits more (digit_count profile letter) h.1, eq-eqb (length digits) (digit_count profile letter) h.1, h.2, h.3) refl
+    rw (
+      no_letter profile letter h.0,
+      lt-ltb 0 (digit_count profile letter) h.0,
+      take_at digits more (digit_count profile letter) h.1,
+      eq-eqb (length digits) (digit_count profile letter) h.1,
+      h.2,
+      h.3,
+    ) refl
 
-blank_no_escape : (profile : Profile) (c : ℕ) (cs : List ℕ) → ((is_ws c || c == 0x0A) || c == 0x0D) ≡ true → escape_at profile (c ∷ cs) ≡ None
+blank_no_escape : (profile : Profile) (c : ℕ) (cs : List ℕ) → ((is_ws c || c == 0x0A) || c == 0x0D) ≡ true
+    → escape_at profile (c ∷ cs) ≡ None
 blank_no_escape profile c cs h = rw (no_value profile c h, no_count profile c h) refl
   where
-    no_value : (profile : Profile) (c : ℕ) → ((is_ws c || c == 0x0A) || c == 0x0D) ≡ true → nat_lt 0 (letter_value profile c) ≡ false
+    no_value : (profile : Profile) (c : ℕ) → ((is_ws c || c == 0x0A) || c == 0x0D) ≡ true
+        → nat_lt 0 (letter_value profile c) ≡ false
     no_value Strict c h = grind (arith, nat_tests)
     no_value Wide c h = grind (arith, nat_tests)
 
-    no_count : (profile : Profile) (c : ℕ) → ((is_ws c || c == 0x0A) || c == 0x0D) ≡ true → nat_lt 0 (digit_count profile c) ≡ false
+    no_count : (profile : Profile) (c : ℕ) → ((is_ws c || c == 0x0A) || c == 0x0D) ≡ true
+        → nat_lt 0 (digit_count profile c) ≡ false
     no_count Strict c h = grind (arith, nat_tests)
     no_count Wide c h = grind (arith, nat_tests)
 
@@ -99,7 +127,14 @@ escape_is_ml_basic profile (LineEnd a b c) h = absurd h
 -- ---- strings on one line
 
 pub basic_laws : (profile : Profile) → PieceLaws (IsBasicPiece profile) (basic_piece profile)
-basic_laws profile = record { found = found; again = again; some = some; plain = λ b h. (grind (arith, nat_tests), grind (arith, nat_tests)); newline = λ n h. absurd h }
+basic_laws profile =
+    record {
+      found = found;
+      again = again;
+      some = some;
+      plain = λ b h. (grind (arith, nat_tests), grind (arith, nat_tests));
+      newline = λ n h. absurd h;
+    }
   where
     found : (text : List ℕ) (p : Piece) → basic_piece profile text ≡ Some p → Begins (IsBasicPiece profile) text p
     found [] p e = absurd cc
@@ -114,7 +149,8 @@ basic_laws profile = record { found = found; again = again; some = some; plain =
           ]
         ]
 
-    again : (p : Piece) (more : List ℕ) → IsBasicPiece profile p → Stops p more → basic_piece profile (piece_text p ++ more) ≡ Some p
+    again : (p : Piece) (more : List ℕ) → IsBasicPiece profile p → Stops p more
+        → basic_piece profile (piece_text p ++ more) ≡ Some p
     again (Plain b) more h stops = let other : (b == 0x5C) ≡ false = grind (arith, nat_tests) in rw (other, h) refl
     again (Letter letter) more h stops = letter_again profile letter more h
     again (Number letter digits) more h stops = number_again profile letter digits more h
@@ -129,7 +165,14 @@ basic_laws profile = record { found = found; again = again; some = some; plain =
     some (LineEnd a b c) h = absurd h
 
 pub literal_laws : PieceLaws IsLiteralPiece literal_piece
-literal_laws = record { found = found; again = again; some = some; plain = λ b h. (grind (arith, nat_tests), grind (arith, nat_tests)); newline = λ n h. absurd h }
+literal_laws =
+    record {
+      found = found;
+      again = again;
+      some = some;
+      plain = λ b h. (grind (arith, nat_tests), grind (arith, nat_tests));
+      newline = λ n h. absurd h;
+    }
   where
     found : (text : List ℕ) (p : Piece) → literal_piece text ≡ Some p → Begins IsLiteralPiece text p
     found [] p e = absurd cc
@@ -139,7 +182,8 @@ literal_laws = record { found = found; again = again; some = some; plain = λ b 
           | inr a ↦ absurd (let f = rw a at e in cc)
         ]
 
-    again : (p : Piece) (more : List ℕ) → IsLiteralPiece p → Stops p more → literal_piece (piece_text p ++ more) ≡ Some p
+    again : (p : Piece) (more : List ℕ) → IsLiteralPiece p → Stops p more
+        → literal_piece (piece_text p ++ more) ≡ Some p
     again (Plain b) more h stops = rw h refl
     again (Letter letter) more h stops = absurd h
     again (Number letter digits) more h stops = absurd h
@@ -154,7 +198,8 @@ literal_laws = record { found = found; again = again; some = some; plain = λ b 
     some (LineEnd a b c) h = absurd h
 
 -- none begins with the closing mark
-pub basic_not_mark : (profile : Profile) (p : Piece) (more : List ℕ) → IsBasicPiece profile p → (first (piece_text p ++ more) == 0x22) ≡ false
+pub basic_not_mark : (profile : Profile) (p : Piece) (more : List ℕ) → IsBasicPiece profile p
+    → (first (piece_text p ++ more) == 0x22) ≡ false
 basic_not_mark profile (Plain b) more h = grind (arith, nat_tests)
 basic_not_mark profile (Letter letter) more h = refl
 basic_not_mark profile (Number letter digits) more h = refl
@@ -189,13 +234,19 @@ newline_found [] e = absurd cc
 newline_found (c ∷ []) e =
     elim (cases_Bool (c == 0x0A)) [
       | inl a ↦ inl (rw (a, eqb-true c 0x0A a) refl)
-      | inr a ↦ elim (cases_Bool (c == 0x0D)) [ inl b ↦ absurd (let f = rw (a, b) at e in cc) | inr b ↦ absurd (let f = rw (a, b) at e in cc) ]
+      | inr a ↦
+          elim (cases_Bool (c == 0x0D)) [
+            | inl b ↦ absurd (let f = rw (a, b) at e in cc)
+            | inr b ↦
+                absurd (let f = rw (a, b) at e in cc)
+          ]
     ]
 newline_found (c ∷ d ∷ cs) e =
     elim (cases_Bool (c == 0x0A)) [
       | inl a ↦ inl (rw (a, eqb-true c 0x0A a) refl)
       | inr a ↦ elim (cases_Bool (c == 0x0D && d == 0x0A)) [
-        | inl b ↦ let f = and_parts (c == 0x0D) (d == 0x0A) b in inr (rw (a, b, eqb-true c 0x0D f.0, eqb-true d 0x0A f.1) refl)
+        | inl b ↦ let f =
+            and_parts (c == 0x0D) (d == 0x0A) b in inr (rw (a, b, eqb-true c 0x0D f.0, eqb-true d 0x0A f.1) refl)
         | inr b ↦ absurd (let f = rw (a, b) at e in cc)
       ]
     ]
@@ -208,12 +259,17 @@ newline_some : (newline : List ℕ) → Newline newline → 0 < length newline
 newline_some newline (inl e) = rw e (omega arith)
 newline_some newline (inr e) = rw e (omega arith)
 
-break_found : (P : Piece → Type 0) (text : List ℕ) (p : Piece) → break_at text ≡ Some p → ((newline : List ℕ) → Newline newline → P (Break newline)) → Begins P text p
+break_found : (P : Piece → Type 0) (text : List ℕ) (p : Piece) → break_at text ≡ Some p
+    → ((newline : List ℕ) → Newline newline → P (Break newline)) → Begins P text p
 break_found P text p e allowed =
     elim (cases_Bool (newline_len text == 0)) [
       | inl z ↦ absurd (let f = rw z at e in cc)
-      | inr z ↦ begins_from P text p (Break (take (newline_len text) text)) (rw z at e)
-          (drop (newline_len text) text, sym (take-append-drop (newline_len text) text), allowed (take (newline_len text) text) (newline_found text z), tt)
+      | inr z ↦ begins_from P text p (Break (take (newline_len text) text)) (rw z at e) (
+        drop (newline_len text) text,
+        sym (take-append-drop (newline_len text) text),
+        allowed (take (newline_len text) text) (newline_found text z),
+        tt,
+      )
     ]
 
 list_all-run : (test : ℕ → Bool) (text : List ℕ) → list_all test (take (prefix_len test text) text) ≡ true
@@ -225,7 +281,8 @@ list_all-run test (c ∷ cs) =
       | inr e ↦ rw e refl
     ]
 
-prefix_len-run : (test : ℕ → Bool) (run rest : List ℕ) → list_all test run ≡ true → test 0 ≡ false → test (first rest) ≡ false → prefix_len test (run ++ rest) ≡ length run
+prefix_len-run : (test : ℕ → Bool) (run rest : List ℕ) → list_all test run ≡ true → test 0 ≡ false
+    → test (first rest) ≡ false → prefix_len test (run ++ rest) ≡ length run
 prefix_len-run test [] [] all none stop = refl
 prefix_len-run test [] (c ∷ rest) all none stop = rw stop
 prefix_len-run test (c ∷ run) rest all none stop =
@@ -233,7 +290,8 @@ prefix_len-run test (c ∷ run) rest all none stop =
     rw parts.0 (omega (arith, prefix_len-run test run rest parts.1 none stop))
 
 -- tabs, spaces and newlines, to the last
-blank_found : (text : List ℕ) → (is_blank_run (take (blank_len text) text) ≡ true) × (blank_len (drop (blank_len text) text) ≡ 0)
+blank_found : (text : List ℕ)
+    → (is_blank_run (take (blank_len text) text) ≡ true) × (blank_len (drop (blank_len text) text) ≡ 0)
 blank_found [] = (refl, refl)
 blank_found (c ∷ []) =
     elim (cases_Bool (is_ws c || c == 0x0A)) [
@@ -255,11 +313,13 @@ blank_found (c ∷ d ∷ cs) =
       ]
     ]
   where
-    blank_run_more : (c : ℕ) (run : List ℕ) → (is_ws c || c == 0x0A) ≡ true → (c == 0x0D) ≡ false → is_blank_run run ≡ true → is_blank_run (c ∷ run) ≡ true
+    blank_run_more : (c : ℕ) (run : List ℕ) → (is_ws c || c == 0x0A) ≡ true → (c == 0x0D) ≡ false
+        → is_blank_run run ≡ true → is_blank_run (c ∷ run) ≡ true
     blank_run_more c [] white other h = white
     blank_run_more c (d ∷ run) white other h = rw (other, white, h) refl
 
-blank_white : (c : ℕ) (cs more : List ℕ) → (is_ws c || c == 0x0A) ≡ true → blank_len (cs ++ more) ≡ length cs → blank_len (c ∷ cs ++ more) ≡ suc (length cs)
+blank_white : (c : ℕ) (cs more : List ℕ) → (is_ws c || c == 0x0A) ≡ true → blank_len (cs ++ more) ≡ length cs
+    → blank_len (c ∷ cs ++ more) ≡ suc (length cs)
 blank_white c [] [] white ih = rw white refl
 blank_white c [] (d ∷ more) white ih = rw white (ap suc ih)
 blank_white c (d ∷ cs) more white ih = rw white (ap suc ih)
@@ -279,7 +339,8 @@ blank_again (c ∷ d ∷ cs) more h stop =
     ]
 
 line_end_found : (P : Piece → Type 0) (text : List ℕ) (p : Piece) → line_end_at text ≡ Some p
-    → ((before newline after : List ℕ) → list_all is_ws before ≡ true → Newline newline → is_blank_run after ≡ true → P (LineEnd before newline after))
+    → ((before newline after : List ℕ) → list_all is_ws before ≡ true → Newline newline → is_blank_run after ≡ true
+    → P (LineEnd before newline after))
     → Begins P (0x5C ∷ text) p
 line_end_found P text p e allowed =
     let white = prefix_len is_ws text in
@@ -292,27 +353,38 @@ line_end_found P text p e allowed =
       | inl z ↦ absurd (let f = rw z at e in cc)
       | inr z ↦
           let found = blank_found after in
-          begins_from P (0x5C ∷ text) p (LineEnd (take white text) (take count line) (take blank after)) (rw z at e)
-          (last, ap (λ (t : List ℕ). 0x5C ∷ t) (spelled text white count blank), allowed (take white text) (take count line) (take blank after) (list_all-run is_ws text) (newline_found line z) found.0, found.1)
+          begins_from P (0x5C ∷ text) p (LineEnd (take white text) (take count line) (take blank after)) (rw z at e) (
+            last,
+            ap (λ (t : List ℕ). 0x5C ∷ t) (spelled text white count blank),
+            allowed (take white text) (take count line) (take blank after) (list_all-run is_ws text)
+                (newline_found line z) found.0,
+            found.1,
+          )
     ]
   where
-    spelled : (text : List ℕ) (white count blank : ℕ) → text ≡ (take white text ++ (take count (drop white text) ++ take blank (drop count (drop white text)))) ++ drop blank (drop count (drop white text))
+    spelled : (text : List ℕ) (white count blank : ℕ)
+        → text ≡ (take white text ++ (take count (drop white text) ++ take blank (drop count (drop white text))))
+        ++ drop blank (drop count (drop white text))
     spelled text white count blank =
         let line = drop white text in
         let after = drop count line in
         sym (append_assoc (take white text) (take count line ++ take blank after) (drop blank after)
-        ∙ ap (λ t. take white text ++ t) (append_assoc (take count line) (take blank after) (drop blank after) ∙ ap (λ t. take count line ++ t) (take-append-drop blank after) ∙ take-append-drop count line)
+        ∙ ap (λ t. take white text ++ t)
+        (append_assoc (take count line) (take blank after) (drop blank after)
+        ∙ ap (λ t. take count line ++ t) (take-append-drop blank after) ∙ take-append-drop count line)
         ∙ take-append-drop white text)
 
 newline_not_white : (newline more : List ℕ) → Newline newline → is_ws (first (newline ++ more)) ≡ false
 newline_not_white newline more (inl e) = rw e refl
 newline_not_white newline more (inr e) = rw e refl
 
-line_end_again : (before newline after more : List ℕ) → list_all is_ws before ≡ true → Newline newline → is_blank_run after ≡ true → blank_len more ≡ 0
+line_end_again : (before newline after more : List ℕ) → list_all is_ws before ≡ true → Newline newline
+    → is_blank_run after ≡ true → blank_len more ≡ 0
     → line_end_at ((before ++ (newline ++ after)) ++ more) ≡ Some (LineEnd before newline after)
 line_end_again before newline after more white line blank stop =
     let suffix = after ++ more in
-    let split : (before ++ (newline ++ after)) ++ more ≡ before ++ (newline ++ suffix) = append_assoc before (newline ++ after) more ∙ ap (λ t. before ++ t) (append_assoc newline after more) in
+    let split : (before ++ (newline ++ after)) ++ more ≡ before ++ (newline ++ suffix) =
+    append_assoc before (newline ++ after) more ∙ ap (λ t. before ++ t) (append_assoc newline after more) in
     let some : (length newline == 0) ≡ false = let f = newline_some newline line in grind (arith, nat_tests) in
     rw (
       split,
@@ -328,7 +400,8 @@ line_end_again before newline after more white line blank stop =
     ) refl
 
 -- what comes after the backslash of a line end is no escape
-line_end_no_escape : (profile : Profile) (before newline more : List ℕ) → list_all is_ws before ≡ true → Newline newline → escape_at profile (before ++ (newline ++ more)) ≡ None
+line_end_no_escape : (profile : Profile) (before newline more : List ℕ) → list_all is_ws before ≡ true → Newline newline
+    → escape_at profile (before ++ (newline ++ more)) ≡ None
 line_end_no_escape profile [] newline more white (inl e) = rw e (blank_no_escape profile 0x0A more refl)
 line_end_no_escape profile [] newline more white (inr e) = rw e (blank_no_escape profile 0x0D (0x0A ∷ more) refl)
 line_end_no_escape profile (c ∷ before) newline more white line =
@@ -342,7 +415,14 @@ or_else_found None b p e = inr e
 or_else_found (Some q) b p e = inl e
 
 pub ml_basic_laws : (profile : Profile) → PieceLaws (IsMlBasicPiece profile) (ml_basic_piece profile)
-ml_basic_laws profile = record { found = found; again = again; some = some; plain = λ b h. (grind (arith, nat_tests), grind (arith, nat_tests)); newline = λ n h. h }
+ml_basic_laws profile =
+    record {
+      found = found;
+      again = again;
+      some = some;
+      plain = λ b h. (grind (arith, nat_tests), grind (arith, nat_tests));
+      newline = λ n h. h;
+    }
   where
     found : (text : List ℕ) (p : Piece) → ml_basic_piece profile text ≡ Some p → Begins (IsMlBasicPiece profile) text p
     found [] p e = absurd cc
@@ -362,15 +442,18 @@ ml_basic_laws profile = record { found = found; again = again; some = some; plai
           ]
         ]
 
-    again : (p : Piece) (more : List ℕ) → IsMlBasicPiece profile p → Stops p more → ml_basic_piece profile (piece_text p ++ more) ≡ Some p
+    again : (p : Piece) (more : List ℕ) → IsMlBasicPiece profile p → Stops p more
+        → ml_basic_piece profile (piece_text p ++ more) ≡ Some p
     again (Plain b) more h stops = let other : (b == 0x5C) ≡ false = grind (arith, nat_tests) in rw (other, h) refl
     again (Letter letter) more h stops = rw (letter_again profile letter more h) refl
     again (Number letter digits) more h stops = rw (number_again profile letter digits more h) refl
     again (Break n) more (inl e) stops = rw e refl
     again (Break n) more (inr e) stops = rw e refl
     again (LineEnd a b c) more h stops =
-        let split : (a ++ (b ++ c)) ++ more ≡ a ++ (b ++ (c ++ more)) = append_assoc a (b ++ c) more ∙ ap (λ t. a ++ t) (append_assoc b c more) in
-        let none : escape_at profile ((a ++ (b ++ c)) ++ more) ≡ None = ap (escape_at profile) split ∙ line_end_no_escape profile a b (c ++ more) h.0 h.1 in
+        let split : (a ++ (b ++ c)) ++ more ≡ a ++ (b ++ (c ++ more)) =
+        append_assoc a (b ++ c) more ∙ ap (λ t. a ++ t) (append_assoc b c more) in
+        let none : escape_at profile ((a ++ (b ++ c)) ++ more) ≡ None =
+        ap (escape_at profile) split ∙ line_end_no_escape profile a b (c ++ more) h.0 h.1 in
         rw (none, line_end_again a b c more h.0 h.1 h.2 stops) refl
 
     some : (p : Piece) → IsMlBasicPiece profile p → 0 < length (piece_text p)
@@ -381,7 +464,14 @@ ml_basic_laws profile = record { found = found; again = again; some = some; plai
     some (LineEnd a b c) h = omega arith
 
 pub ml_literal_laws : PieceLaws IsMlLiteralPiece ml_literal_piece
-ml_literal_laws = record { found = found; again = again; some = some; plain = λ b h. (grind (arith, nat_tests), grind (arith, nat_tests)); newline = λ n h. h }
+ml_literal_laws =
+    record {
+      found = found;
+      again = again;
+      some = some;
+      plain = λ b h. (grind (arith, nat_tests), grind (arith, nat_tests));
+      newline = λ n h. h;
+    }
   where
     found : (text : List ℕ) (p : Piece) → ml_literal_piece text ≡ Some p → Begins IsMlLiteralPiece text p
     found [] p e = absurd cc
@@ -391,7 +481,8 @@ ml_literal_laws = record { found = found; again = again; some = some; plain = λ
           | inr a ↦ break_found IsMlLiteralPiece (c ∷ cs) p (rw a at e) (λ n h. h)
         ]
 
-    again : (p : Piece) (more : List ℕ) → IsMlLiteralPiece p → Stops p more → ml_literal_piece (piece_text p ++ more) ≡ Some p
+    again : (p : Piece) (more : List ℕ) → IsMlLiteralPiece p → Stops p more
+        → ml_literal_piece (piece_text p ++ more) ≡ Some p
     again (Plain b) more h stops = rw h refl
     again (Letter letter) more h stops = absurd h
     again (Number letter digits) more h stops = absurd h
@@ -407,7 +498,8 @@ ml_literal_laws = record { found = found; again = again; some = some; plain = λ
     some (LineEnd a b c) h = absurd h
 
 pub ml_basic_marks : (profile : Profile) → MarkOrNot (IsMlBasicPiece profile) 0x22
-ml_basic_marks profile (Plain b) h = elim (cases_Bool (b == 0x22)) [ inl e ↦ inl (ap Plain (eqb-true b 0x22 e)) | inr e ↦ inr (λ more. e) ]
+ml_basic_marks profile (Plain b) h =
+    elim (cases_Bool (b == 0x22)) [ inl e ↦ inl (ap Plain (eqb-true b 0x22 e)) | inr e ↦ inr (λ more. e) ]
 ml_basic_marks profile (Letter letter) h = inr (λ more. refl)
 ml_basic_marks profile (Number letter digits) h = inr (λ more. refl)
 ml_basic_marks profile (Break n) (inl e) = inr (λ more. rw e refl)
@@ -415,7 +507,8 @@ ml_basic_marks profile (Break n) (inr e) = inr (λ more. rw e refl)
 ml_basic_marks profile (LineEnd a b c) h = inr (λ more. refl)
 
 pub ml_literal_marks : MarkOrNot IsMlLiteralPiece 0x27
-ml_literal_marks (Plain b) h = elim (cases_Bool (b == 0x27)) [ inl e ↦ inl (ap Plain (eqb-true b 0x27 e)) | inr e ↦ inr (λ more. e) ]
+ml_literal_marks (Plain b) h =
+    elim (cases_Bool (b == 0x27)) [ inl e ↦ inl (ap Plain (eqb-true b 0x27 e)) | inr e ↦ inr (λ more. e) ]
 ml_literal_marks (Letter letter) h = absurd h
 ml_literal_marks (Number letter digits) h = absurd h
 ml_literal_marks (Break n) (inl e) = inr (λ more. rw e refl)

@@ -1,5 +1,6 @@
 -- The value of digits, read from the left: what is read so far, and what each further digit makes of it.
-use Rattle.std.proofs.Common.{◌≡◌, ℕ, zero, suc, ◌+◌, ◌-◌, ◌*◌, ◌^◌, ◌<◌, ◌≤◌, Bool, true, false, not, cond, ◌==◌, List, [], ◌∷◌, length, get_or, take, drop, refl, sym, ◌∙◌, arith}
+use Rattle.std.proofs.Common.{◌≡◌, ℕ, zero, suc, ◌+◌, ◌-◌, ◌*◌, ◌^◌, ◌<◌, ◌≤◌, Bool, true, false, not, cond, ◌==◌, List}
+use Rattle.std.proofs.Common.{[], ◌∷◌, length, get_or, take, drop, refl, sym, ◌∙◌, arith}
 use Rattle.std.specs.Prelude.{IsTrue, filter, Option, None, SomeIff}
 use Rattle.std.proofs.lemmas.Nat.{mul-le}
 use Rattle.std.proofs.Math.Nat.{pow-zero, pow-succ', mul-le-mul_left}
@@ -27,16 +28,19 @@ so_far_none base digits = record { same = refl; sum = omega arith }
 pub so_far_empty : (base : ℕ) (digits : List ℕ) (value : ℕ) → SoFar base digits value [] → IsBelow base digits → ⊥
 so_far_empty base digits value s p = let h = s.same in let k = p.0 in cc
 
-pub so_far_over : (base : ℕ) (digits : List ℕ) (value : ℕ) (rest : List ℕ) → length rest ≡ 0 → SoFar base digits value rest → IsBelow base digits → ⊥
+pub so_far_over : (base : ℕ) (digits : List ℕ) (value : ℕ) (rest : List ℕ) → length rest ≡ 0
+    → SoFar base digits value rest → IsBelow base digits → ⊥
 so_far_over base digits value [] e s = so_far_empty base digits value s
 so_far_over base digits value (c ∷ cs) e s = absurd (omega arith)
 
 -- a text of digits begins with one
 pub digits_prefix : (digit : ℕ → Bool) (d : ℕ) (ds : List ℕ) → is_digits digit (d ∷ ds) ≡ true → digit d ≡ true
 digits_prefix digit d [] h = h
-digits_prefix digit d (c ∷ cs) h = (and_parts (digit d) (cond (c == 0x5F) (is_digits digit cs) (is_digits digit (c ∷ cs))) h).0
+digits_prefix digit d (c ∷ cs) h =
+    (and_parts (digit d) (cond (c == 0x5F) (is_digits digit cs) (is_digits digit (c ∷ cs))) h).0
 
-pub so_far_bad : (base : ℕ) (digits : List ℕ) (value d : ℕ) (more : List ℕ) → SoFar base digits value (d ∷ more) → (digit_value d < base → ⊥) → IsBelow base digits → ⊥
+pub so_far_bad : (base : ℕ) (digits : List ℕ) (value d : ℕ) (more : List ℕ) → SoFar base digits value (d ∷ more)
+    → (digit_value d < base → ⊥) → IsBelow base digits → ⊥
 so_far_bad base digits value d more s bad p =
     let prefix = digits_prefix (is_in_base base) d more (s.same ∙ p.0) in
     bad (ltb-true _ _ prefix)
@@ -45,11 +49,14 @@ so_far_bad base digits value d more s bad p =
 digit_no_underscore : (base d : ℕ) → base ≤ 16 → digit_value d < base → is_underscore d ≡ false
 digit_no_underscore base d small h = grind (arith, nat_tests)
 
-digits_value_digit : (base d : ℕ) (more : List ℕ) → is_underscore d ≡ false → (digits_value base (d ∷ more) ≡ digit_value d * base ^ digit_count more + digits_value base more) × (digit_count (d ∷ more) ≡ suc (digit_count more))
+digits_value_digit : (base d : ℕ) (more : List ℕ) → is_underscore d ≡ false
+    → (digits_value base (d ∷ more) ≡ digit_value d * base ^ digit_count more + digits_value base more)
+    × (digit_count (d ∷ more) ≡ suc (digit_count more))
 digits_value_digit base d more e = (rw e refl, rw e refl)
 
 -- one digit more, where p is the power of the base after it
-next_digit : (value base p d more all : ℕ) → value * (base * p) + (d * p + more) ≡ all → (value * base + d) * p + more ≡ all
+next_digit : (value base p d more all : ℕ) → value * (base * p) + (d * p + more) ≡ all
+    → (value * base + d) * p + more ≡ all
 next_digit value base p d more all e = omega (arith, e)
 
 one_digit : (v all : ℕ) → v * 1 + 0 ≡ all → v ≡ all
@@ -62,24 +69,32 @@ pub record Reads (base : ℕ) (rest : List ℕ) (b : ℕ) (more : List ℕ) : Ty
   pub digit : digit_value b < base
   pub rest_is : rest ≡ b ∷ more
 
-so_far_digit : (base : ℕ) (digits : List ℕ) (value b : ℕ) (more : List ℕ) → base ≤ 16 → digit_value b < base → SoFar base digits value (b ∷ more) → (value * base + digit_value b) * base ^ digit_count more + digits_value base more ≡ digits_value base digits
+so_far_digit : (base : ℕ) (digits : List ℕ) (value b : ℕ) (more : List ℕ) → base ≤ 16 → digit_value b < base
+    → SoFar base digits value (b ∷ more)
+    → (value * base + digit_value b) * base ^ digit_count more + digits_value base more ≡ digits_value base digits
 so_far_digit base digits value b more small h s =
     let (sum, count) = digits_value_digit base b more (digit_no_underscore base b small h) in
-    let e : value * base ^ suc (digit_count more) + (digit_value b * base ^ digit_count more + digits_value base more) ≡ digits_value base digits = rw (count, sum) at s.sum in
-    next_digit value base (base ^ digit_count more) (digit_value b) (digits_value base more) (digits_value base digits) (rw (pow-succ' base (digit_count more)) at e)
+    let e : value * base ^ suc (digit_count more) + (digit_value b * base ^ digit_count more + digits_value base more)
+    ≡ digits_value base digits = rw (count, sum) at s.sum in
+    next_digit value base (base ^ digit_count more) (digit_value b) (digits_value base more) (digits_value base digits)
+    (rw (pow-succ' base (digit_count more)) at e)
 
-so_far_read : (base : ℕ) (digits : List ℕ) (value b : ℕ) (rest more : List ℕ) → Reads base rest b more → SoFar base digits value rest → (value * base + digit_value b) * base ^ digit_count more + digits_value base more ≡ digits_value base digits
+so_far_read : (base : ℕ) (digits : List ℕ) (value b : ℕ) (rest more : List ℕ) → Reads base rest b more
+    → SoFar base digits value rest
+    → (value * base + digit_value b) * base ^ digit_count more + digits_value base more ≡ digits_value base digits
 so_far_read base digits value b rest more r s = so_far_digit base digits value b more r.to r.digit (rw r.rest_is at s)
 
 pow_positive : (base n : ℕ) → 0 < base → 0 < base ^ n
 pow_positive base zero h = rw (pow-zero base) (omega arith)
-pow_positive base (suc n) h = rw (pow-succ' base n) (omega (arith, mul-le 1 1 base (base ^ n) h (pow_positive base n h)))
+pow_positive base (suc n) h =
+    rw (pow-succ' base n) (omega (arith, mul-le 1 1 base (base ^ n) h (pow_positive base n h)))
 
 at_least : (a p : ℕ) → 0 < p → a ≤ a * p
 at_least a p h = let k = mul-le-mul_left a h in omega (arith, k)
 
 -- a number past 64 bits stays past them
-pub so_far_large : (base : ℕ) (digits : List ℕ) (value b : ℕ) (rest more : List ℕ) → Reads base rest b more → SoFar base digits value rest → (value * base + digit_value b < 2 ^ 64 → ⊥) → IsBelow base digits → ⊥
+pub so_far_large : (base : ℕ) (digits : List ℕ) (value b : ℕ) (rest more : List ℕ) → Reads base rest b more
+    → SoFar base digits value rest → (value * base + digit_value b < 2 ^ 64 → ⊥) → IsBelow base digits → ⊥
 so_far_large base digits value b rest more r s large p =
     let sum = so_far_read base digits value b rest more r s in
     let positive = pow_positive base (digit_count more) (omega (arith, r.from)) in
@@ -90,37 +105,52 @@ none_left : (t : List ℕ) → length t ≡ 0 → t ≡ []
 none_left [] e = refl
 none_left (c ∷ cs) e = absurd (omega arith)
 
-pub so_far_last : (base : ℕ) (digits : List ℕ) (value b : ℕ) (rest more : List ℕ) → Reads base rest b more → SoFar base digits value rest → length more ≡ 0 → value * base + digit_value b < 2 ^ 64 → IsBelow base digits × (value * base + digit_value b ≡ digits_value base digits)
+pub so_far_last : (base : ℕ) (digits : List ℕ) (value b : ℕ) (rest more : List ℕ) → Reads base rest b more
+    → SoFar base digits value rest → length more ≡ 0 → value * base + digit_value b < 2 ^ 64
+    → IsBelow base digits × (value * base + digit_value b ≡ digits_value base digits)
 so_far_last base digits value b rest more r s empty fits =
     let none : more ≡ [] = none_left more empty in
-    let sum : value * base + digit_value b ≡ digits_value base digits = let e = so_far_read base digits value b rest more r s in let f = rw none at e in one_digit (value * base + digit_value b) (digits_value base digits) (rw (pow-zero base) at f) in
+    let sum : value * base + digit_value b ≡ digits_value base digits =
+    let e = so_far_read base digits value b rest more r s in
+    let f = rw none at e in
+    one_digit (value * base + digit_value b) (digits_value base digits) (rw (pow-zero base) at f) in
     let digit : is_in_base base b ≡ true = lt-ltb _ _ r.digit in
     let all : is_digits (is_in_base base) digits ≡ true = sym s.same ∙ rw (r.rest_is, none) digit in
     ((all, omega (arith, sum)), sum)
 
-so_far_next : (base : ℕ) (digits : List ℕ) (value b : ℕ) (rest more : List ℕ) (c : ℕ) (cs : List ℕ) → Reads base rest b more → SoFar base digits value rest → more ≡ c ∷ cs → is_digits (is_in_base base) rest ≡ cond (c == 0x5F) (is_digits (is_in_base base) cs) (is_digits (is_in_base base) (c ∷ cs))
+so_far_next : (base : ℕ) (digits : List ℕ) (value b : ℕ) (rest more : List ℕ) (c : ℕ) (cs : List ℕ)
+    → Reads base rest b more → SoFar base digits value rest → more ≡ c ∷ cs
+    → is_digits (is_in_base base) rest
+    ≡ cond (c == 0x5F) (is_digits (is_in_base base) cs) (is_digits (is_in_base base) (c ∷ cs))
 so_far_next base digits value b rest more c cs r s e =
     let digit : is_in_base base b ≡ true = lt-ltb _ _ r.digit in
     rw (r.rest_is, e, digit) refl
 
-so_far_underscore : (base : ℕ) (digits : List ℕ) (value b : ℕ) (rest more ds : List ℕ) → Reads base rest b more → SoFar base digits value rest → more ≡ 0x5F ∷ ds → SoFar base digits (value * base + digit_value b) ds
+so_far_underscore : (base : ℕ) (digits : List ℕ) (value b : ℕ) (rest more ds : List ℕ) → Reads base rest b more
+    → SoFar base digits value rest → more ≡ 0x5F ∷ ds → SoFar base digits (value * base + digit_value b) ds
 so_far_underscore base digits value b rest more ds r s e = record {
   same = sym (so_far_next base digits value b rest more 0x5F ds r s e) ∙ s.same;
   sum = rw e at (so_far_read base digits value b rest more r s);
 }
 
 -- an underscore between two digits is passed over
-pub so_far_passed : (base : ℕ) (digits : List ℕ) (value b : ℕ) (rest more : List ℕ) → Reads base rest b more → SoFar base digits value rest → 1 ≤ length more → get_or more 0 0 ≡ 0x5F → SoFar base digits (value * base + digit_value b) (take (length more - 1) (drop 1 more))
+pub so_far_passed : (base : ℕ) (digits : List ℕ) (value b : ℕ) (rest more : List ℕ) → Reads base rest b more
+    → SoFar base digits value rest → 1 ≤ length more → get_or more 0 0 ≡ 0x5F
+    → SoFar base digits (value * base + digit_value b) (take (length more - 1) (drop 1 more))
 so_far_passed base digits value b rest [] r s some is = absurd (omega arith)
 so_far_passed base digits value b rest (c ∷ cs) r s some is =
-    let spelled : take (length (c ∷ cs) - 1) cs ≡ cs = let n : length (c ∷ cs) - 1 ≡ length cs = omega arith in rw n (take_all cs) in
+    let spelled : take (length (c ∷ cs) - 1) cs ≡ cs = let n : length (c ∷ cs) - 1 ≡ length cs = omega arith in
+    rw n (take_all cs) in
     rw spelled (so_far_underscore base digits value b rest (c ∷ cs) cs r s (rw is refl))
 
-pub so_far_more : (base : ℕ) (digits : List ℕ) (value b : ℕ) (rest more : List ℕ) → Reads base rest b more → SoFar base digits value rest → 1 ≤ length more → (get_or more 0 0 ≡ 0x5F → ⊥) → SoFar base digits (value * base + digit_value b) more
+pub so_far_more : (base : ℕ) (digits : List ℕ) (value b : ℕ) (rest more : List ℕ) → Reads base rest b more
+    → SoFar base digits value rest → 1 ≤ length more → (get_or more 0 0 ≡ 0x5F → ⊥)
+    → SoFar base digits (value * base + digit_value b) more
 so_far_more base digits value b rest [] r s some other = absurd (omega arith)
 so_far_more base digits value b rest (c ∷ cs) r s some other =
     let plain : (c == 0x5F) ≡ false = grind (arith, nat_tests) in
-    let next : is_digits (is_in_base base) rest ≡ is_digits (is_in_base base) (c ∷ cs) = rw plain at (so_far_next base digits value b rest (c ∷ cs) c cs r s refl) in
+    let next : is_digits (is_in_base base) rest ≡ is_digits (is_in_base base) (c ∷ cs) =
+    rw plain at (so_far_next base digits value b rest (c ∷ cs) c cs r s refl) in
     record {
       same = sym next ∙ s.same;
       sum = so_far_read base digits value b rest (c ∷ cs) r s;

@@ -121,8 +121,8 @@ pub(crate) fn is_integer(bytes: &[u8]) -> bool
     integer_value(bytes).is_some()
 }
 
-/// The rest in which digits are still to be tested. Of digits in a row only the last can come before an underscore, so it
-/// begins at the last one that is found in whole blocks.
+/// The rest in which digits are still to be tested. Of digits in a row only the last can come before an underscore, so
+/// it begins at the last one that is found in whole blocks.
 #[inline(always)]
 fn rest_from_last_digit(bytes: &[u8]) -> &[u8]
     ensures { numbers.is_digits is_ascii_digit result.now ≡ numbers.is_digits is_ascii_digit bytes.now }

@@ -1,19 +1,23 @@
 -- What the marks at a key's path let a header do there: by what is said of the path.
 --
 -- The marks at one path let one another follow, so one of them decides for all: if headers may go through one, they may
--- go through each, and if an element may come after one, it may after each (`all_in`, whose premise is computed from the
--- table of pairs of roles). What the marks refuse is what their roles refuse (`refused_roles`); so one mention of the path
+-- go through each, and if an element may come after one, it may after each (`all_in`, whose premise is computed from
+-- the
+-- table of pairs of roles). What the marks refuse is what their roles refuse (`refused_roles`); so one mention of the
+-- path
 -- decides by the role that it has (`role_any`), as `define_continues` or `value_refuses` say. Where headers only go
 -- through the path, a table may be defined there (`through_defines`).
 --
 -- Theorems: `refused_roles`; and for each kind of mention what a header meets at its path, as `define_continues`,
 -- `define_twice`, `define_unlisted`.
-use Rattle.std.proofs.Common.{◌≡◌, ℕ, zero, suc, Bool, true, false, cond, not, ◌&&◌, ◌||◌, List, [], ◌∷◌, map, refl, sym, ap, subst, ◌∙◌, arith, Option, Some, None}
+use Rattle.std.proofs.Common.{◌≡◌, ℕ, zero, suc, Bool, true, false, cond, not, ◌&&◌, ◌||◌, List, [], ◌∷◌, map, refl}
+use Rattle.std.proofs.Common.{sym, ap, subst, ◌∙◌, arith, Option, Some, None}
 use Rattle.std.specs.Prelude.{filter}
 use Rattle.std.specs.List.{list_any, list_all, filter_map, cons_option}
 use Rattle.keep_types.specs.declared.role.Role.{Role}
 use Rattle.keep_types.specs.declared.role.Role.TheVariants.{Through, Past, Define, Element, Dotted, Value}
-use Rattle.keep_meaning.specs.Marks.{MentionKind, through, past, define, element as kinds_element, dotted, value, begun, passed, item, Mention, role_of, with_path, elements_of, marks}
+use Rattle.keep_meaning.specs.Marks.{MentionKind, through, past, define, element as kinds_element, dotted, value, begun}
+use Rattle.keep_meaning.specs.Marks.{passed, item, Mention, role_of, with_path, elements_of, marks}
 use Rattle.keep_meaning.specs.Counts.{is_value}
 use Rattle.keep_meaning.specs.Nodes.{is_at, kinds_at, has, is_through, is_define, is_element, is_dotted}
 use Rattle.keep_meaning.specs.Rules.{allows, Allows, ObeysRules}
@@ -66,7 +70,8 @@ of_each t h Element = (parts_of t h).3
 of_each t h Dotted = (parts_of t h).4
 of_each t h Value = (parts_of t h).5
 
--- a test has one answer for two roles of which one lets the other follow; for "may `Through` follow?" and "may `Element`
+-- a test has one answer for two roles of which one lets the other follow; for "may `Through` follow?" and "may
+-- `Element`
 -- follow?" this is computed from the table of all pairs
 abbrev alike : (Role → Bool) → Role → Role → Bool
 alike c x y = not (allows x y) || same (c x) (c y)
@@ -116,44 +121,59 @@ no_other : (c : Role → Bool) (rs : List Role) → list_all c rs ≡ true → l
 no_other c [] h = refl
 no_other c (r ∷ rs) h = by (c r) refl h (no_other c rs)
   where
-    by : (b : Bool) → c r ≡ b → (b && list_all c rs) ≡ true → (list_all c rs ≡ true → list_any (λ (r : Role). not (c r)) rs ≡ false) → (not (c r) || list_any (λ (r : Role). not (c r)) rs) ≡ false
+    by : (b : Bool) → c r ≡ b → (b && list_all c rs) ≡ true
+        → (list_all c rs ≡ true → list_any (λ (r : Role). not (c r)) rs ≡ false)
+        → (not (c r) || list_any (λ (r : Role). not (c r)) rs) ≡ false
     by true e h more = ap (λ (b : Bool). not b || list_any (λ (r : Role). not (c r)) rs) e ∙ more h
     by false e h more = absurd cc
 
 -- what they refuse is what their roles refuse
-pub refused_roles : (role : Role) (path : List Part) (ms : List Mention) → is_refused (marks ms) role path ≡ list_any (λ (r : Role). not (allows r role)) (roles_of (kinds_at path ms))
+pub refused_roles : (role : Role) (path : List Part) (ms : List Mention)
+    → is_refused (marks ms) role path ≡ list_any (λ (r : Role). not (allows r role)) (roles_of (kinds_at path ms))
 refused_roles role path [] = refl
 refused_roles role path (m ∷ ms) = by (role_of m.kind) refl (is_at path m) refl (refused_roles role path ms)
   where
     by : (o : Option Role) → role_of m.kind ≡ o → (b : Bool) → is_at path m ≡ b
         → is_refused (marks ms) role path ≡ list_any (λ (r : Role). not (allows r role)) (roles_of (kinds_at path ms))
-        → is_refused (marks (m ∷ ms)) role path ≡ list_any (λ (r : Role). not (allows r role)) (roles_of (kinds_at path (m ∷ ms)))
+        → is_refused (marks (m ∷ ms)) role path
+        ≡ list_any (λ (r : Role). not (allows r role)) (roles_of (kinds_at path (m ∷ ms)))
     by None o true b more = rw (b, o) more
     by None o false b more = rw (b, o) more
     by (Some r) o true b more = rw (b, o, b) (ap (λ (x : Bool). not (allows r role) || x) more)
     by (Some r) o false b more = rw (b, o, b) more
 
 -- their roles let one another follow
-lets_here : (r : Role) (path : List Part) (ms : List Mention) → AllOf (Allows (record { role = r; path = path })) (marks ms) → AllOf (Lets r) (roles_of (kinds_at path ms))
+lets_here : (r : Role) (path : List Part) (ms : List Mention)
+    → AllOf (Allows (record { role = r; path = path })) (marks ms) → AllOf (Lets r) (roles_of (kinds_at path ms))
 lets_here r path [] h = tt
 lets_here r path (m ∷ ms) h = by (role_of m.kind) refl (is_at path m) refl h (lets_here r path ms)
   where
-    by : (o : Option Role) → role_of m.kind ≡ o → (b : Bool) → is_at path m ≡ b → AllOf (Allows (record { role = r; path = path })) (cons_option (with_path m.path o) (marks ms))
-        → (AllOf (Allows (record { role = r; path = path })) (marks ms) → AllOf (Lets r) (roles_of (kinds_at path ms))) → AllOf (Lets r) (roles_of (kinds_at path (m ∷ ms)))
+    by : (o : Option Role) → role_of m.kind ≡ o → (b : Bool) → is_at path m ≡ b
+        → AllOf (Allows (record { role = r; path = path })) (cons_option (with_path m.path o) (marks ms))
+        → (AllOf (Allows (record { role = r; path = path })) (marks ms) → AllOf (Lets r) (roles_of (kinds_at path ms)))
+        → AllOf (Lets r) (roles_of (kinds_at path (m ∷ ms)))
     by None o true b h more = rw (b, o) (more h)
     by None o false b h more = rw b (more h)
     by (Some t) o true b h more = rw (b, o) (h.0 (sym (same_path-sound m.path path b)), more h.1)
     by (Some t) o false b h more = rw b (more h.1)
 
-pub roles_let : (path : List Part) (ms : List Mention) → Pairs Allows (marks ms) → Pairs Lets (roles_of (kinds_at path ms))
+pub roles_let : (path : List Part) (ms : List Mention) → Pairs Allows (marks ms)
+    → Pairs Lets (roles_of (kinds_at path ms))
 roles_let path [] h = tt
 roles_let path (m ∷ ms) h = by (role_of m.kind) refl (is_at path m) refl h (roles_let path ms)
   where
-    by : (o : Option Role) → role_of m.kind ≡ o → (b : Bool) → is_at path m ≡ b → Pairs Allows (cons_option (with_path m.path o) (marks ms))
-        → (Pairs Allows (marks ms) → Pairs Lets (roles_of (kinds_at path ms))) → Pairs Lets (roles_of (kinds_at path (m ∷ ms)))
+    by : (o : Option Role) → role_of m.kind ≡ o → (b : Bool) → is_at path m ≡ b
+        → Pairs Allows (cons_option (with_path m.path o) (marks ms))
+        → (Pairs Allows (marks ms) → Pairs Lets (roles_of (kinds_at path ms)))
+        → Pairs Lets (roles_of (kinds_at path (m ∷ ms)))
     by None o true b h more = rw (b, o) (more h)
     by None o false b h more = rw b (more h)
-    by (Some t) o true b h more = rw (b, o) (subst (λ (p : List Part). AllOf (Lets t) (roles_of (kinds_at p ms))) (same_path-sound m.path path b) (lets_here t m.path ms h.0), more h.1)
+    by (Some t) o true b h more =
+        rw (b, o) (
+          subst (λ (p : List Part). AllOf (Lets t) (roles_of (kinds_at p ms))) (same_path-sound m.path path b)
+              (lets_here t m.path ms h.0),
+          more h.1,
+        )
     by (Some t) o false b h more = rw b (more h.1)
 
 -- ---- by what is said of the path
@@ -208,22 +228,30 @@ held_role (value f) h = refl
 held_role a h = cc
 
 -- no item is at a key
-value_held : (path : List Part) (ms : List Mention) → EndsInKey path → AllOf Formed ms → list_any is_value (kinds_at path ms) ≡ true → list_any is_held (kinds_at path ms) ≡ true
+value_held : (path : List Part) (ms : List Mention) → EndsInKey path → AllOf Formed ms
+    → list_any is_value (kinds_at path ms) ≡ true → list_any is_held (kinds_at path ms) ≡ true
 value_held path [] ends formed h = absurd cc
 value_held path (m ∷ ms) ends formed h = by m.kind refl (is_at path m) refl h (value_held path ms ends formed.1)
   where
-    by : (a : MentionKind) → m.kind ≡ a → (b : Bool) → is_at path m ≡ b → list_any is_value (map (λ (m : Mention). m.kind) (cond (is_at path m) (m ∷ filter (is_at path) ms) (filter (is_at path) ms))) ≡ true
+    by : (a : MentionKind) → m.kind ≡ a → (b : Bool) → is_at path m ≡ b
+        → list_any is_value (map (λ (m : Mention). m.kind)
+        (cond (is_at path m) (m ∷ filter (is_at path) ms) (filter (is_at path) ms))) ≡ true
         → (list_any is_value (kinds_at path ms) ≡ true → list_any is_held (kinds_at path ms) ≡ true)
-        → list_any is_held (map (λ (m : Mention). m.kind) (cond (is_at path m) (m ∷ filter (is_at path) ms) (filter (is_at path) ms))) ≡ true
+        → list_any is_held (map (λ (m : Mention). m.kind)
+        (cond (is_at path m) (m ∷ filter (is_at path) ms) (filter (is_at path) ms))) ≡ true
     by a e false b h more = rw b (more (rw b at h))
     by (value f) e true b h more = rw (b, e) refl
     by (item f) e true b h more =
-        let index_end : EndsInIndex path = subst EndsInIndex (same_path-sound m.path path b) (let k : IsFormed m.kind m.path = formed.0 in subst (λ (a : MentionKind). IsFormed a m.path) e k) in
+        let index_end : EndsInIndex path =
+        subst EndsInIndex (same_path-sound m.path path b)
+        (let k : IsFormed m.kind m.path = formed.0 in subst (λ (a : MentionKind). IsFormed a m.path) e k) in
         absurd (ends_disjoint path path ends index_end refl)
     by a e true b h more = rw (b, e) (more (rw (b, e) at h))
 
 -- headers go through it alone
-through_alone : (mention_kind : List MentionKind) → list_any is_define mention_kind ≡ false → list_any is_dotted mention_kind ≡ false → list_all (λ (r : Role). allows r Through) (roles_of mention_kind) ≡ true → list_any (λ (r : Role). not (allows r Define)) (roles_of mention_kind) ≡ false
+through_alone : (mention_kind : List MentionKind) → list_any is_define mention_kind ≡ false
+    → list_any is_dotted mention_kind ≡ false → list_all (λ (r : Role). allows r Through) (roles_of mention_kind) ≡ true
+    → list_any (λ (r : Role). not (allows r Define)) (roles_of mention_kind) ≡ false
 through_alone [] d t h = refl
 through_alone (through ∷ mention_kind) d t h = through_alone mention_kind d t h
 through_alone (begun ∷ mention_kind) d t h = through_alone mention_kind d t h
@@ -232,7 +260,10 @@ through_alone ((item f) ∷ mention_kind) d t h = through_alone mention_kind d t
 through_alone (a ∷ mention_kind) d t h = absurd cc
 
 -- headers go past it at most
-past_alone : (mention_kind : List MentionKind) → list_any is_value mention_kind ≡ false → list_any is_define mention_kind ≡ false → list_any is_dotted mention_kind ≡ false → list_any is_through mention_kind ≡ false → list_all (λ (r : Role). allows r Element) (roles_of mention_kind) ≡ true
+past_alone : (mention_kind : List MentionKind) → list_any is_value mention_kind ≡ false
+    → list_any is_define mention_kind ≡ false → list_any is_dotted mention_kind ≡ false
+    → list_any is_through mention_kind ≡ false
+    → list_all (λ (r : Role). allows r Element) (roles_of mention_kind) ≡ true
 past_alone [] v d t g = refl
 past_alone (past ∷ mention_kind) v d t g = past_alone mention_kind v d t g
 past_alone (kinds_element ∷ mention_kind) v d t g = past_alone mention_kind v d t g
@@ -322,10 +353,12 @@ module _ (path : List Part) (ms : List Mention) (lets : Pairs Allows (marks ms))
       refused_roles Define path ms
       ∙ through_alone (kinds_at path ms) d t (open_by is_through Through through_role refl h)
 
-  pub past_listed : has is_value path ms ≡ false → has is_define path ms ≡ false → has is_dotted path ms ≡ false → has is_through path ms ≡ false → list_all (λ (r : Role). allows r Element) (roles_of (kinds_at path ms)) ≡ true
+  pub past_listed : has is_value path ms ≡ false → has is_define path ms ≡ false → has is_dotted path ms ≡ false
+      → has is_through path ms ≡ false → list_all (λ (r : Role). allows r Element) (roles_of (kinds_at path ms)) ≡ true
   past_listed v d t g = past_alone (kinds_at path ms) v d t g
 
-  pub value_refuses : (role : Role) → EndsInKey path → AllOf Formed ms → has is_value path ms ≡ true → is_refused (marks ms) role path ≡ true
+  pub value_refuses : (role : Role) → EndsInKey path → AllOf Formed ms → has is_value path ms ≡ true
+      → is_refused (marks ms) role path ≡ true
   value_refuses role ends formed h = refused_by role is_held Value held_role refl (value_held path ms ends formed h)
 
   -- no array of tables is where a value is
@@ -345,23 +378,32 @@ none_mentioned_by : (path : List Part) (ms : List Mention) → list_any (is_at p
 none_mentioned_by path [] h = refl
 none_mentioned_by path (m ∷ ms) h = by (is_at path m) refl h (none_mentioned_by path ms)
   where
-    by : (b : Bool) → is_at path m ≡ b → (is_at path m || list_any (is_at path) ms) ≡ false → (list_any (is_at path) ms ≡ false → kinds_at path ms ≡ []) → kinds_at path (m ∷ ms) ≡ []
+    by : (b : Bool) → is_at path m ≡ b → (is_at path m || list_any (is_at path) ms) ≡ false
+        → (list_any (is_at path) ms ≡ false → kinds_at path ms ≡ []) → kinds_at path (m ∷ ms) ≡ []
     by true e h more = let k : true ≡ false = sym (ap (λ (x : Bool). x || list_any (is_at path) ms) e) ∙ h in absurd cc
     by false e h more = rw e (more (sym (ap (λ (x : Bool). x || list_any (is_at path) ms) e) ∙ h))
 
 -- nothing is said of the path: nothing is refused there
-pub none_refuses : (role : Role) (path : List Part) (ms : List Mention) → list_any (is_at path) ms ≡ false → is_refused (marks ms) role path ≡ false
-none_refuses role path ms h = refused_roles role path ms ∙ ap (λ (mention_kind : List MentionKind). list_any (λ (r : Role). not (allows r role)) (roles_of mention_kind)) (none_mentioned_by path ms h)
+pub none_refuses : (role : Role) (path : List Part) (ms : List Mention) → list_any (is_at path) ms ≡ false
+    → is_refused (marks ms) role path ≡ false
+none_refuses role path ms h =
+    refused_roles role path ms
+    ∙ ap (λ (mention_kind : List MentionKind). list_any (λ (r : Role). not (allows r role)) (roles_of mention_kind))
+    (none_mentioned_by path ms h)
 
 -- an element is counted where one is said
-pub no_elements : (path : List Part) (ms : List Mention) → has is_element path ms ≡ false → elements_of path (tables_in ms) ≡ 0
+pub no_elements : (path : List Part) (ms : List Mention) → has is_element path ms ≡ false
+    → elements_of path (tables_in ms) ≡ 0
 no_elements path ms none = by (elements_of path (tables_in ms)) refl
   where
     by : (n : ℕ) → elements_of path (tables_in ms) ≡ n → n ≡ 0
     by zero e = refl
-    by (suc n) e = let k : true ≡ false = sym (some_has is_element path ms (counted path ms (omega (arith, e)))) ∙ none in absurd cc
+    by (suc n) e =
+        let k : true ≡ false = sym (some_has is_element path ms (counted path ms (omega (arith, e)))) ∙ none in
+        absurd cc
 
-pub none_counted : (path : List Part) (ms : List Mention) → list_any (is_at path) ms ≡ false → elements_of path (tables_in ms) ≡ 0
+pub none_counted : (path : List Part) (ms : List Mention) → list_any (is_at path) ms ≡ false
+    → elements_of path (tables_in ms) ≡ 0
 none_counted path ms h = no_elements path ms (ap (list_any is_element) (none_mentioned_by path ms h))
 
 pub lets_pass : (ms : List Mention) → ObeysRules (marks ms) → LetsPass (marks ms) (tables_in ms)

@@ -8,7 +8,8 @@
 -- lists and paths.
 --
 -- Theorems: `rules_replaced` for the rules; `fact_under` and `fact_elsewhere` for the tree.
-use Rattle.std.proofs.Common.{◌≡◌, Bool, true, false, not, cond, List, [], ◌∷◌, ◌++◌, map, refl, sym, ap, ◌∙◌, append_assoc, Option, Some, None, ◌⊎◌, inl, inr}
+use Rattle.std.proofs.Common.{◌≡◌, Bool, true, false, not, cond, List, [], ◌∷◌, ◌++◌, map, refl, sym, ap, ◌∙◌}
+use Rattle.std.proofs.Common.{append_assoc, Option, Some, None, ◌⊎◌, inl, inr}
 use Rattle.std.specs.Prelude.{⊤, filter}
 use Rattle.std.specs.List.{filter_map}
 use Rattle.std.proofs.lemmas.List.{map-append, append-nil}
@@ -16,7 +17,8 @@ use Rattle.std.proofs.lemmas.Slice.Eq.{bytes_eq-Decides}
 use Rattle.std.proofs.lemmas.Bool.{and_parts, eqb-true, eq-eqb}
 use Rattle.std.proofs.lemmas.List.Elements.{filter-append}
 use Rattle.keep_path.specs.Path.{Part, key, index, same_part, same_path}
-use Rattle.keep_meaning.specs.Marks.{MentionKind, through, past, define, element, dotted, value, begun, passed, item, Mention, below, fact_of}
+use Rattle.keep_meaning.specs.Marks.{MentionKind, through, past, define, element, dotted, value, begun, passed, item}
+use Rattle.keep_meaning.specs.Marks.{Mention, below, fact_of}
 use Rattle.keep_edit_spec.specs.Look.{strip}
 use Rattle.keep_meaning.specs.Nodes.{is_at, kinds_at, fact_at, first_of}
 
@@ -78,14 +80,21 @@ pub pairs_split : {A : Type 0} (R : A → A → Type 0) (xs ys : List A) → Pai
 pairs_split R [] ys h = record { left = tt; right = h; across = tt }
 pairs_split R (x ∷ xs) ys h =
     let r = pairs_split R xs ys h.1 in
-    record { left = (all_left (R x) xs ys h.0, r.left); right = r.right; across = (all_right (R x) xs ys h.0, r.across) }
+    record {
+      left = (all_left (R x) xs ys h.0, r.left);
+      right = r.right;
+      across = (all_right (R x) xs ys h.0, r.across);
+    }
 
 pub pairs_join : {A : Type 0} (R : A → A → Type 0) (xs ys : List A) → IsSplit R xs ys → Pairs R (xs ++ ys)
 pairs_join R [] ys h = h.right
-pairs_join R (x ∷ xs) ys h =
-    (all_join (R x) xs ys h.left.0 h.across.0, pairs_join R xs ys (record { left = h.left.1; right = h.right; across = h.across.1 }))
+pairs_join R (x ∷ xs) ys h = (
+  all_join (R x) xs ys h.left.0 h.across.0,
+  pairs_join R xs ys (record { left = h.left.1; right = h.right; across = h.across.1 }),
+)
 
-pub across_join : {A : Type 0} (R : A → A → Type 0) (xs ys zs : List A) → Across R xs ys → Across R xs zs → Across R xs (ys ++ zs)
+pub across_join : {A : Type 0} (R : A → A → Type 0) (xs ys zs : List A) → Across R xs ys → Across R xs zs
+    → Across R xs (ys ++ zs)
 across_join R [] ys zs h g = tt
 across_join R (x ∷ xs) ys zs h g = (all_join (R x) ys zs h.0 g.0, across_join R xs ys zs h.1 g.1)
 
@@ -146,30 +155,44 @@ IsUnder p m = (r : List Part) × (strip p m.path ≡ Some r)
 disjoint_under : (p : List Part) (a b : Mention) → IsDisjoint p a → IsUnder p b → a.path ≡ b.path → ⊥
 disjoint_under p a b h g e = let k : None ≡ Some g.0 = sym h ∙ ap (strip p) e ∙ g.1 in absurd cc
 
-across_disjoint : (p : List Part) (xs ys : List Mention) → AllOf (IsDisjoint p) xs → AllOf (IsUnder p) ys → Across Allowed xs ys
+across_disjoint : (p : List Part) (xs ys : List Mention) → AllOf (IsDisjoint p) xs → AllOf (IsUnder p) ys
+    → Across Allowed xs ys
 across_disjoint p [] ys h g = tt
-across_disjoint p (x ∷ xs) ys h g = (all_map (IsUnder p) (Allowed x) (λ y u e. absurd (disjoint_under p x y h.0 u e)) ys g, across_disjoint p xs ys h.1 g)
+across_disjoint p (x ∷ xs) ys h g = (
+  all_map (IsUnder p) (Allowed x) (λ y u e. absurd (disjoint_under p x y h.0 u e)) ys g,
+  across_disjoint p xs ys h.1 g,
+)
 
-across_under : (p : List Part) (xs ys : List Mention) → AllOf (IsUnder p) xs → AllOf (IsDisjoint p) ys → Across Allowed xs ys
+across_under : (p : List Part) (xs ys : List Mention) → AllOf (IsUnder p) xs → AllOf (IsDisjoint p) ys
+    → Across Allowed xs ys
 across_under p [] ys h g = tt
-across_under p (x ∷ xs) ys h g = (all_map (IsDisjoint p) (Allowed x) (λ y a e. absurd (disjoint_under p y x a h.0 (sym e))) ys g, across_under p xs ys h.1 g)
+across_under p (x ∷ xs) ys h g = (
+  all_map (IsDisjoint p) (Allowed x) (λ y a e. absurd (disjoint_under p y x a h.0 (sym e))) ys g,
+  across_under p xs ys h.1 g,
+)
 
 -- A run at and under a path, with nothing else there, may be replaced by another.
 pub rules_replaced : (p : List Part) (before old new after : List Mention) → Rules (before ++ (old ++ after))
-    → AllOf (IsDisjoint p) before → AllOf (IsDisjoint p) after → AllOf (IsUnder p) new → Rules new → Rules (before ++ (new ++ after))
+    → AllOf (IsDisjoint p) before → AllOf (IsDisjoint p) after → AllOf (IsUnder p) new → Rules new
+    → Rules (before ++ (new ++ after))
 rules_replaced p before old new after h hb hh hn rn =
     let outer = pairs_split Allowed before (old ++ after) h in
     let inner = pairs_split Allowed old after outer.right in
     pairs_join Allowed before (new ++ after) (record {
       left = outer.left;
-      right = pairs_join Allowed new after (record { left = rn; right = inner.right; across = across_under p new after hn hh });
-      across = across_join Allowed before new after (across_disjoint p before new hb hn) (across_right Allowed before old after outer.across);
+      right = pairs_join Allowed new after
+          (record { left = rn; right = inner.right; across = across_under p new after hn hh });
+      across =
+          across_join Allowed before new after (across_disjoint p before new hb hn)
+          (across_right Allowed before old after outer.across);
     })
 
 -- ---- the tree
 
 pub kinds_at-append : (q : List Part) (xs ys : List Mention) → kinds_at q (xs ++ ys) ≡ kinds_at q xs ++ kinds_at q ys
-kinds_at-append q xs ys = ap (map (λ m. m.kind)) (filter-append (is_at q) xs ys) ∙ map-append (λ m. m.kind) (filter (is_at q) xs) (filter (is_at q) ys)
+kinds_at-append q xs ys =
+    ap (map (λ m. m.kind)) (filter-append (is_at q) xs ys)
+    ∙ map-append (λ m. m.kind) (filter (is_at q) xs) (filter (is_at q) ys)
 
 -- the tests of parts and paths tell that they are equal
 pub same_part-sound : (p q : Part) → same_part p q ≡ true → p ≡ q
@@ -202,7 +225,8 @@ pub strip-append : (p r : List Part) → strip p (p ++ r) ≡ Some r
 strip-append [] r = refl
 strip-append (a ∷ p) r = rw (strip, same_part-refl a) (strip-append p r)
 
-strip_step : (a b : Part) (p q r : List Part) (c : Bool) → same_part a b ≡ c → (strip p q ≡ Some r → q ≡ p ++ r) → elim c [ true ↦ strip p q | false ↦ None ] ≡ Some r → b ∷ q ≡ a ∷ p ++ r
+strip_step : (a b : Part) (p q r : List Part) (c : Bool) → same_part a b ≡ c → (strip p q ≡ Some r → q ≡ p ++ r)
+    → elim c [ true ↦ strip p q | false ↦ None ] ≡ Some r → b ∷ q ≡ a ∷ p ++ r
 strip_step a b p q r true e ih h = let x : a ≡ b = same_part-sound a b e in let y : q ≡ p ++ r = ih h in cc
 strip_step a b p q r false e ih h = absurd cc
 
@@ -235,21 +259,29 @@ disjoint_longer s p m h = elim (none_or_some (strip (s ++ p) m.path)) [
 
 -- ---- what is said at a path
 
-pub is_at-disjoint : (p : List Part) (m : Mention) (q r : List Part) → IsDisjoint p m → strip p q ≡ Some r → (b : Bool) → is_at q m ≡ b → is_at q m ≡ false
-is_at-disjoint p m q r h u true e = let x : m.path ≡ q = same_path-sound m.path q e in let k : None ≡ Some r = sym h ∙ ap (strip p) x ∙ u in absurd cc
+pub is_at-disjoint : (p : List Part) (m : Mention) (q r : List Part) → IsDisjoint p m → strip p q ≡ Some r → (b : Bool)
+    → is_at q m ≡ b → is_at q m ≡ false
+is_at-disjoint p m q r h u true e =
+    let x : m.path ≡ q = same_path-sound m.path q e in let k : None ≡ Some r = sym h ∙ ap (strip p) x ∙ u in absurd cc
 is_at-disjoint p m q r h u false e = e
 
 -- nothing at a path under p is said by what is disjoint from p
-pub kinds_at-disjoint : (p q r : List Part) (ms : List Mention) → AllOf (IsDisjoint p) ms → strip p q ≡ Some r → kinds_at q ms ≡ []
+pub kinds_at-disjoint : (p q r : List Part) (ms : List Mention) → AllOf (IsDisjoint p) ms → strip p q ≡ Some r
+    → kinds_at q ms ≡ []
 kinds_at-disjoint p q r [] h u = refl
-kinds_at-disjoint p q r (m ∷ ms) h u = rw (is_at-disjoint p m q r h.0 u (is_at q m) refl) (kinds_at-disjoint p q r ms h.1 u)
+kinds_at-disjoint p q r (m ∷ ms) h u =
+    rw (is_at-disjoint p m q r h.0 u (is_at q m) refl) (kinds_at-disjoint p q r ms h.1 u)
 
-is_at-under : (p : List Part) (m : Mention) (q r : List Part) → strip p m.path ≡ Some r → strip p q ≡ None → (b : Bool) → is_at q m ≡ b → is_at q m ≡ false
-is_at-under p m q r h u true e = let x : m.path ≡ q = same_path-sound m.path q e in let k : None ≡ Some r = sym u ∙ ap (strip p) (sym x) ∙ h in absurd cc
+is_at-under : (p : List Part) (m : Mention) (q r : List Part) → strip p m.path ≡ Some r → strip p q ≡ None → (b : Bool)
+    → is_at q m ≡ b → is_at q m ≡ false
+is_at-under p m q r h u true e =
+    let x : m.path ≡ q = same_path-sound m.path q e in
+    let k : None ≡ Some r = sym u ∙ ap (strip p) (sym x) ∙ h in absurd cc
 is_at-under p m q r h u false e = e
 
 -- nothing elsewhere is said by what is under p
-pub kinds_at-under : (p q : List Part) (ms : List Mention) → AllOf (IsUnder p) ms → strip p q ≡ None → kinds_at q ms ≡ []
+pub kinds_at-under : (p q : List Part) (ms : List Mention) → AllOf (IsUnder p) ms → strip p q ≡ None
+    → kinds_at q ms ≡ []
 kinds_at-under p q [] h u = refl
 kinds_at-under p q (m ∷ ms) h u = rw (is_at-under p m q h.0.0 h.0.1 u (is_at q m) refl) (kinds_at-under p q ms h.1 u)
 
@@ -258,7 +290,8 @@ same_path-both : (p x r : List Part) → same_path (p ++ x) (p ++ r) ≡ same_pa
 same_path-both [] x r = refl
 same_path-both (a ∷ p) x r = rw (same_part-refl a) (same_path-both p x r)
 
-kinds_at-step : (p r : List Part) (m : Mention) (ms : List Mention) → kinds_at (p ++ r) (map (below p) ms) ≡ kinds_at r ms → (b : Bool) → is_at r m ≡ b
+kinds_at-step : (p r : List Part) (m : Mention) (ms : List Mention)
+    → kinds_at (p ++ r) (map (below p) ms) ≡ kinds_at r ms → (b : Bool) → is_at r m ≡ b
     → kinds_at (p ++ r) (map (below p) (m ∷ ms)) ≡ kinds_at r (m ∷ ms)
 kinds_at-step p r m ms h true e = rw (same_path-both p m.path r, e) (ap (λ l. m.kind ∷ l) h)
 kinds_at-step p r m ms h false e = rw (same_path-both p m.path r, e) h
@@ -268,16 +301,23 @@ kinds_at-below p r [] = refl
 kinds_at-below p r (m ∷ ms) = kinds_at-step p r m ms (kinds_at-below p r ms) (is_at r m) refl
 
 -- The facts where a run is replaced: under its path those of the run, and elsewhere those from before.
-pub fact_under : (p q r : List Part) (before new after : List Mention) → AllOf (IsDisjoint p) before → AllOf (IsDisjoint p) after → strip p q ≡ Some r
-    → fact_at q (before ++ (new ++ after)) ≡ fact_at q new
+pub fact_under : (p q r : List Part) (before new after : List Mention) → AllOf (IsDisjoint p) before
+    → AllOf (IsDisjoint p) after → strip p q ≡ Some r → fact_at q (before ++ (new ++ after)) ≡ fact_at q new
 fact_under p q r before new after hb hh u =
     ap (λ l. first_of (filter_map fact_of l))
-    (kinds_at-append q before (new ++ after) ∙ ap (λ l. l ++ kinds_at q (new ++ after)) (kinds_at-disjoint p q r before hb u)
-    ∙ kinds_at-append q new after ∙ ap (λ l. kinds_at q new ++ l) (kinds_at-disjoint p q r after hh u) ∙ append-nil (kinds_at q new))
+    (kinds_at-append q before (new ++ after)
+    ∙ ap (λ l. l ++ kinds_at q (new ++ after)) (kinds_at-disjoint p q r before hb u)
+    ∙ kinds_at-append q new after ∙ ap (λ l. kinds_at q new ++ l) (kinds_at-disjoint p q r after hh u)
+    ∙ append-nil (kinds_at q new))
 
-pub fact_elsewhere : (p q : List Part) (before old new after : List Mention) → AllOf (IsUnder p) old → AllOf (IsUnder p) new → strip p q ≡ None
+pub fact_elsewhere : (p q : List Part) (before old new after : List Mention) → AllOf (IsUnder p) old
+    → AllOf (IsUnder p) new → strip p q ≡ None
     → fact_at q (before ++ (new ++ after)) ≡ fact_at q (before ++ (old ++ after))
 fact_elsewhere p q before old new after ho hn u =
     ap (λ l. first_of (filter_map fact_of l))
-    (kinds_at-append q before (new ++ after) ∙ ap (λ l. kinds_at q before ++ l) (kinds_at-append q new after ∙ ap (λ l. l ++ kinds_at q after) (kinds_at-under p q new hn u))
-    ∙ sym (kinds_at-append q before (old ++ after) ∙ ap (λ l. kinds_at q before ++ l) (kinds_at-append q old after ∙ ap (λ l. l ++ kinds_at q after) (kinds_at-under p q old ho u))))
+    (kinds_at-append q before (new ++ after)
+    ∙ ap (λ l. kinds_at q before ++ l)
+    (kinds_at-append q new after ∙ ap (λ l. l ++ kinds_at q after) (kinds_at-under p q new hn u))
+    ∙ sym (kinds_at-append q before (old ++ after)
+    ∙ ap (λ l. kinds_at q before ++ l)
+    (kinds_at-append q old after ∙ ap (λ l. l ++ kinds_at q after) (kinds_at-under p q old ho u))))

@@ -31,11 +31,21 @@ abbrev pub EachChange : (Changed Document → Type 0) → Option (Changed Docume
 EachChange P None = ⊤
 EachChange P (Some c) = P c
 
-pub together : (profile : Profile) (s : Document) (e : Edit) (o : Option (Changed Document)) → EachTo (IsDocument profile) o → EachIs text s o → EachTo (IsLawful s e) o → EachChange (IsSetWhole profile s e) o
+pub together : (profile : Profile) (s : Document) (e : Edit) (o : Option (Changed Document))
+    → EachTo (IsDocument profile) o → EachIs text s o → EachTo (IsLawful s e) o → EachChange (IsSetWhole profile s e) o
 together profile s e None a b c = tt
-together profile s e (Some x) a b c = record { valid = a; obeys = obeys_from_rules (mentions_in x.to) c.rules; rules = c.rules; spelled = put-place_of text s x b; tree = c.tree }
+together profile s e (Some x) a b c =
+    record {
+      valid = a;
+      obeys = obeys_from_rules (mentions_in x.to) c.rules;
+      rules = c.rules;
+      spelled = put-place_of text s x b;
+      tree = c.tree;
+    }
 
-pub set_whole : (profile : Profile) (s : Document) (path : List Part) (new : Value) → IsDocument profile s → Rules (mentions_in s) → IsValue profile new → Rules (mentions_of_value new)
+pub set_whole : (profile : Profile) (s : Document) (path : List Part) (new : Value) → IsDocument profile s
+    → Rules (mentions_in s) → IsValue profile new → Rules (mentions_of_value new)
     → EachChange (IsSetWhole profile s (set path new)) (change s (set path new))
 set_whole profile s path new valid rules value_valid value_rules =
-    together profile s (set path new) (change s (set path new)) (valid_set profile s path new valid value_valid) (change-is s (set path new)) (set_law s path new rules value_rules)
+    together profile s (set path new) (change s (set path new)) (valid_set profile s path new valid value_valid)
+    (change-is s (set path new)) (set_law s path new rules value_rules)

@@ -15,7 +15,8 @@ stops [] = []
 stops (f ∷ fs) = map (below (key f ∷ [])) (record { path = []; kind = dotted } ∷ stops fs)
 
 more_keyed : (f k : List ℕ) (fs ks : List (List ℕ)) (ms : List Mention)
-    → keyed_mentions (f ∷ (fs ++ k ∷ ks)) ms ≡ map (below (key f ∷ [])) (record { path = []; kind = dotted } ∷ keyed_mentions (fs ++ k ∷ ks) ms)
+    → keyed_mentions (f ∷ (fs ++ k ∷ ks)) ms
+    ≡ map (below (key f ∷ [])) (record { path = []; kind = dotted } ∷ keyed_mentions (fs ++ k ∷ ks) ms)
 more_keyed f k [] ks ms = refl
 more_keyed f k (g ∷ fs) ks ms = refl
 
@@ -29,17 +30,21 @@ keyed_stops (f ∷ fs) k ks ms =
     more_keyed f k fs ks ms
     ∙ ap (λ (l : List Mention). map (below (key f ∷ [])) (top ∷ l)) (keyed_stops fs k ks ms)
     ∙ map-append (below (key f ∷ [])) (top ∷ stops fs) (map (below (map key fs)) run)
-    ∙ ap (λ (l : List Mention). map (below (key f ∷ [])) (top ∷ stops fs) ++ l) (map_twice (key f ∷ []) (map key fs) run)
+    ∙ ap (λ (l : List Mention). map (below (key f ∷ [])) (top ∷ stops fs) ++ l)
+    (map_twice (key f ∷ []) (map key fs) run)
 
-repeat_below : (s : List Part) (ms : List Mention) → AllOf (λ m. repeatable m.kind ≡ true) ms → AllOf (λ m. repeatable m.kind ≡ true) (map (below s) ms)
+repeat_below : (s : List Part) (ms : List Mention) → AllOf (λ m. repeatable m.kind ≡ true) ms
+    → AllOf (λ m. repeatable m.kind ≡ true) (map (below s) ms)
 repeat_below s [] h = tt
 repeat_below s (m ∷ ms) h = (h.0, repeat_below s ms h.1)
 
 pub stops_repeat : (fs : List (List ℕ)) → AllOf (λ m. repeatable m.kind ≡ true) (stops fs)
 stops_repeat [] = tt
-stops_repeat (f ∷ fs) = repeat_below (key f ∷ []) (record { path = []; kind = dotted } ∷ stops fs) (refl, stops_repeat fs)
+stops_repeat (f ∷ fs) =
+    repeat_below (key f ∷ []) (record { path = []; kind = dotted } ∷ stops fs) (refl, stops_repeat fs)
 
-pub repeats_below : (s : List Part) (fs : List (List ℕ)) → AllOf (λ m. repeatable m.kind ≡ true) (map (below s) (stops fs))
+pub repeats_below : (s : List Part) (fs : List (List ℕ))
+    → AllOf (λ m. repeatable m.kind ≡ true) (map (below s) (stops fs))
 repeats_below s fs = repeat_below s (stops fs) (stops_repeat fs)
 
 root_disjoint : (fs : List (List ℕ)) (k : Part) → strip (map key fs ++ k ∷ []) [] ≡ None
@@ -49,16 +54,19 @@ root_disjoint (f ∷ fs) k = refl
 pub stops_disjoint : (fs : List (List ℕ)) (k : Part) → AllOf (IsDisjoint (map key fs ++ k ∷ [])) (stops fs)
 stops_disjoint [] k = tt
 stops_disjoint (f ∷ fs) k =
-    disjoint_below (key f ∷ []) (map key fs ++ k ∷ []) (record { path = []; kind = dotted } ∷ stops fs) (root_disjoint fs k, stops_disjoint fs k)
+    disjoint_below (key f ∷ []) (map key fs ++ k ∷ []) (record { path = []; kind = dotted } ∷ stops fs)
+    (root_disjoint fs k, stops_disjoint fs k)
 
 -- ---- a key that continues from a path
 
-pub some_unbelow : (is : MentionKind → Bool) (s x : List Part) (ms : List Mention) → SomeOf (IsMentioned is x) (map (below s) ms) → (y : List Part) × ((x ≡ s ++ y) × SomeOf (IsMentioned is y) ms)
+pub some_unbelow : (is : MentionKind → Bool) (s x : List Part) (ms : List Mention)
+    → SomeOf (IsMentioned is x) (map (below s) ms) → (y : List Part) × ((x ≡ s ++ y) × SomeOf (IsMentioned is y) ms)
 some_unbelow is s x [] h = absurd h
 some_unbelow is s x (m ∷ ms) (inl h) = (m.path, (sym h.0, inl (refl, h.1)))
 some_unbelow is s x (m ∷ ms) (inr h) = let (y, (e, g)) = some_unbelow is s x ms h in (y, (e, inr g))
 
-pub some_mentioned_below : (is : MentionKind → Bool) (s y : List Part) (ms : List Mention) → SomeOf (IsMentioned is y) ms → SomeOf (IsMentioned is (s ++ y)) (map (below s) ms)
+pub some_mentioned_below : (is : MentionKind → Bool) (s y : List Part) (ms : List Mention)
+    → SomeOf (IsMentioned is y) ms → SomeOf (IsMentioned is (s ++ y)) (map (below s) ms)
 some_mentioned_below is s y [] h = absurd h
 some_mentioned_below is s y (m ∷ ms) (inl h) = inl (ap (λ (q : List Part). s ++ q) h.0, h.1)
 some_mentioned_below is s y (m ∷ ms) (inr h) = inr (some_mentioned_below is s y ms h)
@@ -71,10 +79,12 @@ pub record Continues (keys : List (List ℕ)) (x : List Part) : Type 0 where
   pub whole : keys ≡ (first ∷ prefix) ++ next ∷ more
   pub path : x ≡ map key (first ∷ prefix)
 
-pub dotted_prefix : (keys : List (List ℕ)) (x : List Part) → SomeOf (IsMentioned is_dotted x) (keyed_mentions keys []) → Continues keys x
+pub dotted_prefix : (keys : List (List ℕ)) (x : List Part) → SomeOf (IsMentioned is_dotted x) (keyed_mentions keys [])
+    → Continues keys x
 dotted_prefix [] x h = absurd h
 dotted_prefix (k ∷ []) x h = absurd h
-dotted_prefix (k ∷ l ∷ ks) x (inl h) = record { first = k; prefix = []; next = l; more = ks; whole = refl; path = sym h.0 }
+dotted_prefix (k ∷ l ∷ ks) x (inl h) =
+    record { first = k; prefix = []; next = l; more = ks; whole = refl; path = sym h.0 }
 dotted_prefix (k ∷ l ∷ ks) x (inr h) =
     let (y, (e, g)) = some_unbelow is_dotted (key k ∷ []) x (keyed_mentions (l ∷ ks) []) h in
     let d = dotted_prefix (l ∷ ks) y g in

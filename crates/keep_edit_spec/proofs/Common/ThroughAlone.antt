@@ -6,13 +6,17 @@
 -- under the keyval's (`dotted_lines`).
 --
 -- Theorems: `all_meet`, `none_mentioned` and `dotted_lines`.
-use Rattle.std.proofs.Common.{◌≡◌, ℕ, ◌-◌, Bool, true, false, cond, List, [], ◌∷◌, ◌++◌, map, refl, sym, ap, subst, ◌∙◌, append_assoc, Option, ◌⊎◌, inl, inr}
+use Rattle.std.proofs.Common.{◌≡◌, ℕ, ◌-◌, Bool, true, false, cond, List, [], ◌∷◌, ◌++◌, map, refl, sym, ap, subst, ◌∙◌}
+use Rattle.std.proofs.Common.{append_assoc, Option, ◌⊎◌, inl, inr}
 use Rattle.std.specs.Prelude.{◌==◌}
 use Rattle.keep_syntax.specs.Tree.{Written, Gap, Content, blank, keyval, header, element, Line}
 use Rattle.keep_path.specs.Path.{Part, key, index}
-use Rattle.keep_meaning.specs.Marks.{MentionKind, through, past, define, dotted, value, begun, passed, Mention, Reading, below, header_prefixes, passing_mentions, entered_path, elements_of}
+use Rattle.keep_meaning.specs.Marks.{MentionKind, through, past, define, dotted, value, begun, passed, Mention, Reading}
+use Rattle.keep_meaning.specs.Marks.{below, header_prefixes, passing_mentions, entered_path, elements_of}
 use Rattle.keep_meaning.specs.Marks as marks_of
-use Rattle.keep_meaning.specs.Meaning.{keys_of, key_value, further_value, keyed_mentions, valued_mentions, entries_mentions, keyval_mentions, body_fact, line_mentions, lines_mentions, after_line}
+use Rattle.keep_meaning.specs.Meaning.{keys_of, key_value, further_value, keyed_mentions, valued_mentions}
+use Rattle.keep_meaning.specs.Meaning.{entries_mentions, keyval_mentions, body_fact, line_mentions, lines_mentions}
+use Rattle.keep_meaning.specs.Meaning.{after_line}
 use Rattle.keep_meaning.specs.Nodes.{is_through, is_dotted}
 use Rattle.keep_edit_spec.specs.Lines.{last_line, leads_dotted}
 use Rattle.keep_edit_spec.proofs.Common.Runs.{AllOf, SomeOf, Rules, Allowed, kinds_allow, meet, some_left, some_right}
@@ -57,21 +61,30 @@ only_through other h = absurd cc
 abbrev Meets : List Part → Mention → Type 0
 Meets a x = x.path ≡ a → meets x.kind ≡ true
 
-all_after : (a : List Part) (m : Mention) (ms : List Mention) → m.path ≡ a → m.kind ≡ through → AllOf (Allowed m) ms → AllOf (Meets a) ms
+all_after : (a : List Part) (m : Mention) (ms : List Mention) → m.path ≡ a → m.kind ≡ through → AllOf (Allowed m) ms
+    → AllOf (Meets a) ms
 all_after a m [] e t h = tt
-all_after a m (x ∷ ms) e t h = ((λ k. after_through x.kind (ap (λ (b : MentionKind). kinds_allow b x.kind) (sym t) ∙ h.0 (e ∙ sym k))), all_after a m ms e t h.1)
+all_after a m (x ∷ ms) e t h = (
+  (λ k. after_through x.kind (ap (λ (b : MentionKind). kinds_allow b x.kind) (sym t) ∙ h.0 (e ∙ sym k))),
+  all_after a m ms e t h.1,
+)
 
-pub all_meet : (a : List Part) (ms : List Mention) → SomeOf (IsMentioned is_through a) ms → Rules ms → AllOf (Meets a) ms
+pub all_meet : (a : List Part) (ms : List Mention) → SomeOf (IsMentioned is_through a) ms → Rules ms
+    → AllOf (Meets a) ms
 all_meet a [] s rules = tt
 all_meet a (m ∷ ms) (inl s) rules =
     let t : m.kind ≡ through = only_through m.kind s.1 in
     ((λ e. ap meets t), all_after a m ms s.0 t rules.0)
 all_meet a (m ∷ ms) (inr s) rules =
-    let (x, there, lets) = meet (IsMentioned is_through a) (Allowed m) ms s rules.0 in
-    ((λ e. before_through m.kind (ap (kinds_allow m.kind) (sym (only_through x.kind there.1)) ∙ lets (e ∙ sym there.0))), all_meet a ms s rules.1)
+    let (x, there, lets) = meet (IsMentioned is_through a) (Allowed m) ms s rules.0 in (
+      (λ e. before_through m.kind (ap (kinds_allow m.kind) (sym (only_through x.kind there.1))
+          ∙ lets (e ∙ sym there.0))),
+      all_meet a ms s rules.1,
+    )
 
 -- what is never said at a path
-pub none_mentioned : (is : MentionKind → Bool) (a : List Part) (ms : List Mention) → (SomeOf (IsMentioned is a) ms → ⊥) → AllOf (λ (x : Mention). x.path ≡ a → is x.kind ≡ false) ms
+pub none_mentioned : (is : MentionKind → Bool) (a : List Part) (ms : List Mention) → (SomeOf (IsMentioned is a) ms → ⊥)
+    → AllOf (λ (x : Mention). x.path ≡ a → is x.kind ≡ false) ms
 none_mentioned is a [] never = tt
 none_mentioned is a (m ∷ ms) never = ((λ e. by (is m.kind) refl e), none_mentioned is a ms (λ s. never (inr s)))
   where
@@ -90,40 +103,62 @@ pub record IsHeldIn (a : List Part) (ms : List Mention) : Type 0 where
   pub alone : SomeOf (IsAloneAt path) ms
 
 held_more : (a : List Part) (xs ys : List Mention) → IsHeldIn a xs → IsHeldIn a (xs ++ ys)
-held_more a xs ys h = record { path = h.path; ends = h.ends; rest = h.rest; whole = h.whole; alone = some_left (IsAloneAt h.path) xs ys h.alone }
+held_more a xs ys h =
+    record {
+      path = h.path;
+      ends = h.ends;
+      rest = h.rest;
+      whole = h.whole;
+      alone = some_left (IsAloneAt h.path) xs ys h.alone;
+    }
 
 held_later : (a : List Part) (xs ys : List Mention) → IsHeldIn a ys → IsHeldIn a (xs ++ ys)
-held_later a xs ys h = record { path = h.path; ends = h.ends; rest = h.rest; whole = h.whole; alone = some_right (IsAloneAt h.path) xs ys h.alone }
+held_later a xs ys h =
+    record {
+      path = h.path;
+      ends = h.ends;
+      rest = h.rest;
+      whole = h.whole;
+      alone = some_right (IsAloneAt h.path) xs ys h.alone;
+    }
 
 keys_end : (body : List Part) (k : List ℕ) (ks : List (List ℕ)) → EndsInKey (body ++ map key (k ∷ ks))
 keys_end body k [] = (body, k, refl)
-keys_end body k (l ∷ ks) = let e = keys_end (body ++ key k ∷ []) l ks in (e.0, e.1, sym (append_assoc body (key k ∷ []) (map key (l ∷ ks))) ∙ e.2)
+keys_end body k (l ∷ ks) =
+    let e = keys_end (body ++ key k ∷ []) l ks in
+    (e.0, e.1, sym (append_assoc body (key k ∷ []) (map key (l ∷ ks))) ∙ e.2)
 
-alone_below : (s p : List Part) (ms : List Mention) → SomeOf (IsAloneAt p) ms → SomeOf (IsAloneAt (s ++ p)) (map (below s) ms)
+alone_below : (s p : List Part) (ms : List Mention) → SomeOf (IsAloneAt p) ms
+    → SomeOf (IsAloneAt (s ++ p)) (map (below s) ms)
 alone_below s p [] h = absurd h
 alone_below s p (m ∷ ms) (inl h) = inl (record { path = ap (λ (q : List Part). s ++ q) h.path; kind = h.kind })
 alone_below s p (m ∷ ms) (inr h) = inr (alone_below s p ms h)
 
 no_dotted_pass : (q a : List Part) (n : ℕ) (b : Bool)
-    → SomeOf (IsMentioned is_dotted a) (cond b (record { path = q; kind = through } ∷ []) (record { path = q; kind = past } ∷ record { path = cond b q (q ++ index n ∷ []); kind = passed } ∷ [])) → ⊥
+    → SomeOf (IsMentioned is_dotted a)
+    (cond b (record { path = q; kind = through } ∷ [])
+    (record { path = q; kind = past } ∷ record { path = cond b q (q ++ index n ∷ []); kind = passed } ∷ [])) → ⊥
 no_dotted_pass q a n true (inl h) = let no : is_dotted through ≡ true = h.1 in absurd cc
 no_dotted_pass q a n true (inr h) = h
 no_dotted_pass q a n false (inl h) = let no : is_dotted past ≡ true = h.1 in absurd cc
 no_dotted_pass q a n false (inr (inl h)) = let no : is_dotted passed ≡ true = h.1 in absurd cc
 no_dotted_pass q a n false (inr (inr h)) = h
 
-pub no_dotted_prefixes : (tables : List (List Part)) (at : List Part) (keys : List (List ℕ)) (a : List Part) → SomeOf (IsMentioned is_dotted a) (header_prefixes tables at keys) → ⊥
+pub no_dotted_prefixes : (tables : List (List Part)) (at : List Part) (keys : List (List ℕ)) (a : List Part)
+    → SomeOf (IsMentioned is_dotted a) (header_prefixes tables at keys) → ⊥
 no_dotted_prefixes tables at [] a h = h
 no_dotted_prefixes tables at (k ∷ []) a h = h
 no_dotted_prefixes tables at (k ∷ l ∷ ks) a h =
     let q : List Part = at ++ key k ∷ [] in
-    elim (some_cases (IsMentioned is_dotted a) (passing_mentions tables q) (header_prefixes tables (entered_path tables q) (l ∷ ks)) h) [
+    elim (some_cases (IsMentioned is_dotted a) (passing_mentions tables q)
+    (header_prefixes tables (entered_path tables q) (l ∷ ks)) h) [
       | inl s ↦ no_dotted_pass q a (elements_of q tables - 1) (0 == elements_of q tables) s
       | inr s ↦ no_dotted_prefixes tables (entered_path tables q) (l ∷ ks) a s
     ]
 
 dotted_by : (a : List Part) (r : Reading) (before after : Gap) (comment : Option Written) (c : Content)
-    → (let l : Line = record { before = before; content = c; after = after; comment = comment } in SomeOf (IsMentioned is_dotted a) (line_mentions r l) → (leads_dotted a r l ≡ true) ⊎ IsHeldIn a (line_mentions r l))
+    → (let l : Line = record { before = before; content = c; after = after; comment = comment } in
+    SomeOf (IsMentioned is_dotted a) (line_mentions r l) → (leads_dotted a r l ≡ true) ⊎ IsHeldIn a (line_mentions r l))
 dotted_by a r before after comment blank s = absurd s
 dotted_by a r before after comment (header b k x) s =
     elim (some_cases (IsMentioned is_dotted a) (header_prefixes r.tables [] (keys_of k)) _ s) [
@@ -142,9 +177,13 @@ dotted_by a r before after comment (keyval name v) s =
     let keys : List (List ℕ) = keys_of name.key in
     let vs : List Mention = valued_mentions (value (body_fact v.body)) (entries_mentions 0 v.nested) in
     let u = some_unbelow is_dotted r.body a (keyval_mentions name v) s in
-    let inner : SomeOf (IsMentioned is_dotted u.0) (keyed_mentions keys [] ++ map (below (map key keys)) vs) = subst (λ (l : List Mention). SomeOf (IsMentioned is_dotted u.0) l) (keyed_split keys vs) u.1.1 in
+    let inner : SomeOf (IsMentioned is_dotted u.0) (keyed_mentions keys [] ++ map (below (map key keys)) vs) =
+    subst (λ (l : List Mention). SomeOf (IsMentioned is_dotted u.0) l) (keyed_split keys vs) u.1.1 in
     elim (some_cases (IsMentioned is_dotted u.0) (keyed_mentions keys []) (map (below (map key keys)) vs) inner) [
-      | inl own ↦ inl (some_has is_dotted a (map (below r.body) (keyed_mentions keys [])) (subst (λ (p : List Part). SomeOf (IsMentioned is_dotted p) (map (below r.body) (keyed_mentions keys []))) (sym u.1.0) (mentioned_below r.body u.0 (keyed_mentions keys []) own)))
+      | inl own ↦
+          inl (some_has is_dotted a (map (below r.body) (keyed_mentions keys []))
+          (subst (λ (p : List Part). SomeOf (IsMentioned is_dotted p) (map (below r.body) (keyed_mentions keys [])))
+          (sym u.1.0) (mentioned_below r.body u.0 (keyed_mentions keys []) own)))
       | inr deep ↦
           (let w = some_unbelow is_dotted (map key keys) u.0 vs deep in
           inr (record {
@@ -154,11 +193,13 @@ dotted_by a r before after comment (keyval name v) s =
             whole = u.1.0 ∙ ap (λ (q : List Part). r.body ++ q) w.1.0 ∙ sym (append_assoc r.body (map key keys) w.0);
             alone = alone_below r.body (map key keys) (keyval_mentions name v)
                 (subst (λ (l : List Mention). SomeOf (IsAloneAt (map key keys)) l) (sym (keyed_split keys vs))
-                (some_right (IsAloneAt (map key keys)) (keyed_mentions keys []) (map (below (map key keys)) vs) (inl (record { path = no_more (map key keys); kind = refl }))));
+                (some_right (IsAloneAt (map key keys)) (keyed_mentions keys []) (map (below (map key keys)) vs)
+                (inl (record { path = no_more (map key keys); kind = refl }))));
           }))
     ]
   where
-    mentioned_below : (s y : List Part) (ms : List Mention) → SomeOf (IsMentioned is_dotted y) ms → SomeOf (IsMentioned is_dotted (s ++ y)) (map (below s) ms)
+    mentioned_below : (s y : List Part) (ms : List Mention) → SomeOf (IsMentioned is_dotted y) ms
+        → SomeOf (IsMentioned is_dotted (s ++ y)) (map (below s) ms)
     mentioned_below s y [] h = absurd h
     mentioned_below s y (m ∷ ms) (inl h) = inl (ap (λ (q : List Part). s ++ q) h.0, h.1)
     mentioned_below s y (m ∷ ms) (inr h) = inr (mentioned_below s y ms h)
@@ -167,7 +208,9 @@ dotted_by a r before after comment (keyval name v) s =
     no_more [] = refl
     no_more (x ∷ p) = ap (λ (q : List Part). x ∷ q) (no_more p)
 
-pub dotted_lines : (a : List Part) (r : Reading) (ls : List Line) → SomeOf (IsMentioned is_dotted a) (lines_mentions r ls) → IsSome (last_line (leads_dotted a) r ls) ⊎ IsHeldIn a (lines_mentions r ls)
+pub dotted_lines : (a : List Part) (r : Reading) (ls : List Line)
+    → SomeOf (IsMentioned is_dotted a) (lines_mentions r ls)
+    → IsSome (last_line (leads_dotted a) r ls) ⊎ IsHeldIn a (lines_mentions r ls)
 dotted_lines a r [] s = absurd s
 dotted_lines a r (l ∷ ls) s =
     elim (some_cases (IsMentioned is_dotted a) (line_mentions r l) (lines_mentions (after_line r l) ls) s) [

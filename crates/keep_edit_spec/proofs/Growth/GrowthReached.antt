@@ -1,4 +1,5 @@
--- The bound of growth is reached: where lines end in two bytes and the last has no newline, a further part of a table takes as much.
+-- The bound of growth is reached: where lines end in two bytes and the last has no newline, a further part of a table
+-- takes as much.
 use Rattle.std.proofs.Common.{ℕ, List, [], ◌∷◌, refl, inl, inr, arith, None, false}
 use Rattle.std.specs.Prelude.{codes}
 use Rattle.keep_types.specs.declared.leaf.Profile.{Profile}
@@ -28,7 +29,10 @@ abbrev document : Document
 document = record {
   bom = false;
   ended = record { line = line blank; newline = record { leaf = leaf.Newline; text = 0x0D ∷ 0x0A ∷ [] } } ∷ [];
-  last = line (header [] (record { first = word (codes "a"); more = record { before = []; after = []; part = word (codes "b") } ∷ [] }) []);
+  last = line (header [] (record {
+    first = word (codes "a");
+    more = record { before = []; after = []; part = word (codes "b") } ∷ [];
+  }) []);
 }
 
 -- After `insert` of `true` at a.c there are an end of the line, an empty line, the header [a], and c = true.
@@ -52,13 +56,18 @@ b_part profile = (refl, (omega arith, refl))
 headed : (profile : Profile) → IsLine profile document.last
 headed profile = record {
   before = tt;
-  content = (tt, record { first = a_part profile; more = (record { before = tt; after = tt; part = b_part profile }, tt) }, tt);
+  content = (
+    tt,
+    record { first = a_part profile; more = (record { before = tt; after = tt; part = b_part profile }, tt) },
+    tt,
+  );
   after = tt;
   comment = tt;
 }
 
 valid : (profile : Profile) → IsDocument profile document
-valid profile = record { ended = (record { line = plain profile; kind = refl; newline = inr refl }, tt); last = headed profile }
+valid profile =
+    record { ended = (record { line = plain profile; kind = refl; newline = inr refl }, tt); last = headed profile }
 
 rules : ObeysRules (marks (mentions_in document))
 rules = first_fault_after-states [] (marks (mentions_in document)) (λ i j d lt within. absurd (omega arith))
@@ -67,7 +76,8 @@ editable : (profile : Profile) → IsEditable profile standard_depth document
 editable profile = record { valid = valid profile; shallow = omega arith; obeys = rules }
 
 given : (profile : Profile) → IsGivenValue profile value
-given profile = record { valid = record { body = (refl, inl refl); nested = tt }; obeys = λ i j d lt within. absurd (omega arith) }
+given profile =
+    record { valid = record { body = (refl, inl refl); nested = tt }; obeys = λ i j d lt within. absurd (omega arith) }
 
 pub growth_reached : GrowthReachesBound
 unfolding read_one_value value_of scalar_at word_leaf

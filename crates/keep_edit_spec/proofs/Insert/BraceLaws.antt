@@ -1,5 +1,6 @@
 -- Where a keyval is put into braces, by the numbers of values.
-use Rattle.std.proofs.Common.{◌≡◌, ℕ, suc, ◌+◌, List, [], ◌∷◌, ◌++◌, length, map, drop, slice_get, refl, sym, ap, subst, ◌∙◌, append_assoc, length-append, arith, Option, Some, None, inl, inr, drop_at}
+use Rattle.std.proofs.Common.{◌≡◌, ℕ, suc, ◌+◌, List, [], ◌∷◌, ◌++◌, length, map, drop, slice_get, refl, sym, ap, subst}
+use Rattle.std.proofs.Common.{◌∙◌, append_assoc, length-append, arith, Option, Some, None, inl, inr, drop_at}
 use Rattle.keep_types.specs.declared.leaf.Profile.{Profile}
 use Rattle.keep_types.specs.declared.syntax.ValueInfo.{ValueInfo}
 use Rattle.keep_syntax.specs.Tree.{Name, Entries, none, entry, Value, Document, comma_leaves, text_of}
@@ -21,7 +22,8 @@ use Rattle.keep_edit_spec.proofs.Insert.EntryPlaces.{own_of}
 use Rattle.keep_edit_spec.proofs.Insert.EntryThere.{infos_before, here_there}
 use Rattle.keep_edit_spec.proofs.Insert.LineBefore.{IsLowPlace}
 use Rattle.keep_edit_spec.proofs.Insert.LastKeyval.{last_none, entry_last}
-use Rattle.keep_edit_spec.proofs.Insert.BracePlaces.{IsPutAfter, IsKeyvalFound, begin, RowOutcome, Placed, keyval_placed}
+use Rattle.keep_edit_spec.proofs.Insert.BracePlaces.{IsPutAfter, IsKeyvalFound, begin, RowOutcome, Placed}
+use Rattle.keep_edit_spec.proofs.Insert.BracePlaces.{keyval_placed}
 use Rattle.keep_edit_spec.proofs.Insert.PutIn.{either_none}
 
 abbrev stated_number : List Part → Document → Option ℕ
@@ -31,11 +33,14 @@ stated_number path s = last_number is_value value_number (numbered_at path (numb
 rest_none : (named : Option Name) (new : Value) (es : Entries) → put_after [] named new es ≡ None → es ≡ none
 rest_none named new none e = refl
 rest_none named new (entry name body nested after comma more) e =
-    absurd (either_none (within (entry name body nested after comma) (entry_prefix name body nested ++ (text_of after ++ text_of (comma_leaves comma))) [] (put_after [] named new more)) _ e)
+    absurd (either_none (within (entry name body nested after comma)
+    (entry_prefix name body nested ++ (text_of after ++ text_of (comma_leaves comma))) [] (put_after [] named new more))
+    _ e)
 
 -- ---- in the braces of the holder itself
 
-module _ (profile : Profile) (s : Document) (path at : List Part) (new : Value) (k : List ℕ) (ks : List (List ℕ)) (h : IsKeyvalFound profile s path at [] new k ks) (v : ℕ) (own : ValueInfo)
+module _ (profile : Profile) (s : Document) (path at : List Part) (new : Value) (k : List ℕ) (ks : List (List ℕ))
+    (h : IsKeyvalFound profile s path at [] new k ks) (v : ℕ) (own : ValueInfo)
     (number : stated_number at s ≡ Some v) (here : slice_get (syntax.values s) v ≡ Some own) where
   is_number : v ≡ length h.there.found.prefix
   is_number = one_of_two (stated_number at s) v (length h.there.found.prefix) number h.there.number
@@ -43,16 +48,19 @@ module _ (profile : Profile) (s : Document) (path at : List Part) (new : Value) 
   is_own : own ≡ h.there.found.own
   is_own =
       one_of_two (slice_get (syntax.values s) v) own h.there.found.own here
-      (ap (λ (l : List ValueInfo). slice_get l v) h.there.found.here ∙ get_here h.there.found.prefix h.there.found.own h.there.found.after v is_number)
+      (ap (λ (l : List ValueInfo). slice_get l v) h.there.found.here
+      ∙ get_here h.there.found.prefix h.there.found.own h.there.found.after v is_number)
 
   abbrev inner : List ValueInfo
   inner = entries_values (begin profile s path at [] new k ks h) h.there.found.value.nested
 
   after_is : drop (suc v) (syntax.values s) ≡ inner ++ h.there.found.others
   after_is =
-      ap (drop (suc v)) (h.there.found.here ∙ ap (λ (l : List ValueInfo). h.there.found.prefix ++ h.there.found.own ∷ l) h.there.found.within_values
+      ap (drop (suc v)) (h.there.found.here
+      ∙ ap (λ (l : List ValueInfo). h.there.found.prefix ++ h.there.found.own ∷ l) h.there.found.within_values
       ∙ sym (append_assoc h.there.found.prefix (h.there.found.own ∷ []) (inner ++ h.there.found.others)))
-      ∙ drop_at (h.there.found.prefix ++ h.there.found.own ∷ []) (inner ++ h.there.found.others) (suc v) (omega (arith, is_number, length-append h.there.found.prefix (h.there.found.own ∷ [])))
+      ∙ drop_at (h.there.found.prefix ++ h.there.found.own ∷ []) (inner ++ h.there.found.others) (suc v)
+      (omega (arith, is_number, length-append h.there.found.prefix (h.there.found.own ∷ [])))
 
   depth_is : own.depth ≡ h.there.found.begin.depth
   depth_is = ap (λ (i : ValueInfo). i.depth) (is_own ∙ h.there.found.stated)
@@ -66,10 +74,15 @@ module _ (profile : Profile) (s : Document) (path at : List Part) (new : Value) 
   pub into_empty : last ≡ None → IsLowPlace s (insert path new) (in_empty own (keys_in (map key (k ∷ ks))) new)
   into_empty e = by (keyval_placed profile s path at [] new k ks h)
     where
-      by : Placed profile s path at [] new k ks h → IsLowPlace s (insert path new) (in_empty own (keys_in (map key (k ∷ ks))) new)
-      by (inl (empty, is)) = subst (λ (i : ValueInfo). IsLowPlace s (insert path new) (in_empty i (keys_in (map key (k ∷ ks))) new)) (sym is_own) is
+      by : Placed profile s path at [] new k ks h
+          → IsLowPlace s (insert path new) (in_empty own (keys_in (map key (k ∷ ks))) new)
+      by (inl (empty, is)) =
+          subst (λ (i : ValueInfo). IsLowPlace s (insert path new) (in_empty i (keys_in (map key (k ∷ ks))) new))
+          (sym is_own) is
       by (inr b) =
-          let found = entry_last (RowOutcome profile s path at [] new k ks h) 0 (begin profile s path at [] new k ks h) h.there.found.value.nested b.entry h.there.found.others (suc v) own.depth
+          let found =
+          entry_last (RowOutcome profile s path at [] new k ks h) 0 (begin profile s path at [] new k ks h)
+          h.there.found.value.nested b.entry h.there.found.others (suc v) own.depth
           (rest_none _ new b.entry.rest b.last) (ap suc (sym depth_is)) ends in
           let no : None ≡ Some _ = sym e ∙ ap (last_keyval (suc v) own.depth) after_is ∙ found in
           absurd cc
@@ -80,19 +93,30 @@ module _ (profile : Profile) (s : Document) (path at : List Part) (new : Value) 
       by : Placed profile s path at [] new k ks h → IsPutAfter path s new (keys_in (map key (k ∷ ks))) w
       by (inl (empty, is)) =
           let none_there : last ≡ None =
-          ap (last_keyval (suc v) own.depth) (after_is ∙ ap (λ (es : Entries). entries_values (begin profile s path at [] new k ks h) es ++ h.there.found.others) empty)
+          ap (last_keyval (suc v) own.depth)
+          (after_is
+          ∙ ap (λ (es : Entries). entries_values (begin profile s path at [] new k ks h) es ++ h.there.found.others)
+          empty)
           ∙ last_none (suc v) own.depth [] h.there.found.others tt ends in
           let no : None ≡ Some w = sym none_there ∙ e in absurd cc
       by (inr b) =
           let z = b.entry in
-          let found = entry_last (RowOutcome profile s path at [] new k ks h) 0 (begin profile s path at [] new k ks h) h.there.found.value.nested z h.there.found.others (suc v) own.depth
+          let found =
+          entry_last (RowOutcome profile s path at [] new k ks h) 0 (begin profile s path at [] new k ks h)
+          h.there.found.value.nested z h.there.found.others (suc v) own.depth
           (rest_none _ new z.rest b.last) (ap suc (sym depth_is)) ends in
-          let infos : List ValueInfo = infos_before profile is_inline (put_named name_with (length (map key (k ∷ ks))) new) (map key (k ∷ ks)) at s h.changed h.there (RowOutcome profile s path at [] new k ks h) z in
-          let w_is : suc v + length z.prefix ≡ w = one_of_two last _ w (ap (last_keyval (suc v) own.depth) after_is ∙ found) e in
-          let same : w ≡ length infos = omega (arith, w_is, is_number, length-append h.there.found.prefix (h.there.found.own ∷ z.prefix)) in
+          let infos : List ValueInfo =
+          infos_before profile is_inline (put_named name_with (length (map key (k ∷ ks))) new) (map key (k ∷ ks)) at s
+          h.changed h.there (RowOutcome profile s path at [] new k ks h) z in
+          let w_is : suc v + length z.prefix ≡ w =
+          one_of_two last _ w (ap (last_keyval (suc v) own.depth) after_is ∙ found) e in
+          let same : w ≡ length infos =
+          omega (arith, w_is, is_number, length-append h.there.found.prefix (h.there.found.own ∷ z.prefix)) in
           record {
-            info = own_of (RowOutcome profile s path at [] new k ks h) 0 (begin profile s path at [] new k ks h) h.there.found.value.nested z;
+            info = own_of (RowOutcome profile s path at [] new k ks h) 0 (begin profile s path at [] new k ks h)
+                h.there.found.value.nested z;
             here = ap (slice_get (syntax.values s)) same
-                ∙ here_there profile is_inline (put_named name_with (length (map key (k ∷ ks))) new) (map key (k ∷ ks)) at s h.changed h.there (RowOutcome profile s path at [] new k ks h) z;
+                ∙ here_there profile is_inline (put_named name_with (length (map key (k ∷ ks))) new)
+                (map key (k ∷ ks)) at s h.changed h.there (RowOutcome profile s path at [] new k ks h) z;
             placed = b.is;
           }

@@ -7,7 +7,9 @@
 -- a byte of ASCII or nothing, so the place is between characters (`put_low`).
 --
 -- Theorems: `keyval_found`: the insert is done at these braces; `keyval_placed`: where it is done.
-use Rattle.std.proofs.Common.{◌≡◌, ℕ, suc, ◌+◌, ◌-◌, true, false, List, [], ◌∷◌, ◌++◌, length, map, take, slice_get, refl, sym, ap, subst, ◌∙◌, append_assoc, length-append, arith, Option, Some, None, ◌⊎◌, inl, inr}
+use Rattle.std.proofs.Common.{◌≡◌, ℕ, suc, ◌+◌, ◌-◌, true, false, List, [], ◌∷◌, ◌++◌, length, map, take, slice_get}
+use Rattle.std.proofs.Common.{refl, sym, ap, subst, ◌∙◌, append_assoc, length-append, arith, Option, Some, None, ◌⊎◌}
+use Rattle.std.proofs.Common.{inl, inr}
 use Rattle.std.proofs.lemmas.Option.{same_Some}
 use Rattle.std.specs.Prelude.{codes, IsUtf8}
 use Rattle.std.specs.List.{AllByRecursion, list_any}
@@ -16,7 +18,8 @@ use Rattle.keep_types.specs.declared.leaf.Profile.{Profile}
 use Rattle.keep_types.specs.declared.leaf.Profile.TheVariants.{Wide}
 use Rattle.keep_types.specs.declared.syntax.Start.{Start}
 use Rattle.keep_types.specs.declared.syntax.ValueInfo.{ValueInfo}
-use Rattle.keep_syntax.specs.Tree.{Name, named_leaves, Body, scalar, array, inline, Entries, none, entry, Value, Document, text_of}
+use Rattle.keep_syntax.specs.Tree.{Name, named_leaves, Body, scalar, array, inline, Entries, none, entry, Value}
+use Rattle.keep_syntax.specs.Tree.{Document, text_of}
 use Rattle.keep_syntax.specs.Grammar.{IsValue, IsBody, AreEntries, in_inline}
 use Rattle.keep_syntax.specs.declared.info.Brackets.TheVariants as brackets
 use Rattle.keep_syntax.proofs.Shared.{gap_blank, allowed_value}
@@ -47,7 +50,8 @@ use Rattle.keep_edit_spec.proofs.Insert.NewPath.{IsNewPath, new_path}
 use Rattle.keep_edit_spec.proofs.Insert.InsertWhole.{suits_there, has_lines}
 use Rattle.keep_edit_spec.proofs.Insert.InsertBraces.{no_lines, change_braces}
 use Rattle.keep_edit_spec.proofs.Insert.ItemThere.{never_whole}
-use Rattle.keep_edit_spec.proofs.Insert.BracesPlace.{is_inline, entries_inline, take_prefix, IsBracesPlace, braces_there}
+use Rattle.keep_edit_spec.proofs.Insert.BracesPlace.{is_inline, entries_inline, take_prefix, IsBracesPlace}
+use Rattle.keep_edit_spec.proofs.Insert.BracesPlace.{braces_there}
 use Rattle.keep_edit_spec.proofs.Insert.BracesStops.{rest_name, rest_keys}
 use Rattle.keep_edit_spec.proofs.Insert.NamedEntries.{IsStated}
 use Rattle.keep_edit_spec.proofs.Insert.NoLines.{value_no_lines}
@@ -62,11 +66,13 @@ use Rattle.keep_edit_spec.proofs.Insert.ItemPlaces.{bracketed_nothing, after_not
 named_nothing : (name : List (List ℕ) → Name) (rest : ℕ) (new : Value) → TakesNothing (put_named name rest new)
 named_nothing name rest new more v d e =
     of_some Nothing (put_named name rest new more v) d e
-    (bracketed_nothing (Some (name (keys_in more))) new (put_after (take (length more - rest) more) (Some (name (keys_in more))) new) v.body v.nested
+    (bracketed_nothing (Some (name (keys_in more))) new
+    (put_after (take (length more - rest) more) (Some (name (keys_in more))) new) v.body v.nested
     (λ es. after_nothing (take (length more - rest) more) (Some (name (keys_in more))) new es))
 
 -- keys of which there are some have a name
-name_is : (xs : List (List ℕ)) (k : List ℕ) (ks : List (List ℕ)) → name_of (xs ++ k ∷ ks) ≡ Some (name_with (xs ++ k ∷ ks))
+name_is : (xs : List (List ℕ)) (k : List ℕ) (ks : List (List ℕ))
+    → name_of (xs ++ k ∷ ks) ≡ Some (name_with (xs ++ k ∷ ks))
 name_is [] k ks = refl
 name_is (x ∷ xs) k ks = refl
 
@@ -79,16 +85,23 @@ pub record IsPutAfter (path : List Part) (s : Document) (new : Value) (keys : Li
 -- ---- what is done
 
 -- the keyval is put into the braces at `at`, with the keys from there on
-pub record IsKeyvalFound (profile : Profile) (s : Document) (path at dots : List Part) (new : Value) (k : List ℕ) (ks : List (List ℕ)) : Type 0 where
+pub record IsKeyvalFound (profile : Profile) (s : Document) (path at dots : List Part) (new : Value) (k : List ℕ)
+    (ks : List (List ℕ)) : Type 0 where
   pub changed : Changed Document
   pub is : change s (insert path new) ≡ Some changed
   pub place : IsBracesPlace s at dots k
   pub whole : path ≡ at ++ (dots ++ map key (k ∷ ks))
-  pub there : IsFoundThere profile is_inline (put_named name_with (length (map key (k ∷ ks))) new) (dots ++ map key (k ∷ ks)) at s changed
+  pub there : IsFoundThere profile is_inline (put_named name_with (length (map key (k ∷ ks))) new)
+      (dots ++ map key (k ∷ ks)) at s changed
 
-module _ (profile : Profile) (limit : ℕ) (s : Document) (path : List Part) (new : Value) (editable : IsEditable profile limit s) (given : IsGivenValue Wide new) (utf8 : AllByRecursion IsUtf8 (keys_in path))
-    (no_item : item_number path (mentions_in s) ≡ None) (allowed : refusal profile limit s (insert path new) ≡ None) (at dots : List Part) (whole : holder path (mentions_in s) ≡ at ++ dots)
-    (valued : has_value at (mentions_in s) ≡ true) (free : (b : Part) (bs r : List Part) → dots ≡ (b ∷ bs) ++ r → has_value (at ++ b ∷ bs) (mentions_in s) ≡ false) where
+module _ (profile : Profile) (limit : ℕ) (s : Document) (path : List Part) (new : Value)
+    (editable : IsEditable profile limit s) (given : IsGivenValue Wide new)
+    (utf8 : AllByRecursion IsUtf8 (keys_in path))
+    (no_item : item_number path (mentions_in s) ≡ None) (allowed : refusal profile limit s (insert path new) ≡ None)
+    (at dots : List Part) (whole : holder path (mentions_in s) ≡ at ++ dots)
+    (valued : has_value at (mentions_in s) ≡ true)
+    (free : (b : Part) (bs r : List Part) → dots ≡ (b ∷ bs) ++ r
+    → has_value (at ++ b ∷ bs) (mentions_in s) ≡ false) where
   abbrev ms : List Mention
   ms = mentions_in s
 
@@ -117,7 +130,8 @@ module _ (profile : Profile) (limit : ℕ) (s : Document) (path : List Part) (ne
         valued = is;
         none = free;
         fresh = subst (λ (x : List Part). AllOf (IsDisjoint (x ++ key fresh_path.first ∷ [])) ms) whole
-            (fresh_disjoint (holder path ms ++ key fresh_path.first ∷ []) (lines s) (holder path ms, fresh_path.first, refl) fresh_path.fresh);
+            (fresh_disjoint (holder path ms ++ key fresh_path.first ∷ []) (lines s)
+            (holder path ms, fresh_path.first, refl) fresh_path.fresh);
         table = subst (λ (x : List Part). is_table x ms ≡ true) whole fresh_path.table;
         named = named_of (at ++ dots) ms named_there;
       }
@@ -127,14 +141,19 @@ module _ (profile : Profile) (limit : ℕ) (s : Document) (path : List Part) (ne
       let k : List ℕ = fresh_path.first in
       let ks : List (List ℕ) = fresh_path.more in
       let rest : List Part = dots ++ map key (k ∷ ks) in
-      let path_is : path ≡ at ++ rest = fresh_path.whole ∙ ap (λ (x : List Part). x ++ map key (k ∷ ks)) whole ∙ append_assoc at dots (map key (k ∷ ks)) in
+      let path_is : path ≡ at ++ rest =
+      fresh_path.whole ∙ ap (λ (x : List Part). x ++ map key (k ∷ ks)) whole
+      ∙ append_assoc at dots (map key (k ∷ ks)) in
       let texts : AllOf (IsKeyText profile) (keys_in path) = key_texts profile (keys_in path) utf8 in
       let mine : AllOf (IsKeyText profile) (keys_in rest) =
-      all_right (IsKeyText profile) (keys_in at) (keys_in rest) (subst (AllOf (IsKeyText profile)) (ap keys_in path_is ∙ filter_map-append key_text at rest) texts) in
-      let valid : IsValue profile new = allowed_value profile new given.valid (suits_there profile limit s path new no_item allowed) in
+      all_right (IsKeyText profile) (keys_in at) (keys_in rest)
+      (subst (AllOf (IsKeyText profile)) (ap keys_in path_is ∙ filter_map-append key_text at rest) texts) in
+      let valid : IsValue profile new =
+      allowed_value profile new given.valid (suits_there profile limit s path new no_item allowed) in
       let d : IsDoneThere profile is_inline (put_named name_with (length (map key (k ∷ ks))) new) rest at s =
       braces_there profile s at dots k ks there new editable.valid rules (rest_name profile dots k ks mine) valid in
-      let lines : has_lines s (holder path ms) ≡ false = ap (has_lines s) whole ∙ value_no_lines s at dots rules alone in
+      let lines : has_lines s (holder path ms) ≡ false =
+      ap (has_lines s) whole ∙ value_no_lines s at dots rules alone in
       let is : change s (insert path new) ≡ Some d.changed =
       change_braces s path new no_item (no_lines s (holder path ms) lines)
       ∙ ap (λ (l : List Part). nested (put_named name_with (length l) new) path s) fresh_path.rest
@@ -144,13 +163,15 @@ module _ (profile : Profile) (limit : ℕ) (s : Document) (path : List Part) (ne
         is = is;
         place = there;
         whole = path_is;
-        there = found_there profile is_inline (put_named name_with (length (map key (k ∷ ks))) new) rest at s editable.valid rules
+        there = found_there profile is_inline (put_named name_with (length (map key (k ∷ ks))) new) rest at s
+            editable.valid rules
             (named_nothing name_with (length (map key (k ∷ ks))) new) d.changed d.is d.ended_is;
       }
 
 -- ---- where in the braces
 
-module _ (profile : Profile) (s : Document) (path at dots : List Part) (new : Value) (k : List ℕ) (ks : List (List ℕ)) (h : IsKeyvalFound profile s path at dots new k ks) where
+module _ (profile : Profile) (s : Document) (path at dots : List Part) (new : Value) (k : List ℕ) (ks : List (List ℕ))
+    (h : IsKeyvalFound profile s path at dots new k ks) where
   abbrev keys : List Part
   keys = map key (k ∷ ks)
 
@@ -164,7 +185,8 @@ module _ (profile : Profile) (s : Document) (path at dots : List Part) (new : Va
   v = h.there.found.value
 
   abbrev pub begin : Start
-  begin = first_in profile is_inline (put_named name_with (length (map key (k ∷ ks))) new) (dots ++ map key (k ∷ ks)) at s h.changed h.there
+  begin = first_in profile is_inline (put_named name_with (length (map key (k ∷ ks))) new)
+      (dots ++ map key (k ∷ ks)) at s h.changed h.there
 
   abbrev named : Option Name
   named = Some (name_with (keys_in rest))
@@ -188,33 +210,46 @@ module _ (profile : Profile) (s : Document) (path at dots : List Part) (new : Va
   text_is : keyed_text (keys_in rest) new ≡ text_of (named_leaves named) ++ text_of_value new
   text_is =
       let e : name_of (keys_in rest) ≡ named =
-      ap name_of (rest_keys dots k ks) ∙ name_is (keys_in dots) k ks ∙ ap (λ (l : List (List ℕ)). Some (name_with l)) (sym (rest_keys dots k ks)) in
+      ap name_of (rest_keys dots k ks) ∙ name_is (keys_in dots) k ks
+      ∙ ap (λ (l : List (List ℕ)). Some (name_with l)) (sym (rest_keys dots k ks)) in
       ap (λ (o : Option Name). text_of (named_leaves o) ++ text_of_value new) e
 
   -- bytes are put in there
-  put_low : (at : ℕ) (fresh : List ℕ) → length c.before ≡ at → c.new ≡ fresh → is_high (first c.after) ≡ false → IsLowPlace s (insert path new) (put_in at fresh)
+  put_low : (at : ℕ) (fresh : List ℕ) → length c.before ≡ at → c.new ≡ fresh → is_high (first c.after) ≡ false
+      → IsLowPlace s (insert path new) (put_in at fresh)
   put_low at fresh start e low =
       let nothing : c.old ≡ [] = h.there.found.old ∙ h.there.nothing in
       low_put s (insert path new) c (put_in at fresh) h.is nothing (put_place c at fresh nothing start e) low
 
   -- into empty braces, or after a keyval
   abbrev pub Placed : Type 0
-  Placed = ((v.nested ≡ none) × IsLowPlace s (insert path new) (in_empty h.there.found.own (keys_in rest) new)) ⊎ IsAfterKeyval
+  Placed =
+      ((v.nested ≡ none) × IsLowPlace s (insert path new) (in_empty h.there.found.own (keys_in rest) new))
+      ⊎ IsAfterKeyval
 
-  by_after : (d : Changed Entries) → put_after dots named new v.nested ≡ Some d → length c.before ≡ begin.at + length d.before → c.new ≡ d.new → c.after ≡ d.after ++ (codes "}" ++ h.there.found.beyond) → Placed
+  by_after : (d : Changed Entries) → put_after dots named new v.nested ≡ Some d
+      → length c.before ≡ begin.at + length d.before → c.new ≡ d.new
+      → c.after ≡ d.after ++ (codes "}" ++ h.there.found.beyond) → Placed
   by_after d e start fresh more =
-      let b : IsAfterEntry RowOutcome dots named new 0 begin v.nested d = of_some (IsAfterEntry RowOutcome dots named new 0 begin v.nested) (put_after dots named new v.nested) d e (after_at RowOutcome dots named new 0 begin v.nested) in
+      let b : IsAfterEntry RowOutcome dots named new 0 begin v.nested d =
+      of_some (IsAfterEntry RowOutcome dots named new 0 begin v.nested) (put_after dots named new v.nested) d e
+      (after_at RowOutcome dots named new 0 begin v.nested) in
       inr (record {
         entry = b.entry;
         goes = b.goes;
         last = b.last;
-        is = put_low (own_of RowOutcome 0 begin v.nested b.entry).span.end (codes ", " ++ keyed_text (keys_in rest) new) (omega (arith, start, b.end))
+        is = put_low (own_of RowOutcome 0 begin v.nested b.entry).span.end (codes ", " ++ keyed_text (keys_in rest) new)
+            (omega (arith, start, b.end))
             (fresh ∙ b.given ∙ ap (λ (t : List ℕ). codes ", " ++ t) (sym text_is))
-            (ap (λ (t : List ℕ). is_high (first t)) (more ∙ ap (λ (t : List ℕ). t ++ (codes "}" ++ h.there.found.beyond)) b.after)
-            ∙ back_low profile brackets.Inline b.entry.after b.entry.comma b.entry.rest (codes "}" ++ h.there.found.beyond) (b.entry.valid profile in_inline are).3 (b.entry.valid profile in_inline are).5 refl);
+            (ap (λ (t : List ℕ). is_high (first t))
+            (more ∙ ap (λ (t : List ℕ). t ++ (codes "}" ++ h.there.found.beyond)) b.after)
+            ∙ back_low profile brackets.Inline b.entry.after b.entry.comma b.entry.rest (codes "}"
+            ++ h.there.found.beyond) (b.entry.valid profile in_inline are).3 (b.entry.valid profile in_inline are).5
+            refl);
       })
 
-  by_parts : (b : Body) (es : Entries) → v.body ≡ b → v.nested ≡ es → is_inline b ≡ true → bracketed_change named new put b es ≡ Some h.there.found.done → Placed
+  by_parts : (b : Body) (es : Entries) → v.body ≡ b → v.nested ≡ es → is_inline b ≡ true
+      → bracketed_change named new put b es ≡ Some h.there.found.done → Placed
   by_parts (scalar w) es eb ei fit e = absurd cc
   by_parts (array g) es eb ei fit e = absurd cc
   by_parts (inline g) none eb ei fit e =
@@ -222,22 +257,41 @@ module _ (profile : Profile) (s : Document) (path at dots : List Part) (new : Va
       let before : h.there.found.done.before ≡ codes "{" = sym (ap (λ (x : Changed Value). x.before) j) in
       inl (
         ei,
-        put_low (suc h.there.found.own.span.start) (keyed_text (keys_in rest) new) (omega (arith, h.there.found.start, ap (λ (t : List ℕ). length t) before))
+        put_low (suc h.there.found.own.span.start) (keyed_text (keys_in rest) new)
+            (omega (arith, h.there.found.start, ap (λ (t : List ℕ). length t) before))
             (h.there.found.new ∙ sym (ap (λ (x : Changed Value). x.new) j) ∙ sym text_is)
             (ap (λ (t : List ℕ). is_high (first t))
-            (h.there.found.text_after ∙ ap (λ (t : List ℕ). t ++ h.there.found.beyond) (sym (ap (λ (x : Changed Value). x.after) j)) ∙ append_assoc (text_of g) (codes "}") h.there.found.beyond)
-            ∙ gap_low g (codes "}" ++ h.there.found.beyond) (gap_blank profile brackets.Inline g (subst (IsBody profile) eb h.there.valid.body)) refl),
+            (h.there.found.text_after
+            ∙ ap (λ (t : List ℕ). t ++ h.there.found.beyond) (sym (ap (λ (x : Changed Value). x.after) j))
+            ∙ append_assoc (text_of g) (codes "}") h.there.found.beyond)
+            ∙ gap_low g (codes "}" ++ h.there.found.beyond)
+            (gap_blank profile brackets.Inline g (subst (IsBody profile) eb h.there.valid.body)) refl),
       )
   by_parts (inline g) (entry name body nested after comma more) eb ei fit e =
       let es : Entries = entry name body nested after comma more in
-      let w = within_is (λ xs. record { body = inline g; nested = xs }) (codes "{" ++ text_of g) (codes "}") (put es) h.there.found.done e in
+      let w = within_is (λ xs. record { body = inline g; nested = xs }) (codes "{" ++ text_of g) (codes "}") (put es)
+      h.there.found.done e in
       let at : h.there.found.from + length (codes "{" ++ text_of g) ≡ begin.at =
-      omega (arith, ap (λ (x : Body). (nested_of h.there.found.begin h.there.found.from h.there.found.keys x).at) eb, length-append (codes "{") (text_of g)) in
-      let begins : h.there.found.own.span.start ≡ h.there.found.from = ap (λ (i : ValueInfo). i.span.start) h.there.found.stated in
+      omega (
+        arith,
+        ap (λ (x : Body). (nested_of h.there.found.begin h.there.found.from h.there.found.keys x).at) eb,
+        length-append (codes "{") (text_of g),
+      ) in
+      let begins : h.there.found.own.span.start ≡ h.there.found.from =
+      ap (λ (i : ValueInfo). i.span.start) h.there.found.stated in
       let start : length c.before ≡ begin.at + length w.inner.before =
-      omega (arith, h.there.found.start, begins, ap (λ (t : List ℕ). length t) w.before, length-append (codes "{" ++ text_of g) w.inner.before, at) in
-      by_after w.inner (ap (λ (x : List Part). put_after x named new v.nested) (sym (take_prefix dots keys)) ∙ ap put ei ∙ w.is) start (h.there.found.new ∙ w.new)
-      (h.there.found.text_after ∙ ap (λ (t : List ℕ). t ++ h.there.found.beyond) w.after ∙ append_assoc w.inner.after (codes "}") h.there.found.beyond)
+      omega (
+        arith,
+        h.there.found.start,
+        begins,
+        ap (λ (t : List ℕ). length t) w.before,
+        length-append (codes "{" ++ text_of g) w.inner.before,
+        at,
+      ) in
+      by_after w.inner (ap (λ (x : List Part). put_after x named new v.nested) (sym (take_prefix dots keys)) ∙ ap put ei
+      ∙ w.is) start (h.there.found.new ∙ w.new)
+      (h.there.found.text_after ∙ ap (λ (t : List ℕ). t ++ h.there.found.beyond) w.after
+      ∙ append_assoc w.inner.after (codes "}") h.there.found.beyond)
 
   pub keyval_placed : Placed
   keyval_placed = by_parts v.body v.nested refl refl h.there.fit h.there.by

@@ -1,5 +1,6 @@
 -- What comes after the place of a new entry begins with no byte of a longer character.
-use Rattle.std.proofs.Common.{◌≡◌, ℕ, ◌<◌, true, false, List, [], ◌∷◌, ◌++◌, length, drop, refl, sym, ap, subst, ◌∙◌, append_assoc, length-append, arith, Option, Some, None, drop_at}
+use Rattle.std.proofs.Common.{◌≡◌, ℕ, ◌<◌, true, false, List, [], ◌∷◌, ◌++◌, length, drop, refl, sym, ap, subst, ◌∙◌}
+use Rattle.std.proofs.Common.{append_assoc, length-append, arith, Option, Some, None, drop_at}
 use Rattle.std.specs.Prelude.{IsTrue, ◌==◌}
 use Rattle.std.specs.List.{list_all}
 use Rattle.std.proofs.lemmas.Bool.{and_parts}
@@ -35,18 +36,27 @@ leaf_low _ t x k i = absurd cc
 
 pub gap_low : (g : Gap) (x : List ℕ) → IsBlank g → is_high (first x) ≡ false → is_high (first (text_of g ++ x)) ≡ false
 gap_low [] x h low = low
-gap_low (w ∷ g) x h low = subst (λ (t : List ℕ). is_high (first t) ≡ false) (sym (append_assoc w.text (text_of g) x)) (leaf_low w.leaf w.text (text_of g ++ x) h.0 h.1)
+gap_low (w ∷ g) x h low =
+    subst (λ (t : List ℕ). is_high (first t) ≡ false) (sym (append_assoc w.text (text_of g) x))
+    (leaf_low w.leaf w.text (text_of g ++ x) h.0 h.1)
 
 -- entries, and what closes their brackets
-pub entries_low : (profile : Profile) (b : Brackets) (es : Entries) (x : List ℕ) → AreEntries profile (grammar_place b) es → (first x == close_byte b) ≡ true → is_high (first (entries_text es ++ x)) ≡ false
-entries_low profile b es x are closed = solid_low (first (entries_text es ++ x)) (entries_begin profile b es x are closed)
+pub entries_low : (profile : Profile) (b : Brackets) (es : Entries) (x : List ℕ)
+    → AreEntries profile (grammar_place b) es → (first x == close_byte b) ≡ true
+    → is_high (first (entries_text es ++ x)) ≡ false
+entries_low profile b es x are closed =
+    solid_low (first (entries_text es ++ x)) (entries_begin profile b es x are closed)
 
 -- what follows an entry
-pub back_low : (profile : Profile) (b : Brackets) (after : Gap) (comma : Option Gap) (rest : Entries) (x : List ℕ) → IsGap profile (grammar_place b) after → AreEntries profile (grammar_place b) rest → (first x == close_byte b) ≡ true
+pub back_low : (profile : Profile) (b : Brackets) (after : Gap) (comma : Option Gap) (rest : Entries) (x : List ℕ)
+    → IsGap profile (grammar_place b) after → AreEntries profile (grammar_place b) rest
+    → (first x == close_byte b) ≡ true
     → is_high (first (entry_back after comma rest ++ x)) ≡ false
 back_low profile b after comma rest x gap are closed =
-    subst (λ (t : List ℕ). is_high (first t) ≡ false) (sym (append_assoc (text_of after) (text_of (comma_leaves comma) ++ entries_text rest) x))
-    (gap_low after ((text_of (comma_leaves comma) ++ entries_text rest) ++ x) (gap_blank profile b after gap) (by comma))
+    subst (λ (t : List ℕ). is_high (first t) ≡ false)
+    (sym (append_assoc (text_of after) (text_of (comma_leaves comma) ++ entries_text rest) x))
+    (gap_low after ((text_of (comma_leaves comma) ++ entries_text rest) ++ x) (gap_blank profile b after gap)
+    (by comma))
   where
     by : (comma : Option Gap) → is_high (first ((text_of (comma_leaves comma) ++ entries_text rest) ++ x)) ≡ false
     by None = entries_low profile b rest x are closed
@@ -55,7 +65,8 @@ back_low profile b after comma rest x gap are closed =
 -- ---- seen from the document
 
 -- where bytes are put in before such a text
-pub low_put : (s : Document) (e : Edit) (c : Changed Document) (p : Place) → change s e ≡ Some c → c.old ≡ [] → place_of c ≡ p → is_high (first c.after) ≡ false → IsLowPlace s e p
+pub low_put : (s : Document) (e : Edit) (c : Changed Document) (p : Place) → change s e ≡ Some c → c.old ≡ []
+    → place_of c ≡ p → is_high (first c.after) ≡ false → IsLowPlace s e p
 low_put s e c p is nothing at low =
     let cut : IsChangeOf text s c = subst (λ (o : Option (Changed Document)). EachIs text s o) is (change-is s e) in
     let start : p.start ≡ length c.before = sym (ap (λ (q : Place). q.start) at) in

@@ -1,5 +1,7 @@
--- An act that puts something in, where it is done: at the value of the path's number, and nothing else is said at or under the path.
-use Rattle.std.proofs.Common.{◌≡◌, ℕ, ◌+◌, Bool, true, false, List, [], ◌∷◌, ◌++◌, length, map, refl, sym, ap, subst, ◌∙◌, arith, Option, Some, None}
+-- An act that puts something in, where it is done: at the value of the path's number, and nothing else is said at or
+-- under the path.
+use Rattle.std.proofs.Common.{◌≡◌, ℕ, ◌+◌, Bool, true, false, List, [], ◌∷◌, ◌++◌, length, map, refl, sym, ap, subst}
+use Rattle.std.proofs.Common.{◌∙◌, arith, Option, Some, None}
 use Rattle.std.proofs.lemmas.List.{append-nil}
 use Rattle.keep_types.specs.declared.leaf.Profile.{Profile}
 use Rattle.keep_token.specs.Pieces.{first}
@@ -18,7 +20,8 @@ use Rattle.keep_edit_spec.specs.Changed.{Changed, place_of, or_else}
 use Rattle.keep_edit_spec.specs.Values.{Act, text_of_value}
 use Rattle.keep_edit_spec.specs.Edits.{nested}
 use Rattle.keep_edit_spec.specs.Insertion.{put_in}
-use Rattle.keep_edit_spec.proofs.Common.Runs.{AllOf, Rules, pairs_split, Allowed, IsDisjoint, strip-append, fact_under, kinds_at-below}
+use Rattle.keep_edit_spec.proofs.Common.Runs.{AllOf, Rules, pairs_split, Allowed, IsDisjoint, strip-append, fact_under}
+use Rattle.keep_edit_spec.proofs.Common.Runs.{kinds_at-below}
 use Rattle.keep_edit_spec.proofs.Common.SetLaw.{rules_below}
 use Rattle.keep_edit_spec.proofs.Common.SetDocument.{valued_facts}
 use Rattle.keep_edit_spec.proofs.Common.DoneAtValue.{EachOf}
@@ -31,7 +34,8 @@ use Rattle.keep_edit_spec.proofs.Insert.DoneThere.{ended, same_value}
 abbrev pub TakesNothing : Act → Type 0
 TakesNothing act = (more : List Part) (v : Value) (d : Changed Value) → act more v ≡ Some d → d.old ≡ []
 
-pub record IsFoundThere (profile : Profile) (fits : Body → Bool) (act : Act) (rest path : List Part) (s : Document) (c : Changed Document) : Type 0 where
+pub record IsFoundThere (profile : Profile) (fits : Body → Bool) (act : Act) (rest path : List Part) (s : Document)
+    (c : Changed Document) : Type 0 where
   pub found : IsFoundIn (ended fits act rest) (Valid_document s) 0 path (mentions_in s) (syntax.values s) c
   pub place : found.mention.path ≡ path
   pub fit : fits found.value.body ≡ true
@@ -40,7 +44,9 @@ pub record IsFoundThere (profile : Profile) (fits : Body → Bool) (act : Act) (
   pub number : last_number is_value value_number (numbered_at path (numbered_in s)) ≡ Some (length found.prefix)
   pub valid : IsValue profile found.value
   pub rules : Rules (entries_mentions 0 found.value.nested)
-  pub whole : mentions_in s ≡ found.earlier ++ (map (below path) (valued_mentions found.mention.kind (entries_mentions 0 found.value.nested)) ++ found.further)
+  pub whole : mentions_in s ≡ found.earlier
+      ++ (map (below path) (valued_mentions found.mention.kind (entries_mentions 0 found.value.nested))
+      ++ found.further)
   pub disjoint_before : AllOf (IsDisjoint path) found.earlier
   pub disjoint_after : AllOf (IsDisjoint path) found.further
   pub facts : (q : List Part) → fact_at (path ++ q) (mentions_in s) ≡ fact_at q (mentions_of_value found.value)
@@ -49,7 +55,8 @@ pub record IsFoundThere (profile : Profile) (fits : Body → Bool) (act : Act) (
 -- a value has a text
 never_empty : (profile : Profile) (v : Value) → IsValue profile v → value_text v ≡ [] → ⊥
 never_empty profile v valid e =
-    let k : is_solid (first (value_text v ++ [])) ≡ true = value_first_solid (first (value_text v ++ [])) (value_begins profile v [] valid) in
+    let k : is_solid (first (value_text v ++ [])) ≡ true =
+    value_first_solid (first (value_text v ++ [])) (value_begins profile v [] valid) in
     let n : is_solid (first ([] ++ [])) ≡ true = subst (λ (t : List ℕ). is_solid (first (t ++ [])) ≡ true) e k in
     absurd cc
 
@@ -58,19 +65,23 @@ record IsActed (fits : Body → Bool) (act : Act) (rest : List Part) (v : Value)
   fit : fits v.body ≡ true
   by : act rest v ≡ Some d
 
-acted : (fits : Body → Bool) (act : Act) (rest : List Part) (v : Value) (d : Changed Value) → (text_of_value v ≡ [] → ⊥) → d.old ≡ [] → ended fits act rest [] v ≡ Some d → IsActed fits act rest v d
+acted : (fits : Body → Bool) (act : Act) (rest : List Part) (v : Value) (d : Changed Value) → (text_of_value v ≡ [] → ⊥)
+    → d.old ≡ [] → ended fits act rest [] v ≡ Some d → IsActed fits act rest v d
 acted fits act rest v d some nothing e = by (fits v.body) refl (act rest v) refl e
   where
     same : same_value v ≡ d → ⊥
     same k = some (ap (λ (x : Changed Value). x.old) k ∙ nothing)
 
     by : (b : Bool) → fits v.body ≡ b → (o : Option (Changed Value)) → act rest v ≡ o
-        → ◌≡◌ {A = Option (Changed Value)} (elim b [ true ↦ or_else o (Some (same_value v)) | false ↦ Some (same_value v) ]) (Some d) → IsActed fits act rest v d
+        → ◌≡◌ {A = Option (Changed Value)}
+        (elim b [ true ↦ or_else o (Some (same_value v)) | false ↦ Some (same_value v) ]) (Some d)
+        → IsActed fits act rest v d
     by true f (Some x) k w = let z : x ≡ d = cc in record { fit = f; by = k ∙ ap Some z }
     by true f None k w = absurd (same (let z : same_value v ≡ d = cc in z))
     by false f o k w = absurd (same (let z : same_value v ≡ d = cc in z))
 
-module _ (profile : Profile) (fits : Body → Bool) (act : Act) (rest path : List Part) (s : Document) (valid : IsDocument profile s) (rules : Rules (mentions_in s)) (takes : TakesNothing act) (c : Changed Document)
+module _ (profile : Profile) (fits : Body → Bool) (act : Act) (rest path : List Part) (s : Document)
+    (valid : IsDocument profile s) (rules : Rules (mentions_in s)) (takes : TakesNothing act) (c : Changed Document)
     (is : nested act (path ++ rest) s ≡ Some c) (ended_is : nested (ended fits act rest) path s ≡ Some c) where
   abbrev only : Act
   only = ended fits act rest
@@ -79,40 +90,51 @@ module _ (profile : Profile) (fits : Body → Bool) (act : Act) (rest path : Lis
   Found = IsFoundIn only (Valid_document s) 0 path (mentions_in s) (syntax.values s) c
 
   found : Found
-  found = subst (EachOf (IsFoundIn only (Valid_document s) 0 path (mentions_in s) (syntax.values s))) ended_is (found_nested only path s)
+  found = subst (EachOf (IsFoundIn only (Valid_document s) 0 path (mentions_in s) (syntax.values s))) ended_is
+      (found_nested only path s)
 
   none_taken : c.old ≡ []
   none_taken =
       let h : IsFoundIn act (Valid_document s) 0 (path ++ rest) (mentions_in s) (syntax.values s) c =
-      subst (EachOf (IsFoundIn act (Valid_document s) 0 (path ++ rest) (mentions_in s) (syntax.values s))) is (found_nested act (path ++ rest) s) in
+      subst (EachOf (IsFoundIn act (Valid_document s) 0 (path ++ rest) (mentions_in s) (syntax.values s))) is
+      (found_nested act (path ++ rest) s) in
       h.old ∙ takes h.more h.value h.done h.by
 
   by_more : (h : Found) (more : List Part) → h.more ≡ more → IsFoundThere profile fits act rest path s c
   by_more h (p ∷ ps) e = let k : None ≡ Some h.done = ap (λ (q : List Part). only q h.value) (sym e) ∙ h.by in absurd cc
   by_more h [] e =
-      let place : h.mention.path ≡ path = sym (append-nil h.mention.path) ∙ ap (λ (q : List Part). h.mention.path ++ q) (sym e) ∙ sym h.place in
+      let place : h.mention.path ≡ path =
+      sym (append-nil h.mention.path) ∙ ap (λ (q : List Part). h.mention.path ++ q) (sym e) ∙ sym h.place in
       let nothing : h.done.old ≡ [] = sym h.old ∙ none_taken in
       let v : Value = h.value in
       let own_valid : IsValue profile v = h.valid profile valid in
-      let a : IsActed fits act rest v h.done = acted fits act rest v h.done (never_empty profile v own_valid) nothing (ap (λ (q : List Part). only q v) (sym e) ∙ h.by) in
+      let a : IsActed fits act rest v h.done =
+      acted fits act rest v h.done (never_empty profile v own_valid) nothing
+      (ap (λ (q : List Part). only q v) (sym e) ∙ h.by) in
       let disjoint = h.disjoint rules in
-      let before : AllOf (IsDisjoint path) h.earlier = subst (λ (q : List Part). AllOf (IsDisjoint q) h.earlier) place disjoint.0 in
-      let after : AllOf (IsDisjoint path) h.further = subst (λ (q : List Part). AllOf (IsDisjoint q) h.further) place disjoint.1 in
+      let before : AllOf (IsDisjoint path) h.earlier =
+      subst (λ (q : List Part). AllOf (IsDisjoint q) h.earlier) place disjoint.0 in
+      let after : AllOf (IsDisjoint path) h.further =
+      subst (λ (q : List Part). AllOf (IsDisjoint q) h.further) place disjoint.1 in
       let inner : List Mention = entries_mentions 0 v.nested in
       let own : List Mention = valued_mentions h.mention.kind inner in
       let top : h.mention ≡ below path (record { path = []; kind = h.mention.kind }) =
       ap (λ (q : List Part). record { path = q; kind = h.mention.kind }) (place ∙ sym (append-nil path)) in
       let whole : mentions_in s ≡ h.earlier ++ (map (below path) own ++ h.further) =
       h.mentioned
-      ∙ ap (λ (l : List Mention). h.earlier ++ h.mention ∷ l) (h.within_mentioned ∙ ap (λ (q : List Part). map (below q) inner ++ h.further) place)
+      ∙ ap (λ (l : List Mention). h.earlier ++ h.mention ∷ l)
+      (h.within_mentioned ∙ ap (λ (q : List Part). map (below q) inner ++ h.further) place)
       ∙ ap (λ (m : Mention). h.earlier ++ m ∷ (map (below path) inner ++ h.further)) top in
-      let mine : Rules own = rules_below path own (pairs_split Allowed (map (below path) own) h.further (pairs_split Allowed h.earlier (map (below path) own ++ h.further) (subst Rules whole rules)).right).left in
+      let mine : Rules own =
+      rules_below path own (pairs_split Allowed (map (below path) own) h.further
+      (pairs_split Allowed h.earlier (map (below path) own ++ h.further) (subst Rules whole rules)).right).left in
       record {
         found = h;
         place = place;
         fit = a.fit;
         by = a.by;
-        here = value_at_split path s h.earlier h.mention h.later h.prefix h.own h.after rules h.mentioned place h.tells h.here h.count;
+        here = value_at_split path s h.earlier h.mention h.later h.prefix h.own h.after rules h.mentioned place h.tells
+            h.here h.count;
         number = number_of_value path s h.earlier h.mention h.later rules h.mentioned place h.tells ∙ ap Some h.count;
         valid = own_valid;
         rules = mine.1;
@@ -121,7 +143,8 @@ module _ (profile : Profile) (fits : Body → Bool) (act : Act) (rest path : Lis
         disjoint_after = after;
         facts = λ q.
             ap (fact_at (path ++ q)) whole
-            ∙ fact_under path (path ++ q) q h.earlier (map (below path) own) h.further before after (strip-append path q)
+            ∙ fact_under path (path ++ q) q h.earlier (map (below path) own) h.further before after
+            (strip-append path q)
             ∙ ap (λ l. first_of (filter_map fact_of l)) (kinds_at-below path q own)
             ∙ valued_facts h.mention.kind (item (body_fact v.body)) inner q h.fact (same_path [] q) refl;
         nothing = nothing;
@@ -131,6 +154,8 @@ module _ (profile : Profile) (fits : Body → Bool) (act : Act) (rest path : Lis
   found_there = by_more found found.more refl
 
 -- bytes are put in there
-pub put_place : (c : Changed Document) (at : ℕ) (new : List ℕ) → c.old ≡ [] → length c.before ≡ at → c.new ≡ new → place_of c ≡ put_in at new
+pub put_place : (c : Changed Document) (at : ℕ) (new : List ℕ) → c.old ≡ [] → length c.before ≡ at → c.new ≡ new
+    → place_of c ≡ put_in at new
 put_place c at new nothing start is =
-    same_place (length c.before) at (length c.before + length c.old) at c.new new start (omega (arith, start, ap (λ (t : List ℕ). length t) nothing)) is
+    same_place (length c.before) at (length c.before + length c.old) at c.new new start
+    (omega (arith, start, ap (λ (t : List ℕ). length t) nothing)) is

@@ -1,11 +1,13 @@
 -- The prefix of a header's way, up to a path that the header goes through.
-use Rattle.std.proofs.Common.{◌≡◌, ℕ, ◌-◌, Bool, true, false, cond, List, [], ◌∷◌, ◌++◌, length, refl, sym, ap, ◌∙◌, append_assoc, length-append, arith, inl, inr}
+use Rattle.std.proofs.Common.{◌≡◌, ℕ, ◌-◌, Bool, true, false, cond, List, [], ◌∷◌, ◌++◌, length, refl, sym, ap, ◌∙◌}
+use Rattle.std.proofs.Common.{append_assoc, length-append, arith, inl, inr}
 use Rattle.std.specs.Prelude.{◌==◌}
 use Rattle.std.proofs.lemmas.List.{append-nil}
 use Rattle.std.proofs.lemmas.List.Elements.{filter_map-append}
 use Rattle.std.proofs.lemmas.List.Sums.{sum_by-append}
 use Rattle.keep_path.specs.Path.{Part, key, index, same_path}
-use Rattle.keep_meaning.specs.Marks.{through, past, passed, Mention, header_path, header_prefixes, passing_mentions, entered_path, elements_of}
+use Rattle.keep_meaning.specs.Marks.{through, past, passed, Mention, header_path, header_prefixes, passing_mentions}
+use Rattle.keep_meaning.specs.Marks.{entered_path, elements_of}
 use Rattle.keep_meaning.specs.Nodes.{is_through}
 use Rattle.keep_edit_spec.specs.Look.{keys_in, key_text}
 use Rattle.keep_edit_spec.proofs.Common.Runs.{AllOf, SomeOf, all_join, same_path-sound}
@@ -19,24 +21,30 @@ pub record IsLonger (at path : List Part) : Type 0 where
   pub more : List Part
   pub is : path ≡ at ++ part ∷ more
 
-longer_by : (at rest path : List Part) (k : List ℕ) (b : Bool) (n : ℕ) → IsLonger (cond b (at ++ key k ∷ []) ((at ++ key k ∷ []) ++ index n ∷ [])) path → IsLonger at path
-longer_by at rest path k true n h = record { part = key k; more = h.part ∷ h.more; is = h.is ∙ append_assoc at (key k ∷ []) (h.part ∷ h.more) }
+longer_by : (at rest path : List Part) (k : List ℕ) (b : Bool) (n : ℕ)
+    → IsLonger (cond b (at ++ key k ∷ []) ((at ++ key k ∷ []) ++ index n ∷ [])) path → IsLonger at path
+longer_by at rest path k true n h =
+    record { part = key k; more = h.part ∷ h.more; is = h.is ∙ append_assoc at (key k ∷ []) (h.part ∷ h.more) }
 longer_by at rest path k false n h =
     record {
       part = key k;
       more = index n ∷ h.part ∷ h.more;
-      is = h.is ∙ append_assoc (at ++ key k ∷ []) (index n ∷ []) (h.part ∷ h.more) ∙ append_assoc at (key k ∷ []) (index n ∷ h.part ∷ h.more);
+      is = h.is ∙ append_assoc (at ++ key k ∷ []) (index n ∷ []) (h.part ∷ h.more)
+          ∙ append_assoc at (key k ∷ []) (index n ∷ h.part ∷ h.more);
     }
 
-pub path_longer : (tables : List (List Part)) (at : List Part) (k : List ℕ) (ks : List (List ℕ)) → IsLonger at (header_path tables at (k ∷ ks))
+pub path_longer : (tables : List (List Part)) (at : List Part) (k : List ℕ) (ks : List (List ℕ))
+    → IsLonger at (header_path tables at (k ∷ ks))
 path_longer tables at k [] = record { part = key k; more = []; is = refl }
 path_longer tables at k (l ∷ ks) =
     let q : List Part = at ++ key k ∷ [] in
-    longer_by at [] (header_path tables (entered_path tables q) (l ∷ ks)) k (0 == elements_of q tables) (elements_of q tables - 1) (path_longer tables (entered_path tables q) l ks)
+    longer_by at [] (header_path tables (entered_path tables q) (l ∷ ks)) k (0 == elements_of q tables)
+    (elements_of q tables - 1) (path_longer tables (entered_path tables q) l ks)
 
 -- ---- the prefix
 
-pub record LeadsThrough (tables : List (List Part)) (at : List Part) (keys : List (List ℕ)) (a : List Part) : Type 0 where
+pub record LeadsThrough (tables : List (List Part)) (at : List Part) (keys : List (List ℕ)) (a : List Part) : Type
+    0 where
   pub first : List ℕ
   pub prefix : List (List ℕ)
   pub path : a ≡ header_path tables at (first ∷ prefix)
@@ -45,7 +53,9 @@ pub record LeadsThrough (tables : List (List Part)) (at : List Part) (keys : Lis
   pub longer : IsLonger a (header_path tables at keys)
 
 passes_here : (tables : List (List Part)) (q a : List Part) (n : ℕ) (b : Bool)
-    → SomeOf (IsMentioned is_through a) (cond b (record { path = q; kind = through } ∷ []) (record { path = q; kind = past } ∷ record { path = cond b q (q ++ index n ∷ []); kind = passed } ∷ []))
+    → SomeOf (IsMentioned is_through a)
+    (cond b (record { path = q; kind = through } ∷ [])
+    (record { path = q; kind = past } ∷ record { path = cond b q (q ++ index n ∷ []); kind = passed } ∷ []))
     → (q ≡ a) × (b ≡ true)
 passes_here tables q a n true (inl h) = (h.0, refl)
 passes_here tables q a n true (inr h) = absurd h
@@ -53,17 +63,28 @@ passes_here tables q a n false (inl h) = let no : is_through past ≡ true = h.1
 passes_here tables q a n false (inr (inl h)) = let no : is_through passed ≡ true = h.1 in absurd cc
 passes_here tables q a n false (inr (inr h)) = absurd h
 
-pub through_prefix : (tables : List (List Part)) (at : List Part) (keys : List (List ℕ)) (a : List Part) → SomeOf (IsMentioned is_through a) (header_prefixes tables at keys) → LeadsThrough tables at keys a
+pub through_prefix : (tables : List (List Part)) (at : List Part) (keys : List (List ℕ)) (a : List Part)
+    → SomeOf (IsMentioned is_through a) (header_prefixes tables at keys) → LeadsThrough tables at keys a
 through_prefix tables at [] a h = absurd h
 through_prefix tables at (k ∷ []) a h = absurd h
 through_prefix tables at (k ∷ l ∷ ks) a h =
     let q : List Part = at ++ key k ∷ [] in
-    elim (some_cases (IsMentioned is_through a) (passing_mentions tables q) (header_prefixes tables (entered_path tables q) (l ∷ ks)) h) [
+    elim (some_cases (IsMentioned is_through a) (passing_mentions tables q)
+    (header_prefixes tables (entered_path tables q) (l ∷ ks)) h) [
       | inl p ↦
           (let (same, none) = passes_here tables q a (elements_of q tables - 1) (0 == elements_of q tables) p in
-          let stays : entered_path tables q ≡ a = ap (λ (b : Bool). cond b q (q ++ index (elements_of q tables - 1) ∷ [])) none ∙ same in
+          let stays : entered_path tables q ≡ a =
+          ap (λ (b : Bool). cond b q (q ++ index (elements_of q tables - 1) ∷ [])) none ∙ same in
           let g = path_longer tables (entered_path tables q) l ks in
-          record { first = k; prefix = []; path = sym same; others = header_prefixes tables at (k ∷ l ∷ ks); prefixes = refl; longer = record { part = g.part; more = g.more; is = g.is ∙ ap (λ (x : List Part). x ++ g.part ∷ g.more) stays } })
+          record {
+            first = k;
+            prefix = [];
+            path = sym same;
+            others = header_prefixes tables at (k ∷ l ∷ ks);
+            prefixes = refl;
+            longer =
+                record { part = g.part; more = g.more; is = g.is ∙ ap (λ (x : List Part). x ++ g.part ∷ g.more) stays };
+          })
       | inr r ↦
           (let g = through_prefix tables (entered_path tables q) (l ∷ ks) a r in
           record {
@@ -71,7 +92,10 @@ through_prefix tables at (k ∷ l ∷ ks) a h =
             prefix = g.first ∷ g.prefix;
             path = g.path;
             others = g.others;
-            prefixes = ap (λ (x : List Mention). passing_mentions tables q ++ x) g.prefixes ∙ sym (append_assoc (passing_mentions tables q) (header_prefixes tables (entered_path tables q) (g.first ∷ g.prefix)) g.others);
+            prefixes =
+                ap (λ (x : List Mention). passing_mentions tables q ++ x) g.prefixes
+                ∙ sym (append_assoc (passing_mentions tables q)
+                (header_prefixes tables (entered_path tables q) (g.first ∷ g.prefix)) g.others);
             longer = g.longer;
           })
     ]
@@ -80,9 +104,13 @@ through_prefix tables at (k ∷ l ∷ ks) a h =
 
 not_same : (p q : List Part) (z : Part) (zs : List Part) (b : Bool) → p ≡ q ++ z ∷ zs → same_path p q ≡ b → b ≡ false
 not_same p q z zs false e h = refl
-not_same p q z zs true e h = let k : p ≡ q = same_path-sound p q h in let n : length p ≡ length (q ++ z ∷ zs) = ap length e in let m : length p ≡ length q = ap length k in absurd (omega (arith, n, m, length-append q (z ∷ zs)))
+not_same p q z zs true e h =
+    let k : p ≡ q = same_path-sound p q h in
+    let n : length p ≡ length (q ++ z ∷ zs) = ap length e in
+    let m : length p ≡ length q = ap length k in absurd (omega (arith, n, m, length-append q (z ∷ zs)))
 
-elements_same : (tables : List (List Part)) (p q : List Part) (z : Part) (zs : List Part) → p ≡ q ++ z ∷ zs → elements_of q (tables ++ p ∷ []) ≡ elements_of q tables
+elements_same : (tables : List (List Part)) (p q : List Part) (z : Part) (zs : List Part) → p ≡ q ++ z ∷ zs
+    → elements_of q (tables ++ p ∷ []) ≡ elements_of q tables
 elements_same tables p q z zs e =
     let none : same_path p q ≡ false = not_same p q z zs (same_path p q) e refl in
     let one : cond {A = ℕ} (same_path p q) 1 0 ≡ 0 = ap (λ (b : Bool). cond {A = ℕ} b 1 0) none in
@@ -92,14 +120,20 @@ abbrev entered_by : List Part → ℕ → List Part
 entered_by q n = cond (0 == n) q (q ++ index (n - 1) ∷ [])
 
 abbrev passing_by : List Part → ℕ → List Mention
-passing_by q n = cond (0 == n) (record { path = q; kind = through } ∷ []) (record { path = q; kind = past } ∷ record { path = entered_by q n; kind = passed } ∷ [])
+passing_by q n =
+    cond (0 == n) (record { path = q; kind = through } ∷ [])
+    (record { path = q; kind = past } ∷ record { path = entered_by q n; kind = passed } ∷ [])
 
-entered_longer : (q path : List Part) (n : ℕ) (b : Bool) → IsLonger (cond b q (q ++ index n ∷ [])) path → IsLonger q path
+entered_longer : (q path : List Part) (n : ℕ) (b : Bool) → IsLonger (cond b q (q ++ index n ∷ [])) path
+    → IsLonger q path
 entered_longer q path n true h = h
-entered_longer q path n false h = record { part = index n; more = h.part ∷ h.more; is = h.is ∙ append_assoc q (index n ∷ []) (h.part ∷ h.more) }
+entered_longer q path n false h =
+    record { part = index n; more = h.part ∷ h.more; is = h.is ∙ append_assoc q (index n ∷ []) (h.part ∷ h.more) }
 
-pub way_stays : (tables : List (List Part)) (p at : List Part) (k : List ℕ) (ks : List (List ℕ)) → IsLonger (header_path tables at (k ∷ ks)) p
-    → (header_path (tables ++ p ∷ []) at (k ∷ ks) ≡ header_path tables at (k ∷ ks)) × (header_prefixes (tables ++ p ∷ []) at (k ∷ ks) ≡ header_prefixes tables at (k ∷ ks))
+pub way_stays : (tables : List (List Part)) (p at : List Part) (k : List ℕ) (ks : List (List ℕ))
+    → IsLonger (header_path tables at (k ∷ ks)) p
+    → (header_path (tables ++ p ∷ []) at (k ∷ ks) ≡ header_path tables at (k ∷ ks))
+    × (header_prefixes (tables ++ p ∷ []) at (k ∷ ks) ≡ header_prefixes tables at (k ∷ ks))
 way_stays tables p at k [] h = (refl, refl)
 way_stays tables p at k (l ∷ ks) h =
     let q : List Part = at ++ key k ∷ [] in
@@ -108,7 +142,8 @@ way_stays tables p at k (l ∷ ks) h =
     let further : IsLonger (entered_path tables q) p = record {
       part = g.part;
       more = g.more ++ h.part ∷ h.more;
-      is = h.is ∙ ap (λ (x : List Part). x ++ h.part ∷ h.more) g.is ∙ append_assoc (entered_path tables q) (g.part ∷ g.more) (h.part ∷ h.more);
+      is = h.is ∙ ap (λ (x : List Part). x ++ h.part ∷ h.more) g.is
+          ∙ append_assoc (entered_path tables q) (g.part ∷ g.more) (h.part ∷ h.more);
     } in
     let far : IsLonger q p = entered_longer q p (elements_of q tables - 1) (0 == elements_of q tables) further in
     let few : elements_of q more ≡ elements_of q tables = elements_same tables p q far.part far.more far.is in
@@ -127,24 +162,33 @@ entered_keys : (q : List Part) (n : ℕ) (b : Bool) → keys_in (cond b q (q ++ 
 entered_keys q n true = sym (append-nil (keys_in q))
 entered_keys q n false = filter_map-append key_text q (index n ∷ [])
 
-pub path_keys : (tables : List (List Part)) (at : List Part) (k : List ℕ) (ks : List (List ℕ)) → keys_in (header_path tables at (k ∷ ks)) ≡ keys_in at ++ k ∷ ks
+pub path_keys : (tables : List (List Part)) (at : List Part) (k : List ℕ) (ks : List (List ℕ))
+    → keys_in (header_path tables at (k ∷ ks)) ≡ keys_in at ++ k ∷ ks
 path_keys tables at k [] = filter_map-append key_text at (key k ∷ [])
 path_keys tables at k (l ∷ ks) =
     let q : List Part = at ++ key k ∷ [] in
     path_keys tables (entered_path tables q) l ks
-    ∙ ap (λ (x : List (List ℕ)). x ++ l ∷ ks) (entered_keys q (elements_of q tables - 1) (0 == elements_of q tables) ∙ ap (λ (x : List (List ℕ)). x ++ []) (filter_map-append key_text at (key k ∷ [])))
+    ∙ ap (λ (x : List (List ℕ)). x ++ l ∷ ks)
+    (entered_keys q (elements_of q tables - 1) (0 == elements_of q tables)
+    ∙ ap (λ (x : List (List ℕ)). x ++ []) (filter_map-append key_text at (key k ∷ [])))
     ∙ append_assoc (keys_in at ++ k ∷ []) [] (l ∷ ks) ∙ append_assoc (keys_in at) (k ∷ []) (l ∷ ks)
 
 -- ---- a way may be said again
 
 again_passing : (q : List Part) (n : ℕ) (b : Bool)
-    → AllOf (λ (m : Mention). repeatable m.kind ≡ true) (cond b (record { path = q; kind = through } ∷ []) (record { path = q; kind = past } ∷ record { path = cond b q (q ++ index n ∷ []); kind = passed } ∷ []))
+    → AllOf (λ (m : Mention). repeatable m.kind ≡ true)
+    (cond b (record { path = q; kind = through } ∷ [])
+    (record { path = q; kind = past } ∷ record { path = cond b q (q ++ index n ∷ []); kind = passed } ∷ []))
 again_passing q n true = (refl, tt)
 again_passing q n false = (refl, (refl, tt))
 
-pub way_again : (tables : List (List Part)) (at : List Part) (keys : List (List ℕ)) → AllOf (λ (m : Mention). repeatable m.kind ≡ true) (header_prefixes tables at keys)
+pub way_again : (tables : List (List Part)) (at : List Part) (keys : List (List ℕ))
+    → AllOf (λ (m : Mention). repeatable m.kind ≡ true) (header_prefixes tables at keys)
 way_again tables at [] = tt
 way_again tables at (k ∷ []) = tt
 way_again tables at (k ∷ l ∷ ks) =
     let q : List Part = at ++ key k ∷ [] in
-    all_join (λ (m : Mention). repeatable m.kind ≡ true) (passing_mentions tables q) (header_prefixes tables (entered_path tables q) (l ∷ ks)) (again_passing q (elements_of q tables - 1) (0 == elements_of q tables)) (way_again tables (entered_path tables q) (l ∷ ks))
+    all_join (λ (m : Mention). repeatable m.kind ≡ true) (passing_mentions tables q)
+    (header_prefixes tables (entered_path tables q) (l ∷ ks))
+    (again_passing q (elements_of q tables - 1) (0 == elements_of q tables))
+    (way_again tables (entered_path tables q) (l ∷ ks))

@@ -21,5 +21,7 @@ shared_element : IsShared is_element
 shared_element = record { firm = element_solid; many = element_many }
 
 -- an array of tables is neither an array nor an inline table
-pub no_bracket_element : (path : List Part) (ms : List Mention) → Rules ms → has is_element path ms ≡ true → is_bracket_at ms path ≡ true → ⊥
-no_bracket_element path ms rules e b = no_both is_element shared_element path ms (has_some is_element path ms e) (alone_of_bracket path ms b) rules
+pub no_bracket_element : (path : List Part) (ms : List Mention) → Rules ms → has is_element path ms ≡ true
+    → is_bracket_at ms path ≡ true → ⊥
+no_bracket_element path ms rules e b =
+    no_both is_element shared_element path ms (has_some is_element path ms e) (alone_of_bracket path ms b) rules

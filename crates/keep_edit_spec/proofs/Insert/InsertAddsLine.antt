@@ -1,7 +1,9 @@
 -- An insert of one key at the end of a body adds a line.
 --
--- Theorem: `insert_adds_line`; and `bare_added` where something is in the value, for the insert of the value without that.
-use Rattle.std.proofs.Common.{◌≡◌, ℕ, suc, ◌≤◌, Bool, false, ◌||◌, List, [], ◌∷◌, ◌++◌, length, map, take, drop, refl, sym, ap, ap₂, subst}
+-- Theorem: `insert_adds_line`; and `bare_added` where something is in the value, for the insert of the value without
+-- that.
+use Rattle.std.proofs.Common.{◌≡◌, ℕ, suc, ◌≤◌, Bool, false, ◌||◌, List, [], ◌∷◌, ◌++◌, length, map, take, drop, refl}
+use Rattle.std.proofs.Common.{sym, ap, ap₂, subst}
 use Rattle.std.proofs.Common.{◌∙◌, arith, length-append, Option, Some, None}
 use Rattle.std.specs.Prelude.{IsUtf8}
 use Rattle.std.specs.List.{AllByRecursion, list_any}
@@ -13,7 +15,8 @@ use Rattle.keep_path.proofs.Shared.{last_pushed}
 use Rattle.keep_meaning.specs.Counts.{statements_in}
 use Rattle.keep_meaning.specs.Marks as marks
 use Rattle.keep_meaning.specs.Marks.{Mention, Statement, start, value as kinds_value}
-use Rattle.keep_meaning.specs.Meaning.{body_fact, keyed_mentions, keys_of, keyval_mentions, line_of, lines, mentions_in, valued_mentions}
+use Rattle.keep_meaning.specs.Meaning.{body_fact, keyed_mentions, keys_of, keyval_mentions, line_of, lines, mentions_in}
+use Rattle.keep_meaning.specs.Meaning.{valued_mentions}
 use Rattle.keep_meaning.specs.Nodes.{is_at, is_node, is_root}
 use Rattle.keep_edit_spec.specs.Changed.{Changed}
 use Rattle.keep_edit_spec.specs.Edits.{changed_or_same, edited_document, end_of, insert, name_with}
@@ -22,7 +25,8 @@ use Rattle.keep_edit_spec.specs.Lines.{new_line, newline_of, put_lines}
 use Rattle.keep_edit_spec.specs.Look.{holder, item_number, keys_in}
 use Rattle.keep_edit_spec.specs.Refusals.{refusal}
 use Rattle.keep_edit_spec.proofs.Common.BodyEnd.{IsBodyEnd, end_is}
-use Rattle.keep_edit_spec.proofs.Common.LineStatements.{put_statements, reading_statements, statements-append, statements_of}
+use Rattle.keep_edit_spec.proofs.Common.LineStatements.{put_statements, reading_statements, statements-append}
+use Rattle.keep_edit_spec.proofs.Common.LineStatements.{statements_of}
 use Rattle.keep_edit_spec.proofs.Common.NewLines.{IsKeyText, key_means}
 use Rattle.keep_edit_spec.proofs.Common.Runs.{AllOf}
 use Rattle.keep_edit_spec.proofs.Common.SetDocument.{page_lines}
@@ -33,7 +37,8 @@ use Rattle.keep_edit_spec.proofs.Rename.KeyTexts.{key_texts}
 -- The path is new, and in the document are the lines of the body that it goes into, up to line n.
 module _ (profile : Profile) (limit : ℕ) (s : Document) (path : List Part) (text : List ℕ) (value : Value) (n : ℕ)
     (utf8 : AllByRecursion IsUtf8 (keys_in path)) (allowed : refusal profile limit s (insert path value) ≡ None)
-    (one : path ≡ holder path (mentions_in s) ++ key text ∷ []) (ends : end_of s (holder path (mentions_in s)) ≡ Some n) where
+    (one : path ≡ holder path (mentions_in s) ++ key text ∷ [])
+    (ends : end_of s (holder path (mentions_in s)) ≡ Some n) where
   abbrev a : List Part
   a = holder path (mentions_in s)
 
@@ -62,7 +67,8 @@ module _ (profile : Profile) (limit : ℕ) (s : Document) (path : List Part) (te
       ap (λ (t : List ℕ). list_any (is_at (a ++ key t ∷ [])) (mentions_in s)) same ∙ new.fresh
 
   fresh : is_node path (mentions_in s) ≡ false
-  fresh = ap₂ (λ (b c : Bool). b || c) (ap is_root one ∙ not_root a) (ap (λ (p : List Part). list_any (is_at p) (mentions_in s)) one ∙ unsaid)
+  fresh = ap₂ (λ (b c : Bool). b || c) (ap is_root one ∙ not_root a)
+      (ap (λ (p : List Part). list_any (is_at p) (mentions_in s)) one ∙ unsaid)
     where
       not_root : (p : List Part) → is_root (p ++ key text ∷ []) ≡ false
       not_root [] = refl
@@ -76,11 +82,13 @@ module _ (profile : Profile) (limit : ℕ) (s : Document) (path : List Part) (te
 
   said : marks.keyval (keyval_mentions (name_with (text ∷ [])) (bare_value value))
       ≡ marks.keyval (record { path = key text ∷ []; kind = kinds_value (body_fact value.body) } ∷ [])
-  said = ap (λ (ks : List (List ℕ)). marks.keyval (keyed_mentions ks (valued_mentions (kinds_value (body_fact value.body)) []))) means
+  said = ap (λ (ks : List (List ℕ)).
+      marks.keyval (keyed_mentions ks (valued_mentions (kinds_value (body_fact value.body)) []))) means
 
   -- the new line is put among the lines
   pub put : (v : Value) → lines (edited_document s (insert path v))
-      ≡ page_lines (put_lines n (new_line (newline_of s) (keyval (name_with (text ∷ [])) v) ∷ []) (newline_of s) s.ended s.last).to
+      ≡ page_lines (put_lines n (new_line (newline_of s) (keyval (name_with (text ∷ [])) v) ∷ []) (newline_of s) s.ended
+      s.last).to
   put v =
       let new_lines : List Part → List Ended = λ ps. new_line (newline_of s) (keyval (name_with (keys_in ps)) v) ∷ [] in
       ap (λ (o : Option (Changed Document)). lines (changed_or_same s o).to) (change_here s path v n no_item ends)
@@ -90,11 +98,14 @@ module _ (profile : Profile) (limit : ℕ) (s : Document) (path : List Part) (te
   few = omega (arith, end.few, length-append (map line_of s.ended) (s.last ∷ []), length-map s.ended line_of)
 
   edited : statements_in (edited_document s (insert path (bare_value value)))
-      ≡ statements_of before ++ marks.keyval (record { path = key text ∷ []; kind = kinds_value (body_fact value.body) } ∷ []) ∷ statements_of after
+      ≡ statements_of before ++ marks.keyval (record { path = key text ∷ []; kind = kinds_value (body_fact value.body) }
+      ∷ []) ∷ statements_of after
   edited =
       ap statements_of (put (bare_value value))
-      ∙ put_statements n (new_line (newline_of s) (keyval (name_with (text ∷ [])) (bare_value value)) ∷ []) (newline_of s) s.ended s.last few
-      ∙ statements-append before (line_of (new_line (newline_of s) (keyval (name_with (text ∷ [])) (bare_value value))) ∷ after)
+      ∙ put_statements n (new_line (newline_of s) (keyval (name_with (text ∷ [])) (bare_value value)) ∷ [])
+      (newline_of s) s.ended s.last few
+      ∙ statements-append before (line_of (new_line (newline_of s) (keyval (name_with (text ∷ [])) (bare_value value)))
+      ∷ after)
       ∙ ap (λ (st : Statement). statements_of before ++ st ∷ statements_of after) said
 
   -- of a value that may be put there, the line alone
@@ -109,13 +120,15 @@ module _ (profile : Profile) (limit : ℕ) (s : Document) (path : List Part) (te
       new = edited;
     };
     after = refl;
-    place = ap (λ (r : marks.Reading). r.body ++ key text ∷ []) (reading_statements start before) ∙ ap (λ (p : List Part). p ++ key text ∷ []) end.body ∙ sym one;
+    place = ap (λ (r : marks.Reading). r.body ++ key text ∷ []) (reading_statements start before)
+        ∙ ap (λ (p : List Part). p ++ key text ∷ []) end.body ∙ sym one;
     gives = refl;
     fresh = fresh;
   }
 
 pub insert_adds_line : InsertAddsLine
 insert_adds_line profile limit s path text value n utf8 allowed one ends empty =
-    let with_entries : Entries → Document = λ es. edited_document s (insert path (record { body = value.body; nested = es })) in
+    let with_entries : Entries → Document =
+    λ es. edited_document s (insert path (record { body = value.body; nested = es })) in
     subst (λ (es : Entries). HasLineAt s (with_entries es) path (body_fact value.body) (take n (lines s))) (sym empty)
     (bare_added profile limit s path text value n utf8 allowed one ends)

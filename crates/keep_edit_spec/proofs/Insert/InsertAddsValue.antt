@@ -1,11 +1,13 @@
 -- An insert of one key at the end of a body adds a line, and a value there, whatever is in it.
 --
--- Between the two documents is the one that an insert of the bare value gives: it has the line (`bare_added`), and obeys
+-- Between the two documents is the one that an insert of the bare value gives: it has the line (`bare_added`), and
+-- obeys
 -- the rules, since the path is new and a bare value says one thing alone (`bare_rules`). The new document has the same
 -- lines as that one but for the value of the new line (`put_around`), so it has another value there (`replaced_value`).
 --
 -- Theorem: `insert_adds_value`.
-use Rattle.std.proofs.Common.{◌≡◌, ℕ, zero, suc, ◌≤◌, List, [], ◌∷◌, ◌++◌, length, map, take, drop, refl, sym, ap, subst, ◌∙◌, arith, Option, Some, None}
+use Rattle.std.proofs.Common.{◌≡◌, ℕ, zero, suc, ◌≤◌, List, [], ◌∷◌, ◌++◌, length, map, take, drop, refl, sym, ap}
+use Rattle.std.proofs.Common.{subst, ◌∙◌, arith, Option, Some, None}
 use Rattle.std.specs.Prelude.{IsUtf8}
 use Rattle.std.specs.List.{AllByRecursion}
 use Rattle.keep_types.specs.declared.leaf.Profile.{Profile}
@@ -36,15 +38,18 @@ use Rattle.keep_edit_spec.proofs.Values.LineValue.{replaced_value}
 -- The lines beside a new line: those before line n, and the same others whatever the line is.
 record IsPutBetween (n : ℕ) (newline : Written) (es : List Ended) (last : Line) : Type 0 where
   post : List Line
-  is : (e : Ended) → page_lines (put_lines n (e ∷ []) newline es last).to ≡ take n (map line_of es ++ last ∷ []) ++ e.line ∷ post
+  is : (e : Ended)
+      → page_lines (put_lines n (e ∷ []) newline es last).to ≡ take n (map line_of es ++ last ∷ []) ++ e.line ∷ post
 
-put_around : (n : ℕ) (newline : Written) (es : List Ended) (last : Line) → n ≤ suc (length es) → IsPutBetween n newline es last
+put_around : (n : ℕ) (newline : Written) (es : List Ended) (last : Line) → n ≤ suc (length es)
+    → IsPutBetween n newline es last
 put_around zero newline [] last h = record { post = last ∷ []; is = λ e. refl }
 put_around (suc zero) newline [] last h = record { post = empty_line ∷ []; is = λ e. refl }
 put_around (suc (suc m)) newline [] last h = absurd (let k : suc (suc m) ≤ suc 0 = h in omega (arith, k))
 put_around zero newline (x ∷ es) last h = record { post = map line_of (x ∷ es) ++ last ∷ []; is = λ e. refl }
 put_around (suc m) newline (x ∷ es) last h =
-    let more : IsPutBetween m newline es last = put_around m newline es last (let k : suc m ≤ suc (suc (length es)) = h in omega (arith, k)) in
+    let more : IsPutBetween m newline es last =
+    put_around m newline es last (let k : suc m ≤ suc (suc (length es)) = h in omega (arith, k)) in
     record { post = more.post; is = λ e. ap (λ (ls : List Line). x.line ∷ ls) (more.is e) }
 
 module _ (profile : Profile) (limit : ℕ) (s : Document) (path : List Part) (text : List ℕ) (value : Value) (n : ℕ)
@@ -69,13 +74,18 @@ module _ (profile : Profile) (limit : ℕ) (s : Document) (path : List Part) (te
   bare_rules : Rules (mentions_in bare)
   bare_rules =
       let v : Value = bare_value value in
-      let law : EachTo (IsKeyvalLaw s (holder path (mentions_in s) ++ key text ∷ []) v) (at_line s n (keyval name v ∷ [])) =
-      body_law profile s (holder path (mentions_in s)) n text [] v body_ends (texts profile limit s path text value n utf8 allowed one ends)
+      let law : EachTo (IsKeyvalLaw s (holder path (mentions_in s) ++ key text ∷ []) v)
+      (at_line s n (keyval name v ∷ [])) =
+      body_law profile s (holder path (mentions_in s)) n text [] v body_ends
+      (texts profile limit s path text value n utf8 allowed one ends)
       (unsaid profile limit s path text value n utf8 allowed one ends) (rules_of_document s obeys) (tt, tt) in
-      let same : at_line s n (new_keyval (drop (length (holder path (mentions_in s))) path) v ∷ []) ≡ at_line s n (keyval name v ∷ []) =
-      ap (λ (ps : List Part). at_line s n (new_keyval ps v ∷ [])) (rest profile limit s path text value n utf8 allowed one ends) in
+      let same : at_line s n (new_keyval (drop (length (holder path (mentions_in s))) path) v ∷ [])
+      ≡ at_line s n (keyval name v ∷ []) =
+      ap (λ (ps : List Part). at_line s n (new_keyval ps v ∷ []))
+      (rest profile limit s path text value n utf8 allowed one ends) in
       subst (λ (o : Option (Changed Document)). Rules (mentions_in (changed_or_same s o).to))
-      (sym (change_here s path v n (no_item profile limit s path text value n utf8 allowed one ends) ends ∙ same)) law.rules
+      (sym (change_here s path v n (no_item profile limit s path text value n utf8 allowed one ends) ends ∙ same))
+      law.rules
 
   between : IsPutBetween n (newline_of s) s.ended s.last
   between = put_around n (newline_of s) s.ended s.last (few profile limit s path text value n utf8 allowed one ends)
@@ -84,23 +94,29 @@ module _ (profile : Profile) (limit : ℕ) (s : Document) (path : List Part) (te
   line_with v = plain_line (keyval name v)
 
   lines_with : (v : Value) → lines (with_value v) ≡ before ++ line_with v ∷ between.post
-  lines_with v = put profile limit s path text value n utf8 allowed one ends v ∙ between.is (new_line (newline_of s) (keyval name v))
+  lines_with v =
+      put profile limit s path text value n utf8 allowed one ends v
+      ∙ between.is (new_line (newline_of s) (keyval name v))
 
   here : (reading_after_lines start before).body ++ step 0 (Some name) ≡ path
   here =
-      ap (λ (ks : List (List ℕ)). (reading_after_lines start before).body ++ map key ks) (means profile limit s path text value n utf8 allowed one ends)
+      ap (λ (ks : List (List ℕ)). (reading_after_lines start before).body ++ map key ks)
+      (means profile limit s path text value n utf8 allowed one ends)
       ∙ ap (λ (p : List Part). p ++ key text ∷ []) body_ends.body ∙ sym one
 
   value_put : HasOtherValue bare (with_value value) path value
   value_put =
       subst (λ (p : List Part). HasOtherValue bare (with_value value) p value) here
-      (replaced_value bare (with_value value) before between.post (line_with (bare_value value)) (line_with value) name (bare_value value) value bare_rules
+      (replaced_value bare (with_value value) before between.post (line_with (bare_value value)) (line_with value) name
+      (bare_value value) value bare_rules
       (lines_with (bare_value value)) refl (lines_with value) refl)
 
-  pub value_added : (bare : Document) × IsBareLine s bare path (body_fact value.body) before × HasOtherValue bare (with_value value) path value
+  pub value_added : (bare : Document) × IsBareLine s bare path (body_fact value.body) before
+      × HasOtherValue bare (with_value value) path value
   value_added = (
     bare,
-    bare_line s bare path (body_fact value.body) before (bare_added profile limit s path text value n utf8 allowed one ends) bare_rules,
+    bare_line s bare path (body_fact value.body) before
+        (bare_added profile limit s path text value n utf8 allowed one ends) bare_rules,
     value_put,
   )
 

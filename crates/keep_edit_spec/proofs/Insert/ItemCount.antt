@@ -6,7 +6,8 @@
 -- at or under the array's.
 --
 -- Theorems: `item_count_few` and `item_count_many`.
-use Rattle.std.proofs.Common.{◌≡◌, ℕ, ◌+◌, ◌≤◌, Bool, true, false, cond, List, [], ◌∷◌, ◌++◌, map, refl, sym, ap, ◌∙◌, arith, Option, Some, None}
+use Rattle.std.proofs.Common.{◌≡◌, ℕ, ◌+◌, ◌≤◌, Bool, true, false, cond, List, [], ◌∷◌, ◌++◌, map, refl, sym, ap, ◌∙◌}
+use Rattle.std.proofs.Common.{arith, Option, Some, None}
 use Rattle.std.specs.List.{count_by}
 use Rattle.std.proofs.lemmas.List.{map-append}
 use Rattle.std.proofs.lemmas.List.Sums.{sum_by-append}
@@ -15,10 +16,13 @@ use Rattle.keep_syntax.specs.Tree.{Name, Entries, none, entry}
 use Rattle.keep_syntax.specs.Grammar.{AreEntries, in_array}
 use Rattle.keep_meaning.specs.Fact.{Fact}
 use Rattle.keep_path.specs.Path.{Part, key, index, same_path}
-use Rattle.keep_meaning.specs.Marks.{MentionKind, through, past, define, element, dotted, value, begun, passed, item, Mention, below}
-use Rattle.keep_meaning.specs.Meaning.{key_value, further_value, body_fact, valued_mentions, keyed_mentions, entry_mentions, entries_mentions}
+use Rattle.keep_meaning.specs.Marks.{MentionKind, through, past, define, element, dotted, value, begun, passed, item}
+use Rattle.keep_meaning.specs.Marks.{Mention, below}
+use Rattle.keep_meaning.specs.Meaning.{key_value, further_value, body_fact, valued_mentions, keyed_mentions}
+use Rattle.keep_meaning.specs.Meaning.{entry_mentions, entries_mentions}
 use Rattle.keep_edit_spec.specs.Look.{strip, without_last, is_item_of, item_count}
-use Rattle.keep_edit_spec.proofs.Common.Runs.{AllOf, all_join, IsDisjoint, same_path-sound, same_path-refl, strip-append}
+use Rattle.keep_edit_spec.proofs.Common.Runs.{AllOf, all_join, IsDisjoint, same_path-sound, same_path-refl}
+use Rattle.keep_edit_spec.proofs.Common.Runs.{strip-append}
 use Rattle.keep_edit_spec.proofs.Common.SetDocument.{cancel}
 use Rattle.keep_edit_spec.proofs.Insert.PutIn.{size}
 
@@ -41,7 +45,8 @@ count_one t m = by (t m) refl
 
 -- ---- what is an item of a path
 
-item_mentions : (a p : List Part) (s : MentionKind) → is_item_of a (record { path = p; kind = s }) ≡ true → without_last p ≡ a
+item_mentions : (a p : List Part) (s : MentionKind) → is_item_of a (record { path = p; kind = s }) ≡ true
+    → without_last p ≡ a
 item_mentions a p (item f) h = same_path-sound (without_last p) a h
 item_mentions a p through h = absurd cc
 item_mentions a p past h = absurd cc
@@ -57,24 +62,31 @@ pub last_split : (p : Part) (ps : List Part) → (x : Part) × (p ∷ ps ≡ wit
 last_split p [] = (p, refl)
 last_split p (q ∷ ps) = let (x, e) = last_split q ps in (x, ap (λ (l : List Part). p ∷ l) e)
 
-item_path : (a0 : Part) (more_parts : List Part) (p : List Part) (s : MentionKind) → is_item_of (a0 ∷ more_parts) (record { path = p; kind = s }) ≡ true → (x : Part) × (p ≡ (a0 ∷ more_parts) ++ x ∷ [])
+item_path : (a0 : Part) (more_parts : List Part) (p : List Part) (s : MentionKind)
+    → is_item_of (a0 ∷ more_parts) (record { path = p; kind = s }) ≡ true
+    → (x : Part) × (p ≡ (a0 ∷ more_parts) ++ x ∷ [])
 item_path a0 more_parts [] s h = let e : [] ≡ a0 ∷ more_parts = item_mentions (a0 ∷ more_parts) [] s h in absurd cc
 item_path a0 more_parts (q ∷ qs) s h =
     let e : without_last (q ∷ qs) ≡ a0 ∷ more_parts = item_mentions (a0 ∷ more_parts) (q ∷ qs) s h in
     let (x, w) = last_split q qs in
     (x, w ∙ ap (λ (l : List Part). l ++ x ∷ []) e)
 
-never_item : (a0 : Part) (more_parts : List Part) (m : Mention) → ((x : Part) → m.path ≡ (a0 ∷ more_parts) ++ x ∷ [] → ⊥) → is_item_of (a0 ∷ more_parts) m ≡ false
+never_item : (a0 : Part) (more_parts : List Part) (m : Mention)
+    → ((x : Part) → m.path ≡ (a0 ∷ more_parts) ++ x ∷ [] → ⊥) → is_item_of (a0 ∷ more_parts) m ≡ false
 never_item a0 more_parts m never = by (is_item_of (a0 ∷ more_parts) m) refl
   where
     by : (b : Bool) → is_item_of (a0 ∷ more_parts) m ≡ b → is_item_of (a0 ∷ more_parts) m ≡ false
     by false e = e
     by true e = let (x, w) = item_path a0 more_parts m.path m.kind e in absurd (never x w)
 
-none_disjoint : (a0 : Part) (more_parts : List Part) (ms : List Mention) → AllOf (IsDisjoint (a0 ∷ more_parts)) ms → AllOf (λ m. is_item_of (a0 ∷ more_parts) m ≡ false) ms
+none_disjoint : (a0 : Part) (more_parts : List Part) (ms : List Mention) → AllOf (IsDisjoint (a0 ∷ more_parts)) ms
+    → AllOf (λ m. is_item_of (a0 ∷ more_parts) m ≡ false) ms
 none_disjoint a0 more_parts [] h = tt
-none_disjoint a0 more_parts (m ∷ ms) h =
-    (never_item a0 more_parts m (λ x e. let k : None ≡ Some (x ∷ []) = sym h.0 ∙ ap (strip (a0 ∷ more_parts)) e ∙ strip-append (a0 ∷ more_parts) (x ∷ []) in absurd cc), none_disjoint a0 more_parts ms h.1)
+none_disjoint a0 more_parts (m ∷ ms) h = (
+  never_item a0 more_parts m (λ x e. let k : None ≡ Some (x ∷ []) = sym h.0 ∙ ap (strip (a0 ∷ more_parts)) e
+      ∙ strip-append (a0 ∷ more_parts) (x ∷ []) in absurd cc),
+  none_disjoint a0 more_parts ms h.1,
+)
 
 -- ---- entries say nothing of what they are in
 
@@ -92,9 +104,11 @@ pub longer_keyed : (k : List ℕ) (ks : List (List ℕ)) (ms : List Mention) →
 longer_keyed k [] ms = longer_below (key k) [] ms
 longer_keyed k (l ∷ ks) ms = longer_below (key k) [] (record { path = []; kind = dotted } ∷ keyed_mentions (l ∷ ks) ms)
 
-longer_entry : (n : ℕ) (name : Option Name) (f : Fact) (nested : List Mention) → AllOf Longer (entry_mentions n name f nested)
+longer_entry : (n : ℕ) (name : Option Name) (f : Fact) (nested : List Mention)
+    → AllOf Longer (entry_mentions n name f nested)
 longer_entry n None f nested = longer_below (index n) [] (valued_mentions (item f) nested)
-longer_entry n (Some name) f nested = longer_keyed (key_value name.key.first) (map further_value name.key.more) (valued_mentions (value f) nested)
+longer_entry n (Some name) f nested =
+    longer_keyed (key_value name.key.first) (map further_value name.key.more) (valued_mentions (value f) nested)
 
 pub longer_entries : (n : ℕ) (es : Entries) → AllOf Longer (entries_mentions n es)
 longer_entries n none = tt
@@ -104,25 +118,37 @@ longer_entries n (entry name body nested after comma rest) =
 
 -- ---- the items of an array
 
-deep_none : (a0 : Part) (more_parts : List Part) (n : ℕ) (ms : List Mention) → AllOf Longer ms → AllOf (λ m. is_item_of (a0 ∷ more_parts) m ≡ false) (map (below (a0 ∷ more_parts)) (map (below (index n ∷ [])) ms))
+deep_none : (a0 : Part) (more_parts : List Part) (n : ℕ) (ms : List Mention) → AllOf Longer ms
+    → AllOf (λ m. is_item_of (a0 ∷ more_parts) m ≡ false)
+    (map (below (a0 ∷ more_parts)) (map (below (index n ∷ [])) ms))
 deep_none a0 more_parts n [] h = tt
-deep_none a0 more_parts n (m ∷ ms) h =
-    (never_item a0 more_parts (below (a0 ∷ more_parts) (below (index n ∷ []) m)) (λ x e. h.0 (tail m.path x (cancel (a0 ∷ more_parts) (index n ∷ m.path) (x ∷ []) e))), deep_none a0 more_parts n ms h.1)
+deep_none a0 more_parts n (m ∷ ms) h = (
+  never_item a0 more_parts (below (a0 ∷ more_parts) (below (index n ∷ []) m))
+      (λ x e. h.0 (tail m.path x (cancel (a0 ∷ more_parts) (index n ∷ m.path) (x ∷ []) e))),
+  deep_none a0 more_parts n ms h.1,
+)
   where
     tail : (q : List Part) (x : Part) → index n ∷ q ≡ x ∷ [] → q ≡ []
     tail q x e = cc
 
-items_few : (profile : Profile) (a0 : Part) (more_parts : List Part) (n : ℕ) (es : Entries) → AreEntries profile in_array es → count_by (is_item_of (a0 ∷ more_parts)) (map (below (a0 ∷ more_parts)) (entries_mentions n es)) ≤ size es
+items_few : (profile : Profile) (a0 : Part) (more_parts : List Part) (n : ℕ) (es : Entries)
+    → AreEntries profile in_array es
+    → count_by (is_item_of (a0 ∷ more_parts)) (map (below (a0 ∷ more_parts)) (entries_mentions n es)) ≤ size es
 items_few profile a0 more_parts n none valid = omega arith
 items_few profile a0 more_parts n (entry (Some name) body nested after comma rest) valid = absurd valid.0
 items_few profile a0 more_parts n (entry None body nested after comma rest) valid =
     let t : Mention → Bool = is_item_of (a0 ∷ more_parts) in
     let deep : List Mention = map (below (a0 ∷ more_parts)) (map (below (index n ∷ [])) (entries_mentions 0 nested)) in
-    let top : Mention = below (a0 ∷ more_parts) (below (index n ∷ []) (record { path = []; kind = item (body_fact body) })) in
+    let top : Mention =
+    below (a0 ∷ more_parts) (below (index n ∷ []) (record { path = []; kind = item (body_fact body) })) in
     let more : List Mention = map (below (a0 ∷ more_parts)) (entries_mentions (n + 1) rest) in
-    let split : map (below (a0 ∷ more_parts)) (entries_mentions n (entry None body nested after comma rest)) ≡ (top ∷ deep) ++ more =
-    map-append (below (a0 ∷ more_parts)) (entry_mentions n None (body_fact body) (entries_mentions 0 nested)) (entries_mentions (n + 1) rest) in
-    let whole : count_by t (map (below (a0 ∷ more_parts)) (entries_mentions n (entry None body nested after comma rest))) ≡ count_by t ((top ∷ deep) ++ more) = ap (λ (l : List Mention). count_by t l) split in
+    let split : map (below (a0 ∷ more_parts)) (entries_mentions n (entry None body nested after comma rest))
+    ≡ (top ∷ deep) ++ more =
+    map-append (below (a0 ∷ more_parts)) (entry_mentions n None (body_fact body) (entries_mentions 0 nested))
+    (entries_mentions (n + 1) rest) in
+    let whole : count_by t (map (below (a0 ∷ more_parts))
+    (entries_mentions n (entry None body nested after comma rest))) ≡ count_by t ((top ∷ deep) ++ more) =
+    ap (λ (l : List Mention). count_by t l) split in
     omega (
       arith,
       whole,
@@ -134,14 +160,17 @@ items_few profile a0 more_parts n (entry None body nested after comma rest) vali
     )
 
 -- Where an array is at the path, and nothing else at or under it, no more items are counted than the array has.
-pub item_count_few : (profile : Profile) (a : List Part) (before after : List Mention) (mention_kind : MentionKind) (es : Entries) → (a ≡ [] → ⊥) → AreEntries profile in_array es → AllOf (IsDisjoint a) before → AllOf (IsDisjoint a) after
+pub item_count_few : (profile : Profile) (a : List Part) (before after : List Mention) (mention_kind : MentionKind)
+    (es : Entries) → (a ≡ [] → ⊥) → AreEntries profile in_array es → AllOf (IsDisjoint a) before
+    → AllOf (IsDisjoint a) after
     → item_count a (before ++ (map (below a) (valued_mentions mention_kind (entries_mentions 0 es)) ++ after)) ≤ size es
 item_count_few profile [] before after mention_kind es root valid hb hh = absurd (root refl)
 item_count_few profile (a0 ∷ more_parts) before after mention_kind es root valid hb hh =
     let t : Mention → Bool = is_item_of (a0 ∷ more_parts) in
     let top : Mention = below (a0 ∷ more_parts) (record { path = []; kind = mention_kind }) in
     let more : List Mention = map (below (a0 ∷ more_parts)) (entries_mentions 0 es) in
-    let not_top : t top ≡ false = never_item a0 more_parts top (λ x e. absurd (no x (cancel (a0 ∷ more_parts) [] (x ∷ []) e))) in
+    let not_top : t top ≡ false =
+    never_item a0 more_parts top (λ x e. absurd (no x (cancel (a0 ∷ more_parts) [] (x ∷ []) e))) in
     omega (
       arith,
       count_join t before ((top ∷ more) ++ after),
@@ -166,7 +195,8 @@ without_last-snoc (a ∷ b ∷ p) x = ap (λ (l : List Part). a ∷ l) (without_
 top_item : (a : List Part) (n : ℕ) (f : Fact) → is_item_of a (record { path = a ++ index n ∷ []; kind = item f }) ≡ true
 top_item a n f = ap (λ (p : List Part). same_path p a) (without_last-snoc a (index n)) ∙ same_path-refl a
 
-items_many : (profile : Profile) (a : List Part) (n : ℕ) (es : Entries) → AreEntries profile in_array es → size es ≤ count_by (is_item_of a) (map (below a) (entries_mentions n es))
+items_many : (profile : Profile) (a : List Part) (n : ℕ) (es : Entries) → AreEntries profile in_array es
+    → size es ≤ count_by (is_item_of a) (map (below a) (entries_mentions n es))
 items_many profile a n none valid = omega arith
 items_many profile a n (entry (Some name) body nested after comma rest) valid = absurd valid.0
 items_many profile a n (entry None body nested after comma rest) valid =
@@ -175,15 +205,31 @@ items_many profile a n (entry None body nested after comma rest) valid =
     let top : Mention = record { path = a ++ index n ∷ []; kind = item (body_fact body) } in
     let more : List Mention = map (below a) (entries_mentions (n + 1) rest) in
     let split : map (below a) (entries_mentions n (entry None body nested after comma rest)) ≡ (top ∷ deep) ++ more =
-    map-append (below a) (entry_mentions n None (body_fact body) (entries_mentions 0 nested)) (entries_mentions (n + 1) rest) in
-    let whole : count_by t (map (below a) (entries_mentions n (entry None body nested after comma rest))) ≡ count_by t ((top ∷ deep) ++ more) = ap (λ (l : List Mention). count_by t l) split in
+    map-append (below a) (entry_mentions n None (body_fact body) (entries_mentions 0 nested))
+    (entries_mentions (n + 1) rest) in
+    let whole : count_by t (map (below a) (entries_mentions n (entry None body nested after comma rest)))
+    ≡ count_by t ((top ∷ deep) ++ more) = ap (λ (l : List Mention). count_by t l) split in
     let one : count_by t (top ∷ []) ≡ 1 = rw (top_item a n (body_fact body)) refl in
-    omega (arith, whole, count_join t (top ∷ deep) more, count_join t (top ∷ []) deep, one, items_many profile a (n + 1) rest valid.5)
+    omega (
+      arith,
+      whole,
+      count_join t (top ∷ deep) more,
+      count_join t (top ∷ []) deep,
+      one,
+      items_many profile a (n + 1) rest valid.5,
+    )
 
-pub item_count_many : (profile : Profile) (a : List Part) (before after : List Mention) (mention_kind : MentionKind) (es : Entries) → AreEntries profile in_array es
+pub item_count_many : (profile : Profile) (a : List Part) (before after : List Mention) (mention_kind : MentionKind)
+    (es : Entries) → AreEntries profile in_array es
     → size es ≤ item_count a (before ++ (map (below a) (valued_mentions mention_kind (entries_mentions 0 es)) ++ after))
 item_count_many profile a before after mention_kind es valid =
     let t : Mention → Bool = is_item_of a in
     let top : Mention = below a (record { path = []; kind = mention_kind }) in
     let more : List Mention = map (below a) (entries_mentions 0 es) in
-    omega (arith, count_join t before ((top ∷ more) ++ after), count_join t (top ∷ more) after, count_join t (top ∷ []) more, items_many profile a 0 es valid)
+    omega (
+      arith,
+      count_join t before ((top ∷ more) ++ after),
+      count_join t (top ∷ more) after,
+      count_join t (top ∷ []) more,
+      items_many profile a 0 es valid,
+    )

@@ -6,17 +6,21 @@
 -- rules don't allow either.
 --
 -- Theorems: `line_base`, `not_in_braces`.
-use Rattle.std.proofs.Common.{◌≡◌, ℕ, Bool, true, false, List, [], ◌∷◌, ◌++◌, map, refl, sym, ap, subst, ◌∙◌, Option, ◌⊎◌, inl, inr, ◌||◌}
+use Rattle.std.proofs.Common.{◌≡◌, ℕ, Bool, true, false, List, [], ◌∷◌, ◌++◌, map, refl, sym, ap, subst, ◌∙◌, Option}
+use Rattle.std.proofs.Common.{◌⊎◌, inl, inr, ◌||◌}
 use Rattle.std.proofs.lemmas.List.{append-nil}
 use Rattle.keep_syntax.specs.Tree.{Written, Gap, Content, blank, keyval, header, element, Line, Document}
 use Rattle.keep_path.specs.Path.{Part, key, index}
 use Rattle.keep_meaning.specs.Marks as marks_of
 use Rattle.keep_meaning.specs.Marks.{MentionKind, through, define, dotted, value, item, Mention, Reading, start, below}
-use Rattle.keep_meaning.specs.Meaning.{keys_of, body_fact, valued_mentions, keyed_mentions, entries_mentions, line_mentions, after_line, lines_mentions, reading_after_lines, lines, mentions_in}
+use Rattle.keep_meaning.specs.Meaning.{keys_of, body_fact, valued_mentions, keyed_mentions, entries_mentions}
+use Rattle.keep_meaning.specs.Meaning.{line_mentions, after_line, lines_mentions, reading_after_lines, lines}
+use Rattle.keep_meaning.specs.Meaning.{mentions_in}
 use Rattle.keep_meaning.specs.Counts.{is_value}
 use Rattle.keep_meaning.specs.Nodes.{is_define, is_begun, is_dotted, is_element}
 use Rattle.keep_edit_spec.specs.Lines.{leads_dotted, is_header}
-use Rattle.keep_edit_spec.proofs.Common.Runs.{AllOf, SomeOf, Allowed, Rules, kinds_allow, exclusive, some_left, some_right, same_path-refl}
+use Rattle.keep_edit_spec.proofs.Common.Runs.{AllOf, SomeOf, Allowed, Rules, kinds_allow, exclusive, some_left}
+use Rattle.keep_edit_spec.proofs.Common.Runs.{some_right, same_path-refl}
 use Rattle.keep_edit_spec.proofs.Common.SetLaw.{IsAloneAt}
 use Rattle.keep_edit_spec.proofs.Common.BodyEnd.{IsStated, begins_stated}
 use Rattle.keep_edit_spec.proofs.Common.Doubles.{IsMentioned, has_some}
@@ -31,7 +35,9 @@ use Rattle.keep_edit_spec.proofs.Insert.Origins.{dotted_ends, no_root}
 
 -- ---- what may not be said beside one another
 
-clash : (P Q : MentionKind → Bool) → ((a b : MentionKind) → P a ≡ true → Q b ≡ true → (kinds_allow a b ≡ false) × (kinds_allow b a ≡ false)) → ((a : MentionKind) → P a ≡ true → Q a ≡ true → ⊥) → (p : List Part) (ms : List Mention)
+clash : (P Q : MentionKind → Bool)
+    → ((a b : MentionKind) → P a ≡ true → Q b ≡ true → (kinds_allow a b ≡ false) × (kinds_allow b a ≡ false))
+    → ((a : MentionKind) → P a ≡ true → Q a ≡ true → ⊥) → (p : List Part) (ms : List Mention)
     → SomeOf (IsMentioned P p) ms → SomeOf (IsMentioned Q p) ms → Rules ms → ⊥
 clash P Q never disjoint p [] s t rules = s
 clash P Q never disjoint p (m ∷ ms) (inl s) (inl t) rules = disjoint m.kind s.1 t.1
@@ -40,13 +46,15 @@ clash P Q never disjoint p (m ∷ ms) (inl s) (inr t) rules = against ms t rules
   where
     against : (xs : List Mention) → SomeOf (IsMentioned Q p) xs → AllOf (Allowed m) xs → ⊥
     against [] t h = t
-    against (x ∷ xs) (inl t) h = let k : true ≡ false = sym (h.0 (s.0 ∙ sym t.0)) ∙ (never m.kind x.kind s.1 t.1).0 in absurd cc
+    against (x ∷ xs) (inl t) h =
+        let k : true ≡ false = sym (h.0 (s.0 ∙ sym t.0)) ∙ (never m.kind x.kind s.1 t.1).0 in absurd cc
     against (x ∷ xs) (inr t) h = against xs t h.1
 clash P Q never disjoint p (m ∷ ms) (inr s) (inl t) rules = against ms s rules.0
   where
     against : (xs : List Mention) → SomeOf (IsMentioned P p) xs → AllOf (Allowed m) xs → ⊥
     against [] s h = s
-    against (x ∷ xs) (inl s) h = let k : true ≡ false = sym (h.0 (t.0 ∙ sym s.0)) ∙ (never x.kind m.kind s.1 t.1).1 in absurd cc
+    against (x ∷ xs) (inl s) h =
+        let k : true ≡ false = sym (h.0 (t.0 ∙ sym s.0)) ∙ (never x.kind m.kind s.1 t.1).1 in absurd cc
     against (x ∷ xs) (inr s) h = against xs s h.1
 
 -- a value, a header's table, or an array of tables: none is gone on from by dots
@@ -57,7 +65,8 @@ no_dots define = true
 no_dots marks_of.element = true
 no_dots _ = false
 
-dots_disjoint : (a b : MentionKind) → is_dotted a ≡ true → no_dots b ≡ true → (kinds_allow a b ≡ false) × (kinds_allow b a ≡ false)
+dots_disjoint : (a b : MentionKind) → is_dotted a ≡ true → no_dots b ≡ true
+    → (kinds_allow a b ≡ false) × (kinds_allow b a ≡ false)
 dots_disjoint dotted (value f) h g = (refl, refl)
 dots_disjoint dotted (item f) h g = (refl, refl)
 dots_disjoint dotted define h g = (refl, refl)
@@ -82,20 +91,28 @@ element_no_dots : (a : MentionKind) → is_element a ≡ true → no_dots a ≡ 
 element_no_dots marks_of.element h = refl
 element_no_dots other h = absurd cc
 
-some_as : (P Q : MentionKind → Bool) → ((a : MentionKind) → P a ≡ true → Q a ≡ true) → (p : List Part) (ms : List Mention) → SomeOf (IsMentioned P p) ms → SomeOf (IsMentioned Q p) ms
+some_as : (P Q : MentionKind → Bool) → ((a : MentionKind) → P a ≡ true → Q a ≡ true)
+    → (p : List Part) (ms : List Mention) → SomeOf (IsMentioned P p) ms → SomeOf (IsMentioned Q p) ms
 some_as P Q f p [] s = s
 some_as P Q f p (m ∷ ms) (inl s) = inl (s.0, f m.kind s.1)
 some_as P Q f p (m ∷ ms) (inr s) = inr (some_as P Q f p ms s)
 
-module _ (p : List Part) (s : Document) (rules : Rules (mentions_in s)) (dots : SomeOf (IsMentioned is_dotted p) (mentions_in s)) where
+module _ (p : List Part) (s : Document) (rules : Rules (mentions_in s))
+    (dots : SomeOf (IsMentioned is_dotted p) (mentions_in s)) where
   pub no_value : SomeOf (IsMentioned is_value p) (mentions_in s) → ⊥
-  no_value h = clash is_dotted no_dots dots_disjoint dots_not p (mentions_in s) dots (some_as is_value no_dots (λ a e. (value_no_dots a e).0) p (mentions_in s) h) rules
+  no_value h =
+      clash is_dotted no_dots dots_disjoint dots_not p (mentions_in s) dots
+      (some_as is_value no_dots (λ a e. (value_no_dots a e).0) p (mentions_in s) h) rules
 
   pub no_define : SomeOf (IsMentioned is_define p) (mentions_in s) → ⊥
-  no_define h = clash is_dotted no_dots dots_disjoint dots_not p (mentions_in s) dots (some_as is_define no_dots define_no_dots p (mentions_in s) h) rules
+  no_define h =
+      clash is_dotted no_dots dots_disjoint dots_not p (mentions_in s) dots
+      (some_as is_define no_dots define_no_dots p (mentions_in s) h) rules
 
   pub no_element : SomeOf (IsMentioned is_element p) (mentions_in s) → ⊥
-  no_element h = clash is_dotted no_dots dots_disjoint dots_not p (mentions_in s) dots (some_as is_element no_dots element_no_dots p (mentions_in s) h) rules
+  no_element h =
+      clash is_dotted no_dots dots_disjoint dots_not p (mentions_in s) dots
+      (some_as is_element no_dots element_no_dots p (mentions_in s) h) rules
 
   pub no_begun : SomeOf (IsMentioned is_begun p) (mentions_in s) → ⊥
   no_begun h = never_begun p (mentions_in s) (lines_begun p (dotted_ends p s dots) start (lines s)) h
@@ -108,37 +125,48 @@ IsBody b ms = (b ≡ []) ⊎ (SomeOf (IsMentioned is_define b) ms ⊎ SomeOf (Is
 stated_body : (b : List Part) (ms : List Mention) → SomeOf (IsStated b) ms → IsBody b ms
 stated_body b ms h = inr (by ms h)
   where
-    by : (ms : List Mention) → SomeOf (IsStated b) ms → SomeOf (IsMentioned is_define b) ms ⊎ SomeOf (IsMentioned is_begun b) ms
+    by : (ms : List Mention) → SomeOf (IsStated b) ms
+        → SomeOf (IsMentioned is_define b) ms ⊎ SomeOf (IsMentioned is_begun b) ms
     by [] h = absurd h
     by (m ∷ ms) (inl h) = one (is_define m.kind) refl (is_begun m.kind) refl h.1
       where
-        one : (c : Bool) → is_define m.kind ≡ c → (d : Bool) → is_begun m.kind ≡ d → (is_define m.kind || is_begun m.kind) ≡ true → SomeOf (IsMentioned is_define b) (m ∷ ms) ⊎ SomeOf (IsMentioned is_begun b) (m ∷ ms)
+        one : (c : Bool) → is_define m.kind ≡ c → (d : Bool) → is_begun m.kind ≡ d
+            → (is_define m.kind || is_begun m.kind) ≡ true
+            → SomeOf (IsMentioned is_define b) (m ∷ ms) ⊎ SomeOf (IsMentioned is_begun b) (m ∷ ms)
         one true e d f k = inl (inl (h.0, e))
         one false e true f k = inr (inl (h.0, f))
         one false e false f k = let no : (is_define m.kind || is_begun m.kind) ≡ false = rw (e, f) refl in absurd cc
     by (m ∷ ms) (inr h) = elim (by ms h) [ inl a ↦ inl (inr a) | inr a ↦ inr (inr a) ]
 
-plain_content : (r : Reading) (before after : Gap) (comment : Option Written) (c : Content) → is_header c ≡ false → after_line r (record { before = before; content = c; after = after; comment = comment }) ≡ r
+plain_content : (r : Reading) (before after : Gap) (comment : Option Written) (c : Content) → is_header c ≡ false
+    → after_line r (record { before = before; content = c; after = after; comment = comment }) ≡ r
 plain_content r before after comment blank h = refl
 plain_content r before after comment (keyval name v) h = refl
 plain_content r before after comment (header b k a) h = absurd cc
 plain_content r before after comment (element b k a) h = absurd cc
 
-body_stated : (r : Reading) (ls : List Line) → ((reading_after_lines r ls).body ≡ r.body) ⊎ SomeOf (IsStated (reading_after_lines r ls).body) (lines_mentions r ls)
+body_stated : (r : Reading) (ls : List Line)
+    → ((reading_after_lines r ls).body ≡ r.body)
+    ⊎ SomeOf (IsStated (reading_after_lines r ls).body) (lines_mentions r ls)
 body_stated r [] = inl refl
 body_stated r (l ∷ ls) = elim (body_stated (after_line r l) ls) [
-  | inr h ↦ inr (some_right (IsStated (reading_after_lines (after_line r l) ls).body) (line_mentions r l) (lines_mentions (after_line r l) ls) h)
+  | inr h ↦
+      inr (some_right (IsStated (reading_after_lines (after_line r l) ls).body) (line_mentions r l)
+      (lines_mentions (after_line r l) ls) h)
   | inl e ↦ by (is_header l.content) refl e
 ]
   where
     at : List Part
     at = (reading_after_lines (after_line r l) ls).body
 
-    by : (b : Bool) → is_header l.content ≡ b → at ≡ (after_line r l).body → (at ≡ r.body) ⊎ SomeOf (IsStated at) (lines_mentions r (l ∷ ls))
+    by : (b : Bool) → is_header l.content ≡ b → at ≡ (after_line r l).body
+        → (at ≡ r.body) ⊎ SomeOf (IsStated at) (lines_mentions r (l ∷ ls))
     by false h e = inl (e ∙ ap (λ (x : Reading). x.body) (plain_content r l.before l.after l.comment l.content h))
     by true h e =
-        let stated : SomeOf (IsStated (after_line r l).body) (line_mentions r l) = begins_stated (after_line r l).body r l (rw h (same_path-refl (after_line r l).body)) in
-        inr (subst (λ (p : List Part). SomeOf (IsStated p) (lines_mentions r (l ∷ ls))) (sym e) (some_left (IsStated (after_line r l).body) (line_mentions r l) (lines_mentions (after_line r l) ls) stated))
+        let stated : SomeOf (IsStated (after_line r l).body) (line_mentions r l) =
+        begins_stated (after_line r l).body r l (rw h (same_path-refl (after_line r l).body)) in
+        inr (subst (λ (p : List Part). SomeOf (IsStated p) (lines_mentions r (l ∷ ls))) (sym e)
+        (some_left (IsStated (after_line r l).body) (line_mentions r l) (lines_mentions (after_line r l) ls) stated))
 
 -- ---- the base of a line's key
 
@@ -147,37 +175,55 @@ pub record IsLineBase (s : Document) (a b : List Part) : Type 0 where
   pub from : IsDottedFrom (mentions_in s) a b
   pub body : IsBody b (mentions_in s)
 
-from_more : (x base : List Part) (ms ns : List Mention) → ((P : Mention → Type 0) → SomeOf P ms → SomeOf P ns) → IsDottedFrom ms x base → IsDottedFrom ns x base
-from_more x base ms ns carry h = record { first = h.first; prefix = h.prefix; whole = h.whole; dots = λ g gs back e. carry (IsMentioned is_dotted (base ++ map key (g ∷ gs))) (h.dots g gs back e) }
+from_more : (x base : List Part) (ms ns : List Mention) → ((P : Mention → Type 0) → SomeOf P ms → SomeOf P ns)
+    → IsDottedFrom ms x base → IsDottedFrom ns x base
+from_more x base ms ns carry h =
+    record {
+      first = h.first;
+      prefix = h.prefix;
+      whole = h.whole;
+      dots = λ g gs back e. carry (IsMentioned is_dotted (base ++ map key (g ∷ gs))) (h.dots g gs back e);
+    }
 
 content_from : (a : List Part) (r : Reading) (before after : Gap) (comment : Option Written) (c : Content)
-    → (let l : Line = record { before = before; content = c; after = after; comment = comment } in leads_dotted a r l ≡ true → IsDottedFrom (line_mentions r l) a r.body)
+    → (let l : Line = record { before = before; content = c; after = after; comment = comment } in
+    leads_dotted a r l ≡ true → IsDottedFrom (line_mentions r l) a r.body)
 content_from a r before after comment blank h = absurd cc
 content_from a r before after comment (header b k x) h = absurd cc
 content_from a r before after comment (element b k x) h = absurd cc
 content_from a r before after comment (keyval name v) h =
     let keys : List (List ℕ) = keys_of name.key in
     let vs : List Mention = valued_mentions (value (body_fact v.body)) (entries_mentions 0 v.nested) in
-    let some : SomeOf (IsMentioned is_dotted a) (map (below r.body) (keyed_mentions keys [])) = has_some is_dotted a (map (below r.body) (keyed_mentions keys [])) h in
+    let some : SomeOf (IsMentioned is_dotted a) (map (below r.body) (keyed_mentions keys [])) =
+    has_some is_dotted a (map (below r.body) (keyed_mentions keys [])) h in
     let u = some_unbelow is_dotted r.body a (keyed_mentions keys []) some in
-    let own : IsDottedFrom (map (below r.body) (keyed_mentions keys vs)) (r.body ++ u.0) (r.body ++ []) = from_below r.body u.0 [] (keyed_mentions keys vs) (own_from keys u.0 vs (dotted_prefix keys u.0 u.1.1)) in
+    let own : IsDottedFrom (map (below r.body) (keyed_mentions keys vs)) (r.body ++ u.0) (r.body ++ []) =
+    from_below r.body u.0 [] (keyed_mentions keys vs) (own_from keys u.0 vs (dotted_prefix keys u.0 u.1.1)) in
     subst (λ (x : List Part). IsDottedFrom (map (below r.body) (keyed_mentions keys vs)) x r.body) (sym u.1.0)
-    (subst (λ (b : List Part). IsDottedFrom (map (below r.body) (keyed_mentions keys vs)) (r.body ++ u.0) b) (append-nil r.body) own)
+    (subst (λ (b : List Part). IsDottedFrom (map (below r.body) (keyed_mentions keys vs)) (r.body ++ u.0) b)
+    (append-nil r.body) own)
 
 -- of a line among those of the document
-pub line_base : (s : Document) (a : List Part) (pre : List Line) (l : Line) (post : List Line) → lines s ≡ pre ++ l ∷ post → leads_dotted a (reading_after_lines start pre) l ≡ true
+pub line_base : (s : Document) (a : List Part) (pre : List Line) (l : Line) (post : List Line)
+    → lines s ≡ pre ++ l ∷ post → leads_dotted a (reading_after_lines start pre) l ≡ true
     → IsLineBase s a (reading_after_lines start pre).body
 line_base s a pre l post was goes =
     let r : Reading = reading_after_lines start pre in
-    let mentioned : mentions_in s ≡ lines_mentions start pre ++ (line_mentions r l ++ lines_mentions (after_line r l) post) = ap (lines_mentions start) was ∙ lines_mentions-append start pre (l ∷ post) in
+    let mentioned : mentions_in s ≡ lines_mentions start pre
+    ++ (line_mentions r l ++ lines_mentions (after_line r l) post) =
+    ap (lines_mentions start) was ∙ lines_mentions-append start pre (l ∷ post) in
     let here : IsDottedFrom (line_mentions r l) a r.body = content_from a r l.before l.after l.comment l.content goes in
     record {
       from = from_more a r.body (line_mentions r l) (mentions_in s)
-          (λ P h. subst (SomeOf P) (sym mentioned) (some_right P (lines_mentions start pre) (line_mentions r l ++ lines_mentions (after_line r l) post) (some_left P (line_mentions r l) (lines_mentions (after_line r l) post) h))) here;
+          (λ P h. subst (SomeOf P) (sym mentioned)
+          (some_right P (lines_mentions start pre) (line_mentions r l ++ lines_mentions (after_line r l) post)
+          (some_left P (line_mentions r l) (lines_mentions (after_line r l) post) h))) here;
       body = elim (body_stated start pre) [
         | inl e ↦ inl e
         | inr t ↦ stated_body r.body (mentions_in s)
-            (subst (SomeOf (IsStated r.body)) (sym mentioned) (some_left (IsStated r.body) (lines_mentions start pre) (line_mentions r l ++ lines_mentions (after_line r l) post) t))
+            (subst (SomeOf (IsStated r.body)) (sym mentioned)
+            (some_left (IsStated r.body) (lines_mentions start pre)
+            (line_mentions r l ++ lines_mentions (after_line r l) post) t))
       ];
     }
 
@@ -185,8 +231,10 @@ line_base s a pre l post was goes =
 
 pub data Prefixes (b c : List Part) (ks js : List (List ℕ)) : Type 0 where
   same : b ≡ c → Prefixes b c ks js
-  longer : (g : List ℕ) (gs back : List (List ℕ)) → c ≡ b ++ map key (g ∷ gs) → ks ≡ g ∷ (gs ++ back) → Prefixes b c ks js
-  shorter : (g : List ℕ) (gs back : List (List ℕ)) → b ≡ c ++ map key (g ∷ gs) → js ≡ g ∷ (gs ++ back) → Prefixes b c ks js
+  longer : (g : List ℕ) (gs back : List (List ℕ)) → c ≡ b ++ map key (g ∷ gs) → ks ≡ g ∷ (gs ++ back)
+      → Prefixes b c ks js
+  shorter : (g : List ℕ) (gs back : List (List ℕ)) → b ≡ c ++ map key (g ∷ gs) → js ≡ g ∷ (gs ++ back)
+      → Prefixes b c ks js
 
 -- a prefix of keys
 key_prefix : (c : List Part) (ks js : List (List ℕ)) → map key ks ≡ c ++ map key js → Prefixes [] c ks js
@@ -196,7 +244,9 @@ key_prefix (p ∷ c) (k ∷ ks) js e =
     let one : key k ≡ p = cc in
     elim (key_prefix c ks js (let rest : map key ks ≡ c ++ map key js = cc in rest)) [
       | same h ↦ longer k [] ks (ap (λ (x : Part). x ∷ c) (sym one) ∙ ap (λ (l : List Part). key k ∷ l) (sym h)) refl
-      | longer g gs back h f ↦ longer k (g ∷ gs) back (ap (λ (x : Part). x ∷ c) (sym one) ∙ ap (λ (l : List Part). key k ∷ l) h) (ap (λ (l : List (List ℕ)). k ∷ l) f)
+      | longer g gs back h f ↦
+          longer k (g ∷ gs) back (ap (λ (x : Part). x ∷ c) (sym one) ∙ ap (λ (l : List Part). key k ∷ l) h)
+          (ap (λ (l : List (List ℕ)). k ∷ l) f)
       | shorter g gs back h f ↦ absurd (no_prefix c (key g) (map key gs) h)
     ]
   where
@@ -246,7 +296,8 @@ alone_of_value p [] s = s
 alone_of_value p (m ∷ ms) (inl s) = inl (record { path = s.0; kind = (value_no_dots m.kind s.1).1 })
 alone_of_value p (m ∷ ms) (inr s) = inr (alone_of_value p ms s)
 
-define_disjoint : (a b : MentionKind) → is_define a ≡ true → is_value b ≡ true → (kinds_allow a b ≡ false) × (kinds_allow b a ≡ false)
+define_disjoint : (a b : MentionKind) → is_define a ≡ true → is_value b ≡ true
+    → (kinds_allow a b ≡ false) × (kinds_allow b a ≡ false)
 define_disjoint define (value f) h g = (refl, refl)
 define_disjoint define (item f) h g = (refl, refl)
 define_disjoint define other h g = absurd cc
@@ -257,21 +308,36 @@ define_not define h g = absurd cc
 define_not other h g = absurd cc
 
 -- a body's path has no value
-pub body_no_value : (s : Document) (b : List Part) → Rules (mentions_in s) → IsBody b (mentions_in s) → SomeOf (IsMentioned is_value b) (mentions_in s) → ⊥
-body_no_value s b rules (inl e) h = no_root_value (mentions_in s) (formed_lines start (lines s)) (subst (λ (p : List Part). SomeOf (IsMentioned is_value p) (mentions_in s)) e h)
-body_no_value s b rules (inr (inl d)) h = clash is_define is_value define_disjoint define_not b (mentions_in s) d h rules
+pub body_no_value : (s : Document) (b : List Part) → Rules (mentions_in s) → IsBody b (mentions_in s)
+    → SomeOf (IsMentioned is_value b) (mentions_in s) → ⊥
+body_no_value s b rules (inl e) h =
+    no_root_value (mentions_in s) (formed_lines start (lines s))
+    (subst (λ (p : List Part). SomeOf (IsMentioned is_value p) (mentions_in s)) e h)
+body_no_value s b rules (inr (inl d)) h =
+    clash is_define is_value define_disjoint define_not b (mentions_in s) d h rules
 body_no_value s b rules (inr (inr g)) h = begun_alone s b rules g (alone_of_value b (mentions_in s) h)
 
 -- and no dots are said of it
-pub body_no_dots : (s : Document) (b : List Part) → Rules (mentions_in s) → IsBody b (mentions_in s) → SomeOf (IsMentioned is_dotted b) (mentions_in s) → ⊥
+pub body_no_dots : (s : Document) (b : List Part) → Rules (mentions_in s) → IsBody b (mentions_in s)
+    → SomeOf (IsMentioned is_dotted b) (mentions_in s) → ⊥
 body_no_dots s b rules (inl e) h = no_root (subst EndsInKey e (dotted_ends b s h))
 body_no_dots s b rules (inr (inl d)) h = no_define b s rules h d
 body_no_dots s b rules (inr (inr g)) h = no_begun b s rules h g
 
 -- Where a line's key continues from the path, no key in braces does.
-pub not_in_braces : (s : Document) (a b : List Part) → Rules (mentions_in s) → IsLineBase s a b → IsDottedIn (mentions_in s) a → ⊥
-not_in_braces s a b rules line h = elim (prefixes_of b h.base (line.from.first ∷ line.from.prefix) (h.from.first ∷ h.from.prefix) (sym line.from.whole ∙ h.from.whole)) [
-  | same e ↦ body_no_value s b rules line.body (subst (λ (p : List Part). SomeOf (IsMentioned is_value p) (mentions_in s)) (sym e) h.held)
-  | longer g gs back e f ↦ no_value h.base s rules (subst (λ (p : List Part). SomeOf (IsMentioned is_dotted p) (mentions_in s)) (sym e) (line.from.dots g gs back f)) h.held
-  | shorter g gs back e f ↦ body_no_dots s b rules line.body (subst (λ (p : List Part). SomeOf (IsMentioned is_dotted p) (mentions_in s)) (sym e) (h.from.dots g gs back f))
-]
+pub not_in_braces : (s : Document) (a b : List Part) → Rules (mentions_in s) → IsLineBase s a b
+    → IsDottedIn (mentions_in s) a → ⊥
+not_in_braces s a b rules line h =
+    elim (prefixes_of b h.base (line.from.first ∷ line.from.prefix) (h.from.first ∷ h.from.prefix)
+    (sym line.from.whole ∙ h.from.whole)) [
+      | same e ↦
+          body_no_value s b rules line.body
+          (subst (λ (p : List Part). SomeOf (IsMentioned is_value p) (mentions_in s)) (sym e) h.held)
+      | longer g gs back e f ↦
+          no_value h.base s rules (subst (λ (p : List Part). SomeOf (IsMentioned is_dotted p) (mentions_in s)) (sym e)
+          (line.from.dots g gs back f)) h.held
+      | shorter g gs back e f ↦
+          body_no_dots s b rules line.body
+          (subst (λ (p : List Part). SomeOf (IsMentioned is_dotted p) (mentions_in s)) (sym e)
+          (h.from.dots g gs back f))
+    ]

@@ -1,11 +1,13 @@
 -- What the origin of a node tells of what is said at its path.
 --
 -- An origin is the first that fits of six numbers, each of which is known exactly if such a thing is said of the path
--- (`mention_with_number`, `unsaid_of_none`). So `Header` and `Element` tell of a header, and `Dotted` and `Through` that no header
+-- (`mention_with_number`, `unsaid_of_none`). So `Header` and `Element` tell of a header, and `Dotted` and `Through`
+-- that no header
 -- defines or begins the node. What headers and dots name ends in a key, so it is not the root.
 --
 -- Theorems: `headed_of_header`, `headed_of_element`, `headed_one`, `dotted_node`, `through_node`.
-use Rattle.std.proofs.Common.{◌≡◌, ℕ, Bool, true, false, List, [], ◌∷◌, ◌++◌, map, refl, sym, ap, subst, ◌∙◌, Option, Some, None, ◌⊎◌, inl, inr}
+use Rattle.std.proofs.Common.{◌≡◌, ℕ, Bool, true, false, List, [], ◌∷◌, ◌++◌, map, refl, sym, ap, subst, ◌∙◌, Option}
+use Rattle.std.proofs.Common.{Some, None, ◌⊎◌, inl, inr}
 use Rattle.keep_types.proofs.Shared.{one_of_two}
 use Rattle.std.specs.Prelude.{fold, if◌then◌else◌}
 use Rattle.std.specs.Option.{option_map}
@@ -14,10 +16,13 @@ use Rattle.keep_syntax.specs.Tree.{Written, Gap, Content, blank, keyval, header,
 use Rattle.keep_path.specs.Path.{Part, index, same_path}
 use Rattle.keep_types.specs.declared.node.Origin.{Origin}
 use Rattle.keep_types.specs.declared.node.Origin.TheVariants as origin
-use Rattle.keep_meaning.specs.Marks.{MentionKind, through, define, dotted, Mention, Reading, start, header_path, elements_of}
+use Rattle.keep_meaning.specs.Marks.{MentionKind, through, define, dotted, Mention, Reading, start, header_path}
+use Rattle.keep_meaning.specs.Marks.{elements_of}
 use Rattle.keep_meaning.specs.Meaning.{keys_of, key_value, further_value, after_line, lines, mentions_in}
 use Rattle.keep_meaning.specs.Counts.{Count, Numbered, is_value, numbered_in}
-use Rattle.keep_meaning.specs.Nodes.{is_at, numbered_at, mention_of, last_number, statement_number, value_number, first_that_fits, mentioned_origin, is_define, is_begun, is_dotted, is_element, is_through}
+use Rattle.keep_meaning.specs.Nodes.{is_at, numbered_at, mention_of, last_number, statement_number, value_number}
+use Rattle.keep_meaning.specs.Nodes.{first_that_fits, mentioned_origin, is_define, is_begun, is_dotted, is_element}
+use Rattle.keep_meaning.specs.Nodes.{is_through}
 use Rattle.keep_meaning.proofs.Shared.{mentions-numbered_in}
 use Rattle.keep_edit_spec.specs.Lines.{last_line, begins, is_header}
 use Rattle.keep_edit_spec.proofs.Common.Runs.{AllOf, SomeOf, same_path-sound, same_path-refl}
@@ -41,32 +46,38 @@ module _ (is : MentionKind → Bool) (number : Count → ℕ) (path : List Part)
   abbrev last_from : Option ℕ → List Numbered → Option ℕ
   last_from known ns = fold known_after known (numbered_at path ns)
 
-  last_past : (known : Option ℕ) (n : Numbered) (ns : List Numbered) → is_at path n.mention ≡ false → last_from known (n ∷ ns) ≡ last_from known ns
+  last_past : (known : Option ℕ) (n : Numbered) (ns : List Numbered) → is_at path n.mention ≡ false
+      → last_from known (n ∷ ns) ≡ last_from known ns
   last_past known n ns e = rw e refl
 
-  last_at : (known : Option ℕ) (n : Numbered) (ns : List Numbered) (b : Bool) → is_at path n.mention ≡ true → is n.mention.kind ≡ b
-      → last_from known (n ∷ ns) ≡ last_from (if b then Some (number n.before) else known) ns
+  last_at : (known : Option ℕ) (n : Numbered) (ns : List Numbered) (b : Bool) → is_at path n.mention ≡ true
+      → is n.mention.kind ≡ b → last_from known (n ∷ ns) ≡ last_from (if b then Some (number n.before) else known) ns
   last_at known n ns b e k = by e ∙ ap (λ (c : Bool). last_from (if c then Some (number n.before) else known) ns) k
     where
       by : is_at path n.mention ≡ true → last_from known (n ∷ ns) ≡ last_from (known_after known n) ns
       by e = rw e refl
 
-  mentioned_from : (x : ℕ) (known : Option ℕ) (ns : List Numbered) → last_from known ns ≡ Some x → (known ≡ Some x) ⊎ SomeOf (IsMentioned is path) (map mention_of ns)
+  mentioned_from : (x : ℕ) (known : Option ℕ) (ns : List Numbered) → last_from known ns ≡ Some x
+      → (known ≡ Some x) ⊎ SomeOf (IsMentioned is path) (map mention_of ns)
   mentioned_from x known [] e = inl e
-  mentioned_from x known (n ∷ ns) e = by (is_at path n.mention) refl (is n.mention.kind) refl (λ k. mentioned_from x k ns)
+  mentioned_from x known (n ∷ ns) e =
+      by (is_at path n.mention) refl (is n.mention.kind) refl (λ k. mentioned_from x k ns)
     where
       by : (b : Bool) → is_at path n.mention ≡ b → (c : Bool) → is n.mention.kind ≡ c
           → ((k : Option ℕ) → last_from k ns ≡ Some x → (k ≡ Some x) ⊎ SomeOf (IsMentioned is path) (map mention_of ns))
           → (known ≡ Some x) ⊎ SomeOf (IsMentioned is path) (map mention_of (n ∷ ns))
-      by false at c k more = elim (more known (sym (last_past known n ns at) ∙ e)) [ inl h ↦ inl h | inr h ↦ inr (inr h) ]
+      by false at c k more =
+          elim (more known (sym (last_past known n ns at) ∙ e)) [ inl h ↦ inl h | inr h ↦ inr (inr h) ]
       by true at true k more = inr (inl (same_path-sound n.mention.path path at, k))
-      by true at false k more = elim (more known (sym (last_at known n ns false at k) ∙ e)) [ inl h ↦ inl h | inr h ↦ inr (inr h) ]
+      by true at false k more =
+          elim (more known (sym (last_at known n ns false at k) ∙ e)) [ inl h ↦ inl h | inr h ↦ inr (inr h) ]
 
   preserved : (x : ℕ) (ns : List Numbered) → last_from (Some x) ns ≡ None → ⊥
   preserved x [] e = absurd cc
   preserved x (n ∷ ns) e = by (is_at path n.mention) refl (is n.mention.kind) refl (λ y. preserved y ns)
     where
-      by : (b : Bool) → is_at path n.mention ≡ b → (c : Bool) → is n.mention.kind ≡ c → ((y : ℕ) → last_from (Some y) ns ≡ None → ⊥) → ⊥
+      by : (b : Bool) → is_at path n.mention ≡ b → (c : Bool) → is n.mention.kind ≡ c
+          → ((y : ℕ) → last_from (Some y) ns ≡ None → ⊥) → ⊥
       by false at c k more = more x (sym (last_past (Some x) n ns at) ∙ e)
       by true at true k more = more (number n.before) (sym (last_at (Some x) n ns true at k) ∙ e)
       by true at false k more = more x (sym (last_at (Some x) n ns false at k) ∙ e)
@@ -75,15 +86,19 @@ module _ (is : MentionKind → Bool) (number : Count → ℕ) (path : List Part)
   none_from [] e s = s
   none_from (n ∷ ns) e s = by (is_at path n.mention) refl (is n.mention.kind) refl s (none_from ns)
     where
-      by : (b : Bool) → is_at path n.mention ≡ b → (c : Bool) → is n.mention.kind ≡ c → SomeOf (IsMentioned is path) (map mention_of (n ∷ ns))
+      by : (b : Bool) → is_at path n.mention ≡ b → (c : Bool) → is n.mention.kind ≡ c
+          → SomeOf (IsMentioned is path) (map mention_of (n ∷ ns))
           → (last_from None ns ≡ None → SomeOf (IsMentioned is path) (map mention_of ns) → ⊥) → ⊥
-      by false at c k (inl h) more = let here : is_at path n.mention ≡ true = ap (λ (q : List Part). same_path q path) h.0 ∙ same_path-refl path in absurd cc
+      by false at c k (inl h) more =
+          let here : is_at path n.mention ≡ true = ap (λ (q : List Part). same_path q path) h.0 ∙ same_path-refl path in
+          absurd cc
       by false at c k (inr h) more = more (sym (last_past None n ns at) ∙ e) h
       by true at true k h more = preserved (number n.before) ns (sym (last_at None n ns true at k) ∙ e)
       by true at false k (inl h) more = let yes : is n.mention.kind ≡ true = h.1 in absurd cc
       by true at false k (inr h) more = more (sym (last_at None n ns false at k) ∙ e) h
 
-pub mention_with_number : (is : MentionKind → Bool) (number : Count → ℕ) (path : List Part) (s : Document) (x : ℕ) → last_number is number (numbered_at path (numbered_in s)) ≡ Some x → SomeOf (IsMentioned is path) (mentions_in s)
+pub mention_with_number : (is : MentionKind → Bool) (number : Count → ℕ) (path : List Part) (s : Document) (x : ℕ)
+    → last_number is number (numbered_at path (numbered_in s)) ≡ Some x → SomeOf (IsMentioned is path) (mentions_in s)
 mention_with_number is number path s x e =
     let first : last_from is number path None (numbered_in s) ≡ Some x = e in
     elim (mentioned_from is number path x None (numbered_in s) first) [
@@ -91,14 +106,17 @@ mention_with_number is number path s x e =
       | inr h ↦ subst (SomeOf (IsMentioned is path)) (mentions-numbered_in s) h
     ]
 
-pub unsaid_of_none : (is : MentionKind → Bool) (number : Count → ℕ) (path : List Part) (s : Document) → last_number is number (numbered_at path (numbered_in s)) ≡ None → SomeOf (IsMentioned is path) (mentions_in s) → ⊥
-unsaid_of_none is number path s e h = none_from is number path (numbered_in s) e (subst (SomeOf (IsMentioned is path)) (sym (mentions-numbered_in s)) h)
+pub unsaid_of_none : (is : MentionKind → Bool) (number : Count → ℕ) (path : List Part) (s : Document)
+    → last_number is number (numbered_at path (numbered_in s)) ≡ None → SomeOf (IsMentioned is path) (mentions_in s) → ⊥
+unsaid_of_none is number path s e h =
+    none_from is number path (numbered_in s) e (subst (SomeOf (IsMentioned is path)) (sym (mentions-numbered_in s)) h)
 
 -- ---- the first that fits
 
 abbrev origin_from : (a b c d e f : Option ℕ) → Origin
 origin_from a b c d e f =
-    first_that_fits (option_map origin.Value a ∷ option_map (λ i. origin.Tables) b ∷ option_map origin.Element c ∷ option_map origin.Header d ∷ option_map origin.Dotted e ∷ option_map origin.Through f ∷ [])
+    first_that_fits (option_map origin.Value a ∷ option_map (λ i. origin.Tables) b ∷ option_map origin.Element c
+    ∷ option_map origin.Header d ∷ option_map origin.Dotted e ∷ option_map origin.Through f ∷ [])
 
 header_from : (a b c d e f : Option ℕ) (n : ℕ) → origin_from a b c d e f ≡ origin.Header n → d ≡ Some n
 header_from (Some i) b c d e f n h = absurd cc
@@ -129,7 +147,8 @@ dotted_from (Some i) b c d e f n h = absurd cc
 dotted_from None (Some i) c d e f n h = absurd cc
 dotted_from None None (Some i) d e f n h = absurd cc
 dotted_from None None None (Some i) e f n h = absurd cc
-dotted_from None None None None (Some i) f n h = let same : i ≡ n = cc in record { value = refl; element = refl; header = refl; dotted = ap Some same }
+dotted_from None None None None (Some i) f n h =
+    let same : i ≡ n = cc in record { value = refl; element = refl; header = refl; dotted = ap Some same }
 dotted_from None None None None None (Some i) n h = absurd cc
 dotted_from None None None None None None n h = absurd cc
 
@@ -145,11 +164,13 @@ through_from None (Some i) c d e f n h = absurd cc
 through_from None None (Some i) d e f n h = absurd cc
 through_from None None None (Some i) e f n h = absurd cc
 through_from None None None None (Some i) f n h = absurd cc
-through_from None None None None None (Some i) n h = let same : i ≡ n = cc in record { element = refl; header = refl; dotted = refl; through = ap Some same }
+through_from None None None None None (Some i) n h =
+    let same : i ≡ n = cc in record { element = refl; header = refl; dotted = refl; through = ap Some same }
 through_from None None None None None None n h = absurd cc
 
 -- where no value, no header and no element is mentioned, but a dotted key is
-pub dotted_first : (a b c d e f : Option ℕ) (n : ℕ) → a ≡ None → b ≡ None → c ≡ None → d ≡ None → e ≡ Some n → origin_from a b c d e f ≡ origin.Dotted n
+pub dotted_first : (a b c d e f : Option ℕ) (n : ℕ) → a ≡ None → b ≡ None → c ≡ None → d ≡ None → e ≡ Some n
+    → origin_from a b c d e f ≡ origin.Dotted n
 dotted_first a b c d e f n ha hb hc hd he = rw (ha, hb, hc, hd, he) refl
 
 -- ---- of a document's node
@@ -161,13 +182,19 @@ abbrev pub stated : (MentionKind → Bool) → (Count → ℕ) → List Part →
 stated is number path s = last_number is number (numbered_at path (numbered_in s))
 
 -- a header defines the table, or begins the element
-pub headed_of_header : (path : List Part) (s : Document) (n : ℕ) → origin_at path s ≡ origin.Header n → IsHeaded path s n
+pub headed_of_header : (path : List Part) (s : Document) (n : ℕ) → origin_at path s ≡ origin.Header n
+    → IsHeaded path s n
 headed_of_header path s n h =
-    inl (header_from (stated is_value value_number path s) (stated is_element statement_number path s) (stated is_begun statement_number path s) (stated is_define statement_number path s) (stated is_dotted value_number path s) (stated is_through statement_number path s) n h)
+    inl (header_from (stated is_value value_number path s) (stated is_element statement_number path s)
+    (stated is_begun statement_number path s) (stated is_define statement_number path s)
+    (stated is_dotted value_number path s) (stated is_through statement_number path s) n h)
 
-pub headed_of_element : (path : List Part) (s : Document) (n : ℕ) → origin_at path s ≡ origin.Element n → IsHeaded path s n
+pub headed_of_element : (path : List Part) (s : Document) (n : ℕ) → origin_at path s ≡ origin.Element n
+    → IsHeaded path s n
 headed_of_element path s n h =
-    inr (element_from (stated is_value value_number path s) (stated is_element statement_number path s) (stated is_begun statement_number path s) (stated is_define statement_number path s) (stated is_dotted value_number path s) (stated is_through statement_number path s) n h)
+    inr (element_from (stated is_value value_number path s) (stated is_element statement_number path s)
+    (stated is_begun statement_number path s) (stated is_define statement_number path s)
+    (stated is_dotted value_number path s) (stated is_through statement_number path s) n h)
 
 -- nothing has a header, and this is stated
 pub record IsDottedNode (path : List Part) (s : Document) (n : ℕ) : Type 0 where
@@ -178,8 +205,15 @@ pub record IsDottedNode (path : List Part) (s : Document) (n : ℕ) : Type 0 whe
 
 pub dotted_node : (path : List Part) (s : Document) (n : ℕ) → origin_at path s ≡ origin.Dotted n → IsDottedNode path s n
 dotted_node path s n h =
-    let k = dotted_from (stated is_value value_number path s) (stated is_element statement_number path s) (stated is_begun statement_number path s) (stated is_define statement_number path s) (stated is_dotted value_number path s) (stated is_through statement_number path s) n h in
-    record { number = k.dotted; value = k.value; header = unsaid_of_none is_define statement_number path s k.header; element = unsaid_of_none is_begun statement_number path s k.element }
+    let k = dotted_from (stated is_value value_number path s) (stated is_element statement_number path s)
+    (stated is_begun statement_number path s) (stated is_define statement_number path s)
+    (stated is_dotted value_number path s) (stated is_through statement_number path s) n h in
+    record {
+      number = k.dotted;
+      value = k.value;
+      header = unsaid_of_none is_define statement_number path s k.header;
+      element = unsaid_of_none is_begun statement_number path s k.element;
+    }
 
 pub record IsThroughNode (path : List Part) (s : Document) (n : ℕ) : Type 0 where
   pub number : last_number is_through statement_number (numbered_at path (numbered_in s)) ≡ Some n
@@ -187,9 +221,12 @@ pub record IsThroughNode (path : List Part) (s : Document) (n : ℕ) : Type 0 wh
   pub element : SomeOf (IsMentioned is_begun path) (mentions_in s) → ⊥
   pub dotted : SomeOf (IsMentioned is_dotted path) (mentions_in s) → ⊥
 
-pub through_node : (path : List Part) (s : Document) (n : ℕ) → origin_at path s ≡ origin.Through n → IsThroughNode path s n
+pub through_node : (path : List Part) (s : Document) (n : ℕ) → origin_at path s ≡ origin.Through n
+    → IsThroughNode path s n
 through_node path s n h =
-    let k = through_from (stated is_value value_number path s) (stated is_element statement_number path s) (stated is_begun statement_number path s) (stated is_define statement_number path s) (stated is_dotted value_number path s) (stated is_through statement_number path s) n h in
+    let k = through_from (stated is_value value_number path s) (stated is_element statement_number path s)
+    (stated is_begun statement_number path s) (stated is_define statement_number path s)
+    (stated is_dotted value_number path s) (stated is_through statement_number path s) n h in
     record {
       number = k.through;
       header = unsaid_of_none is_define statement_number path s k.header;
@@ -212,7 +249,8 @@ formed_ends define p h f = f
 formed_ends dotted p h f = f
 formed_ends other p h f = absurd cc
 
-some_ends : (is : MentionKind → Bool) → ((a : MentionKind) → is a ≡ true → by_key a ≡ true) → (p : List Part) (ms : List Mention) → AllOf Formed ms → SomeOf (IsMentioned is p) ms → EndsInKey p
+some_ends : (is : MentionKind → Bool) → ((a : MentionKind) → is a ≡ true → by_key a ≡ true)
+    → (p : List Part) (ms : List Mention) → AllOf Formed ms → SomeOf (IsMentioned is p) ms → EndsInKey p
 some_ends is keyed p [] f s = absurd s
 some_ends is keyed p (m ∷ ms) f (inl s) = subst EndsInKey s.0 (formed_ends m.kind m.path (keyed m.kind s.1) f.0)
 some_ends is keyed p (m ∷ ms) f (inr s) = some_ends is keyed p ms f.1 s
@@ -236,11 +274,14 @@ pub no_root : EndsInKey [] → ⊥
 no_root ends = never_root [] ends ([], refl)
 
 begun_content : (r : Reading) (before after : Gap) (comment : Option Written) (c : Content)
-    → (let l : Line = record { before = before; content = c; after = after; comment = comment } in is_header c ≡ true → (after_line r l).body ≡ [] → ⊥)
+    → (let l : Line = record { before = before; content = c; after = after; comment = comment } in
+    is_header c ≡ true → (after_line r l).body ≡ [] → ⊥)
 begun_content r before after comment blank h e = absurd cc
 begun_content r before after comment (keyval name v) h e = absurd cc
-begun_content r before after comment (header b k a) h e = no_root (subst EndsInKey e (path_ends r.tables [] (key_value k.first) (map further_value k.more)))
-begun_content r before after comment (element b k a) h e = longer (header_path r.tables [] (keys_of k)) (index (elements_of (header_path r.tables [] (keys_of k)) r.tables)) e
+begun_content r before after comment (header b k a) h e =
+    no_root (subst EndsInKey e (path_ends r.tables [] (key_value k.first) (map further_value k.more)))
+begun_content r before after comment (element b k a) h e =
+    longer (header_path r.tables [] (keys_of k)) (index (elements_of (header_path r.tables [] (keys_of k)) r.tables)) e
   where
     longer : (p : List Part) (x : Part) → p ++ x ∷ [] ≡ [] → ⊥
     longer [] x e = absurd cc
@@ -256,15 +297,22 @@ no_root_header s i e =
 
 -- ---- where a header is mentioned, some line begins the body, and its number is that of the last
 
-pub headed_begins : (path : List Part) (s : Document) (n : ℕ) → IsHeaded path s n → IsSome (last_line (begins path) start (lines s))
-headed_begins path s n (inl d) = (some_begins path start (lines s) (mention_with_number is_define statement_number path s n d)).0
-headed_begins path s n (inr b) = element_there.some_begins path start (lines s) (mention_with_number is_begun statement_number path s n b)
+pub headed_begins : (path : List Part) (s : Document) (n : ℕ) → IsHeaded path s n
+    → IsSome (last_line (begins path) start (lines s))
+headed_begins path s n (inl d) =
+    (some_begins path start (lines s) (mention_with_number is_define statement_number path s n d)).0
+headed_begins path s n (inr b) =
+    element_there.some_begins path start (lines s) (mention_with_number is_begun statement_number path s n b)
 
 -- an element is not defined by a header
-not_both : (path : List Part) (s : Document) (a b : ℕ) → last_number is_define statement_number (numbered_at path (numbered_in s)) ≡ Some a → last_number is_begun statement_number (numbered_at path (numbered_in s)) ≡ Some b → ⊥
+not_both : (path : List Part) (s : Document) (a b : ℕ)
+    → last_number is_define statement_number (numbered_at path (numbered_in s)) ≡ Some a
+    → last_number is_begun statement_number (numbered_at path (numbered_in s)) ≡ Some b → ⊥
 not_both path s a b d e =
-    let ends : EndsInKey path = (some_begins path start (lines s) (mention_with_number is_define statement_number path s a d)).1 in
-    never_begun path (mentions_in s) (lines_begun path ends start (lines s)) (mention_with_number is_begun statement_number path s b e)
+    let ends : EndsInKey path =
+    (some_begins path start (lines s) (mention_with_number is_define statement_number path s a d)).1 in
+    never_begun path (mentions_in s) (lines_begun path ends start (lines s))
+    (mention_with_number is_begun statement_number path s b e)
 
 pub headed_one : (path : List Part) (s : Document) (a b : ℕ) → IsHeaded path s a → IsHeaded path s b → a ≡ b
 headed_one path s a b (inl d) (inl e) = one_of_two _ a b d e

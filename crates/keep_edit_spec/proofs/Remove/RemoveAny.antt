@@ -24,7 +24,8 @@ use Rattle.keep_edit_spec.proofs.Remove.RemoveWhole.{IsRemovedWhole, removable, 
 use Rattle.keep_edit_spec.proofs.Remove.RemoveElement.{element_dropped}
 use Rattle.keep_edit_spec.proofs.Remove.ElementThere.{some_of_element, begun_alone}
 
-three_pieces : (v d t b q : Bool) → (v || ((d && not t) || (b && not q))) ≡ true → (v ≡ true) ⊎ ((d ≡ true) ⊎ (q ≡ false))
+three_pieces : (v d t b q : Bool) → (v || ((d && not t) || (b && not q))) ≡ true
+    → (v ≡ true) ⊎ ((d ≡ true) ⊎ (q ≡ false))
 three_pieces true d t b q h = inl refl
 three_pieces false true t b q h = inr (inl refl)
 three_pieces false false t b false h = inr (inr refl)
@@ -32,28 +33,37 @@ three_pieces false false t true true h = absurd cc
 three_pieces false false t false true h = absurd cc
 
 -- no header goes past an element that may be removed
-not_passed : (profile : Profile) (limit : ℕ) (s : Document) (path : List Part) → Rules (mentions_in s) → SomeOf (IsMentioned is_begun path) (mentions_in s) → refusal profile limit s (remove path) ≡ None → has is_passed path (mentions_in s) ≡ false
+not_passed : (profile : Profile) (limit : ℕ) (s : Document) (path : List Part) → Rules (mentions_in s)
+    → SomeOf (IsMentioned is_begun path) (mentions_in s) → refusal profile limit s (remove path) ≡ None
+    → has is_passed path (mentions_in s) ≡ false
 not_passed profile limit s path rules there allowed =
     let ms : List Mention = mentions_in s in
     let piece = (removable profile limit s path allowed).piece in
-    elim (three_pieces (has_value path ms) (has is_define path ms) (has is_through path ms) (has is_begun path ms) (has is_passed path ms) piece) [
+    elim (three_pieces (has_value path ms) (has is_define path ms) (has is_through path ms) (has is_begun path ms)
+    (has is_passed path ms) piece) [
       | inl valued ↦ absurd (begun_alone s path rules there (alone_of_has path ms valued))
       | inr more ↦ (elim more [
-        | inl defined ↦ absurd (never_begun path ms (lines_begun path (defined_ends s path (has_some is_define path ms defined)) start (lines s)) there)
+        | inl defined ↦
+            absurd (never_begun path ms (lines_begun path (defined_ends s path (has_some is_define path ms defined))
+            start (lines s)) there)
         | inr free ↦ free
       ])
     ]
 
-remove_element_whole : (profile : Profile) (limit : ℕ) (s : Document) (path : List Part) → IsDocument profile s → ObeysRules (marks (mentions_in s)) → has is_begun path (mentions_in s) ≡ true
+remove_element_whole : (profile : Profile) (limit : ℕ) (s : Document) (path : List Part) → IsDocument profile s
+    → ObeysRules (marks (mentions_in s)) → has is_begun path (mentions_in s) ≡ true
     → refusal profile limit s (remove path) ≡ None → IsRemovedWhole profile s path
 remove_element_whole profile limit s path valid obeys begins allowed =
     let rules : Rules (mentions_in s) = rules_of_document s obeys in
     let there : SomeOf (IsMentioned is_begun path) (mentions_in s) = has_some is_begun path (mentions_in s) begins in
     whole_of profile s path (some_of_element s path there)
-    (together profile s (remove path) (change s (remove path)) (valid_remove profile s path valid) (change-is s (remove path))
-    (remove_by profile s path valid rules (element_dropped s path rules there (not_passed profile limit s path rules there allowed))))
+    (together profile s (remove path) (change s (remove path)) (valid_remove profile s path valid)
+    (change-is s (remove path))
+    (remove_by profile s path valid rules
+    (element_dropped s path rules there (not_passed profile limit s path rules there allowed))))
 
-pub remove_any : (profile : Profile) (limit : ℕ) (s : Document) (path : List Part) → IsDocument profile s → ObeysRules (marks (mentions_in s)) → refusal profile limit s (remove path) ≡ None → IsRemovedWhole profile s path
+pub remove_any : (profile : Profile) (limit : ℕ) (s : Document) (path : List Part) → IsDocument profile s
+    → ObeysRules (marks (mentions_in s)) → refusal profile limit s (remove path) ≡ None → IsRemovedWhole profile s path
 remove_any profile limit s path valid obeys allowed = by (has is_begun path (mentions_in s)) refl
   where
     by : (b : Bool) → has is_begun path (mentions_in s) ≡ b → IsRemovedWhole profile s path

@@ -8,18 +8,22 @@
 -- is under the path.
 --
 -- Theorem: `element_dropped`: after the element is dropped the rules hold, and the tree has changed as it should.
-use Rattle.std.proofs.Common.{◌≡◌, ℕ, suc, ◌+◌, Bool, true, false, cond, List, [], ◌∷◌, ◌++◌, map, take, drop, refl, sym, ap, subst, ◌∙◌, append_assoc, arith, Option, Some, None, inl, inr}
+use Rattle.std.proofs.Common.{◌≡◌, ℕ, suc, ◌+◌, Bool, true, false, cond, List, [], ◌∷◌, ◌++◌, map, take, drop, refl}
+use Rattle.std.proofs.Common.{sym, ap, subst, ◌∙◌, append_assoc, arith, Option, Some, None, inl, inr}
 use Rattle.std.proofs.lemmas.List.{map-append, append-nil, take-append-drop}
 use Rattle.keep_syntax.specs.Tree.{Written, Gap, Key, Content, blank, keyval, header, element, Line, Document}
 use Rattle.keep_path.specs.Path.{Part, same_path}
-use Rattle.keep_meaning.specs.Marks.{MentionKind, past, begun, passed, element as kinds_element, Mention, fact_of, Reading, start, elements_of, header_path, header_prefixes}
-use Rattle.keep_meaning.specs.Meaning.{key_value, further_value, keys_of, lines_mentions, reading_after_lines, lines, mentions_in}
+use Rattle.keep_meaning.specs.Marks.{MentionKind, past, begun, passed, element as kinds_element, Mention, fact_of}
+use Rattle.keep_meaning.specs.Marks.{Reading, start, elements_of, header_path, header_prefixes}
+use Rattle.keep_meaning.specs.Meaning.{key_value, further_value, keys_of, lines_mentions, reading_after_lines, lines}
+use Rattle.keep_meaning.specs.Meaning.{mentions_in}
 use Rattle.keep_meaning.specs.Nodes.{has, is_begun, is_passed}
 use Rattle.keep_edit_spec.specs.Look.{strip}
 use Rattle.keep_edit_spec.specs.Lines.{drop_lines, last_line, begins, body_length}
 use Rattle.keep_edit_spec.specs.Edits.{remove, without_lines}
 use Rattle.keep_edit_spec.specs.Trees.{IsTreeOf}
-use Rattle.keep_edit_spec.proofs.Common.Runs.{AllOf, SomeOf, pairs_split, all_left, all_right, all_join, Allowed, Rules, kinds_allow, same_path-sound, same_path-refl, strip-append}
+use Rattle.keep_edit_spec.proofs.Common.Runs.{AllOf, SomeOf, pairs_split, all_left, all_right, all_join, Allowed, Rules}
+use Rattle.keep_edit_spec.proofs.Common.Runs.{kinds_allow, same_path-sound, same_path-refl, strip-append}
 use Rattle.keep_edit_spec.proofs.Common.SetLaw.{EachTo}
 use Rattle.keep_edit_spec.proofs.Common.LineLaws.{EndsInKey, lines_mentions-append}
 use Rattle.keep_edit_spec.proofs.Common.SetDocument.{IsLawful, page_lines}
@@ -57,13 +61,15 @@ array_after other e = absurd cc
 abbrev IsOfArray : List Part → Mention → Type 0
 IsOfArray p m = m.path ≡ p → array_mentions m.kind ≡ true
 
-all_before : (p : List Part) (xs ys : List Mention) → Rules (xs ++ record { path = p; kind = kinds_element } ∷ ys) → AllOf (IsOfArray p) xs
+all_before : (p : List Part) (xs ys : List Mention) → Rules (xs ++ record { path = p; kind = kinds_element } ∷ ys)
+    → AllOf (IsOfArray p) xs
 all_before p [] ys rules = tt
 all_before p (x ∷ xs) ys rules =
     let across = (pairs_split Allowed (x ∷ xs) (record { path = p; kind = kinds_element } ∷ ys) rules).across in
     ((λ e. array_before x.kind (across.0.0 e)), all_before p xs ys rules.1)
 
-all_after : (p : List Part) (ys : List Mention) → AllOf (Allowed (record { path = p; kind = kinds_element })) ys → AllOf (IsOfArray p) ys
+all_after : (p : List Part) (ys : List Mention) → AllOf (Allowed (record { path = p; kind = kinds_element })) ys
+    → AllOf (IsOfArray p) ys
 all_after p [] h = tt
 all_after p (y ∷ ys) h = ((λ e. array_after y.kind (h.0 (sym e))), all_after p ys h.1)
 
@@ -76,11 +82,16 @@ start_shift prefix ends n = record {
   preserved = disjoint_root prefix n ends;
 }
 
-after_shift : (prefix : List Part) → EndsInKey prefix → (ts : List (List Part)) → IsShift prefix (elements_of prefix ts) ts ts
-    → AreShifted prefix (elements_of prefix ts) (record { tables = ts ++ prefix ∷ []; body = [] }) (record { tables = ts; body = [] })
+after_shift : (prefix : List Part) → EndsInKey prefix → (ts : List (List Part))
+    → IsShift prefix (elements_of prefix ts) ts ts
+    → AreShifted prefix (elements_of prefix ts) (record { tables = ts ++ prefix ∷ []; body = [] })
+    (record { tables = ts; body = [] })
 after_shift prefix ends ts h = record {
   tables = record {
-    others = λ q hq other. h.others q hq other ∙ sym (elements_more q prefix ts ∙ ap (λ (b : Bool). elements_of q ts + cond b 1 0) (unlike q other) ∙ (let e : elements_of q ts + 0 ≡ elements_of q ts = omega arith in e));
+    others =
+        λ q hq other. h.others q hq other
+        ∙ sym (elements_more q prefix ts ∙ ap (λ (b : Bool). elements_of q ts + cond b 1 0) (unlike q other)
+        ∙ (let e : elements_of q ts + 0 ≡ elements_of q ts = omega arith in e));
     side = inr (omega (arith, one_more), omega (arith, one_more));
   };
   body = sym (shifted_root prefix (elements_of prefix ts) ends);
@@ -88,7 +99,8 @@ after_shift prefix ends ts h = record {
 }
   where
     one_more : elements_of prefix (ts ++ prefix ∷ []) ≡ elements_of prefix ts + 1
-    one_more = elements_more prefix prefix ts ∙ ap (λ (b : Bool). elements_of prefix ts + cond b 1 0) (same_path-refl prefix)
+    one_more =
+        elements_more prefix prefix ts ∙ ap (λ (b : Bool). elements_of prefix ts + cond b 1 0) (same_path-refl prefix)
 
     unlike : (q : List Part) → (q ≡ prefix → ⊥) → same_path prefix q ≡ false
     unlike q other = by (same_path prefix q) refl
@@ -99,10 +111,12 @@ after_shift prefix ends ts h = record {
 
 -- ---- the element's lines taken out
 
-regroup : (left prefixes run right : List Mention) (d m : Mention) → left ++ ((prefixes ++ d ∷ m ∷ []) ++ (run ++ right)) ≡ left ++ (((prefixes ++ d ∷ []) ++ (m ∷ run)) ++ right)
+regroup : (left prefixes run right : List Mention) (d m : Mention)
+    → left ++ ((prefixes ++ d ∷ m ∷ []) ++ (run ++ right)) ≡ left ++ (((prefixes ++ d ∷ []) ++ (m ∷ run)) ++ right)
 regroup left prefixes run right d m = simp append_assoc refl
 
-regroup_two : (left prefixes run right : List Mention) (d m : Mention) → left ++ (((prefixes ++ d ∷ []) ++ (m ∷ run)) ++ right) ≡ (left ++ prefixes) ++ (d ∷ ((m ∷ run) ++ right))
+regroup_two : (left prefixes run right : List Mention) (d m : Mention)
+    → left ++ (((prefixes ++ d ∷ []) ++ (m ∷ run)) ++ right) ≡ (left ++ prefixes) ++ (d ∷ ((m ∷ run) ++ right))
 regroup_two left prefixes run right d m = simp append_assoc refl
 
 record IsElementCut (p : List Part) (f : List Part → List Part) (from to : List Mention) : Type 0 where
@@ -114,8 +128,10 @@ element_cut : (pre post : List Line) (l : Line) (b : Gap) (k : Key) (a : Gap) �
     → (let r : Reading = reading_after_lines start pre in
     let prefix : List Part = header_path r.tables [] (keys_of k) in
     let n : ℕ = elements_of prefix r.tables in
-    Rules (lines_mentions start (pre ++ l ∷ post)) → has is_passed (element_at prefix n) (lines_mentions start (pre ++ l ∷ post)) ≡ false
-    → IsElementCut (element_at prefix n) (shifted prefix n) (lines_mentions start (pre ++ l ∷ post)) (lines_mentions start pre ++ lines_mentions r (drop (body_length post) post)))
+    Rules (lines_mentions start (pre ++ l ∷ post))
+    → has is_passed (element_at prefix n) (lines_mentions start (pre ++ l ∷ post)) ≡ false
+    → IsElementCut (element_at prefix n) (shifted prefix n) (lines_mentions start (pre ++ l ∷ post))
+    (lines_mentions start pre ++ lines_mentions r (drop (body_length post) post)))
 element_cut pre post l b k a e rules free =
     let r : Reading = reading_after_lines start pre in
     let prefix : List Part = header_path r.tables [] (keys_of k) in
@@ -135,24 +151,45 @@ element_cut pre post l b k a e rules free =
     let run : List Mention = lines_mentions inner (take (body_length post) post) in
     let right : List Mention = lines_mentions outer rest in
     let post_mentions : lines_mentions inner post ≡ run ++ right =
-    ap (lines_mentions inner) (sym (take-append-drop (body_length post) post)) ∙ lines_mentions-append inner (take (body_length post) post) rest
-    ∙ ap (λ (x : Reading). run ++ lines_mentions x rest) body.keeps ∙ ap (λ (x : List Mention). run ++ x) (body.further []) in
+    ap (lines_mentions inner) (sym (take-append-drop (body_length post) post))
+    ∙ lines_mentions-append inner (take (body_length post) post) rest
+    ∙ ap (λ (x : Reading). run ++ lines_mentions x rest) body.keeps
+    ∙ ap (λ (x : List Mention). run ++ x) (body.further []) in
     let whole : lines_mentions start (pre ++ l ∷ post) ≡ left ++ (((prefixes ++ top ∷ []) ++ (m ∷ run)) ++ right) =
     lines_mentions-append start pre (l ∷ post)
-    ∙ ap (λ (c : Content). left ++ lines_mentions r (record { before = l.before; content = c; after = l.after; comment = l.comment } ∷ post)) e
+    ∙ ap (λ (c : Content).
+    left ++ lines_mentions r (record { before = l.before; content = c; after = l.after; comment = l.comment } ∷ post)) e
     ∙ ap (λ x. left ++ ((prefixes ++ top ∷ m ∷ []) ++ x)) post_mentions
     ∙ regroup left prefixes run right top m in
-    let flat : lines_mentions start (pre ++ l ∷ post) ≡ (left ++ prefixes) ++ (top ∷ ((m ∷ run) ++ right)) = whole ∙ regroup_two left prefixes run right top m in
+    let flat : lines_mentions start (pre ++ l ∷ post) ≡ (left ++ prefixes) ++ (top ∷ ((m ∷ run) ++ right)) =
+    whole ∙ regroup_two left prefixes run right top m in
     let split = pairs_split Allowed (left ++ prefixes) (top ∷ ((m ∷ run) ++ right)) (subst Rules flat rules) in
-    let array_left : AllOf (IsOfArray prefix) left = all_left (IsOfArray prefix) left prefixes (all_before prefix (left ++ prefixes) ((m ∷ run) ++ right) (subst Rules flat rules)) in
-    let array_right : AllOf (IsOfArray prefix) right = all_right (IsOfArray prefix) (m ∷ run) right (all_after prefix ((m ∷ run) ++ right) split.right.0) in
-    let never : AllOf (NotPassed p) ((left ++ prefixes) ++ (top ∷ ((m ∷ run) ++ right))) = none_mentioned is_passed p ((left ++ prefixes) ++ (top ∷ ((m ∷ run) ++ right)))
-    (λ s. let yes : has is_passed p (lines_mentions start (pre ++ l ∷ post)) ≡ true = ap (has is_passed p) flat ∙ some_has is_passed p ((left ++ prefixes) ++ (top ∷ ((m ∷ run) ++ right))) s in absurd cc) in
-    let never_left : AllOf (NotPassed p) left = all_left (NotPassed p) left prefixes (all_left (NotPassed p) (left ++ prefixes) (top ∷ ((m ∷ run) ++ right)) never) in
-    let never_right : AllOf (NotPassed p) right = all_right (NotPassed p) (m ∷ run) right (all_right (NotPassed p) (left ++ prefixes) (top ∷ ((m ∷ run) ++ right)) never).1 in
-    let one = lines_shift prefix ends n start start pre (start_shift prefix ends n) (all_both (IsOfArray prefix) (NotPassed p) left array_left never_left) (inl (omega arith)) in
-    let two = lines_shift prefix ends n outer less rest (after_shift prefix ends r.tables one.next.tables) (all_both (IsOfArray prefix) (NotPassed p) right array_right never_right)
-    (inr (omega (arith, elements_more prefix prefix r.tables ∙ ap (λ (b : Bool). elements_of prefix r.tables + cond b 1 0) (same_path-refl prefix)))) in
+    let array_left : AllOf (IsOfArray prefix) left =
+    all_left (IsOfArray prefix) left prefixes
+    (all_before prefix (left ++ prefixes) ((m ∷ run) ++ right) (subst Rules flat rules)) in
+    let array_right : AllOf (IsOfArray prefix) right =
+    all_right (IsOfArray prefix) (m ∷ run) right (all_after prefix ((m ∷ run) ++ right) split.right.0) in
+    let never : AllOf (NotPassed p) ((left ++ prefixes) ++ (top ∷ ((m ∷ run) ++ right))) =
+    none_mentioned is_passed p ((left ++ prefixes) ++ (top ∷ ((m ∷ run) ++ right)))
+    (λ s. let yes : has is_passed p (lines_mentions start (pre ++ l ∷ post)) ≡ true = ap (has is_passed p) flat
+    ∙ some_has is_passed p ((left ++ prefixes) ++ (top ∷ ((m ∷ run) ++ right))) s in absurd cc) in
+    let never_left : AllOf (NotPassed p) left =
+    all_left (NotPassed p) left prefixes
+    (all_left (NotPassed p) (left ++ prefixes) (top ∷ ((m ∷ run) ++ right)) never) in
+    let never_right : AllOf (NotPassed p) right =
+    all_right (NotPassed p) (m ∷ run) right
+    (all_right (NotPassed p) (left ++ prefixes) (top ∷ ((m ∷ run) ++ right)) never).1 in
+    let one =
+    lines_shift prefix ends n start start pre (start_shift prefix ends n)
+    (all_both (IsOfArray prefix) (NotPassed p) left array_left never_left) (inl (omega arith)) in
+    let two =
+    lines_shift prefix ends n outer less rest (after_shift prefix ends r.tables one.next.tables)
+    (all_both (IsOfArray prefix) (NotPassed p) right array_right never_right)
+    (inr (omega (
+      arith,
+      elements_more prefix prefix r.tables
+          ∙ ap (λ (b : Bool). elements_of prefix r.tables + cond b 1 0) (same_path-refl prefix),
+    ))) in
     record {
       mid = left ++ right;
       cut = record {
@@ -164,7 +201,9 @@ element_cut pre post l b k a e rules free =
         is = refl;
         disjoint_before = one.preserved;
         disjoint_after = two.preserved;
-        silent = all_join (λ (x : Mention). fact_of x.kind ≡ None) prefixes (top ∷ []) (silent_prefixes r.tables [] (keys_of k)) (refl, tt);
+        silent =
+            all_join (λ (x : Mention). fact_of x.kind ≡ None) prefixes (top ∷ [])
+            (silent_prefixes r.tables [] (keys_of k)) (refl, tt);
         under = (([], ap (strip p) (sym (append-nil p)) ∙ strip-append p []), body.under);
       };
       is = ap (λ x. left ++ x) ((body_is r post).further [] ∙ two.mentioned)
@@ -180,42 +219,64 @@ record IsElementLine (r : Reading) (path : List Part) (c : Content) : Type 0 whe
   keys : Key
   after : Gap
   was : c ≡ element before keys after
-  place : element_at (header_path r.tables [] (keys_of keys)) (elements_of (header_path r.tables [] (keys_of keys)) r.tables) ≡ path
+  place : element_at (header_path r.tables [] (keys_of keys))
+      (elements_of (header_path r.tables [] (keys_of keys)) r.tables) ≡ path
 
-begins_element : (path : List Part) (r : Reading) (before after : Gap) (comment : Option Written) (c : Content) → (EndsInKey path → ⊥)
-    → begins path r (record { before = before; content = c; after = after; comment = comment }) ≡ true → IsElementLine r path c
+begins_element : (path : List Part) (r : Reading) (before after : Gap) (comment : Option Written) (c : Content)
+    → (EndsInKey path → ⊥)
+    → begins path r (record { before = before; content = c; after = after; comment = comment }) ≡ true
+    → IsElementLine r path c
 begins_element path r before after comment blank other e = absurd cc
 begins_element path r before after comment (keyval name v) other e = absurd cc
 begins_element path r before after comment (header b k a) other e =
-    absurd (other (subst EndsInKey (same_path-sound (header_path r.tables [] (keys_of k)) path e) (path_ends r.tables [] (key_value k.first) (map further_value k.more))))
-begins_element path r before after comment (element b k a) other e = record { before = b; keys = k; after = a; was = refl; place = same_path-sound _ path e }
+    absurd (other (subst EndsInKey (same_path-sound (header_path r.tables [] (keys_of k)) path e)
+    (path_ends r.tables [] (key_value k.first) (map further_value k.more))))
+begins_element path r before after comment (element b k a) other e =
+    record { before = b; keys = k; after = a; was = refl; place = same_path-sound _ path e }
 
-element_by : (s : Document) (path : List Part) → Rules (mentions_in s) → SomeOf (IsMentioned is_begun path) (mentions_in s) → has is_passed path (mentions_in s) ≡ false → (o : Option ℕ) → IsFound (begins path) start (lines s) o
-    → EachTo (IsLawful s (remove path)) (elim o [ None ↦ None | Some i ↦ without_lines s i (suc (body_length (drop (suc i) (lines s)))) ])
+element_by : (s : Document) (path : List Part) → Rules (mentions_in s)
+    → SomeOf (IsMentioned is_begun path) (mentions_in s) → has is_passed path (mentions_in s) ≡ false → (o : Option ℕ)
+    → IsFound (begins path) start (lines s) o
+    → EachTo (IsLawful s (remove path))
+    (elim o [ None ↦ None | Some i ↦ without_lines s i (suc (body_length (drop (suc i) (lines s)))) ])
 element_by s path rules begins_there free None h = tt
 element_by s path rules begins_there free (Some i) h =
     let r : Reading = reading_after_lines start h.pre in
-    let c = begins_element path r h.line.before h.line.after h.line.comment h.line.content (λ ends. never_begun path (mentions_in s) (lines_begun path ends start (lines s)) begins_there) h.passes in
+    let c = begins_element path r h.line.before h.line.after h.line.comment h.line.content
+    (λ ends. never_begun path (mentions_in s) (lines_begun path ends start (lines s)) begins_there) h.passes in
     let prefix : List Part = header_path r.tables [] (keys_of c.keys) in
     let n : ℕ = elements_of prefix r.tables in
     let from : List Mention = lines_mentions start (h.pre ++ h.line ∷ h.post) in
-    let to : List Mention = lines_mentions start (page_lines (drop_lines i (suc (body_length (drop (suc i) (lines s)))) s.ended s.last).to) in
+    let to : List Mention =
+    lines_mentions start (page_lines (drop_lines i (suc (body_length (drop (suc i) (lines s)))) s.ended s.last).to) in
     let post_is : drop (suc i) (lines s) ≡ h.post =
-    ap (drop (suc i)) h.was ∙ ap (λ (m : ℕ). drop (suc m) (h.pre ++ h.line ∷ h.post)) (sym h.number) ∙ drop_next h.pre h.post h.line in
+    ap (drop (suc i)) h.was ∙ ap (λ (m : ℕ). drop (suc m) (h.pre ++ h.line ∷ h.post)) (sym h.number)
+    ∙ drop_next h.pre h.post h.line in
     let is : to ≡ lines_mentions start h.pre ++ lines_mentions r (drop (body_length h.post) h.post) =
     without_mentions s (begins path) i (suc (body_length (drop (suc i) (lines s)))) h
     ∙ ap (λ (x : List Line). lines_mentions start h.pre ++ lines_mentions r (drop (body_length x) h.post)) post_is in
     let rules' : Rules from = subst (λ (x : List Line). Rules (lines_mentions start x)) h.was rules in
     let free' : has is_passed (element_at prefix n) from ≡ false =
-    subst (λ (q : List Part). has is_passed q from ≡ false) (sym c.place) (subst (λ (x : List Line). has is_passed path (lines_mentions start x) ≡ false) h.was free) in
+    subst (λ (q : List Part). has is_passed q from ≡ false) (sym c.place)
+    (subst (λ (x : List Line). has is_passed path (lines_mentions start x) ≡ false) h.was free) in
     let cut = element_cut h.pre h.post h.line c.before c.keys c.after c.was rules' free' in
-    let law : IsRemoval (element_at prefix n) from to = element_removal prefix n from cut.mid to cut.cut (is ∙ cut.is) rules' in
+    let law : IsRemoval (element_at prefix n) from to =
+    element_removal prefix n from cut.mid to cut.cut (is ∙ cut.is) rules' in
     record {
       rules = law.rules;
-      tree = subst (λ (x : List Line). IsTreeOf (lines_mentions start x) (remove path) to) (sym h.was) (subst (λ (q : List Part). IsTreeOf from (remove q) to) c.place law.tree);
+      tree = subst (λ (x : List Line). IsTreeOf (lines_mentions start x) (remove path) to) (sym h.was)
+          (subst (λ (q : List Part). IsTreeOf from (remove q) to) c.place law.tree);
     }
 
 -- An element dropped, where no header goes past it: the rules are kept, and the tree is changed as stated.
-pub element_dropped : (s : Document) (path : List Part) → Rules (mentions_in s) → SomeOf (IsMentioned is_begun path) (mentions_in s) → has is_passed path (mentions_in s) ≡ false
-    → EachTo (IsLawful s (remove path)) (elim (last_line (begins path) start (lines s)) [ None ↦ None | Some i ↦ without_lines s i (suc (body_length (drop (suc i) (lines s)))) ])
-element_dropped s path rules begins_there free = element_by s path rules begins_there free (last_line (begins path) start (lines s)) (found (begins path) start (lines s))
+pub element_dropped : (s : Document) (path : List Part) → Rules (mentions_in s)
+    → SomeOf (IsMentioned is_begun path) (mentions_in s) → has is_passed path (mentions_in s) ≡ false
+    → EachTo (IsLawful s (remove path))
+    (elim (last_line (begins path) start (lines s)) [
+      | None ↦ None
+      | Some i ↦
+          without_lines s i (suc (body_length (drop (suc i) (lines s))))
+    ])
+element_dropped s path rules begins_there free =
+    element_by s path rules begins_there free (last_line (begins path) start (lines s))
+    (found (begins path) start (lines s))

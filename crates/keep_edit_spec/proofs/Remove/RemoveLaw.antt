@@ -24,7 +24,12 @@ use Rattle.keep_edit_spec.proofs.Remove.RemoveValid.{valid_remove}
 
 -- by what holds of a section's or an element's lines
 pub remove_by : (profile : Profile) (s : Document) (path : List Part) → IsDocument profile s → Rules (mentions_in s)
-    → EachTo (IsLawful s (remove path)) (elim (last_line (begins path) start (lines s)) [ None ↦ None | Some i ↦ without_lines s i (suc (body_length (drop (suc i) (lines s)))) ])
+    → EachTo (IsLawful s (remove path))
+    (elim (last_line (begins path) start (lines s)) [
+      | None ↦ None
+      | Some i ↦
+          without_lines s i (suc (body_length (drop (suc i) (lines s))))
+    ])
     → EachTo (IsLawful s (remove path)) (change s (remove path))
 remove_by profile s path valid rules section =
     to_or_else (IsLawful s (remove path)) _ _ (line_cleared s path rules)
@@ -32,25 +37,35 @@ remove_by profile s path valid rules section =
     (to_or_else (IsLawful s (remove path)) _ _ section (removed_in_value profile s path valid rules)))
 
 -- A path that ends in a key: a keyval in braces, a keyval's line, or a section that no header goes through.
-pub remove_key_law : (profile : Profile) (s : Document) (path : List Part) → EndsInKey path → IsDocument profile s → Rules (mentions_in s) → has is_through path (mentions_in s) ≡ false
+pub remove_key_law : (profile : Profile) (s : Document) (path : List Part) → EndsInKey path → IsDocument profile s
+    → Rules (mentions_in s) → has is_through path (mentions_in s) ≡ false
     → EachTo (IsLawful s (remove path)) (change s (remove path))
-remove_key_law profile s path ends valid rules single = remove_by profile s path valid rules (section_dropped s path ends rules single)
+remove_key_law profile s path ends valid rules single =
+    remove_by profile s path valid rules (section_dropped s path ends rules single)
 
 -- A path that begins no body: of an item, or of a keyval.
-pub remove_value_law : (profile : Profile) (s : Document) (path : List Part) → last_line (begins path) start (lines s) ≡ None → IsDocument profile s → Rules (mentions_in s)
+pub remove_value_law : (profile : Profile) (s : Document) (path : List Part)
+    → last_line (begins path) start (lines s) ≡ None → IsDocument profile s → Rules (mentions_in s)
     → EachTo (IsLawful s (remove path)) (change s (remove path))
 remove_value_law profile s path no_body valid rules =
     remove_by profile s path valid rules
-    (subst (λ (o : Option ℕ). EachTo (IsLawful s (remove path)) (elim o [ None ↦ None | Some i ↦ without_lines s i (suc (body_length (drop (suc i) (lines s)))) ])) (sym no_body) tt)
+    (subst (λ (o : Option ℕ).
+    EachTo (IsLawful s (remove path))
+    (elim o [ None ↦ None | Some i ↦ without_lines s i (suc (body_length (drop (suc i) (lines s)))) ])) (sym no_body)
+    tt)
 
-pub remove_key_is_right : (profile : Profile) (s : Document) (path : List Part) → EndsInKey path → IsDocument profile s → ObeysRules (marks (mentions_in s)) → has is_through path (mentions_in s) ≡ false
+pub remove_key_is_right : (profile : Profile) (s : Document) (path : List Part) → EndsInKey path → IsDocument profile s
+    → ObeysRules (marks (mentions_in s)) → has is_through path (mentions_in s) ≡ false
     → EachChange (IsSetWhole profile s (remove path)) (change s (remove path))
 remove_key_is_right profile s path ends valid obeys single =
-    together profile s (remove path) (change s (remove path)) (valid_remove profile s path valid) (change-is s (remove path))
+    together profile s (remove path) (change s (remove path)) (valid_remove profile s path valid)
+    (change-is s (remove path))
     (remove_key_law profile s path ends valid (rules_of_document s obeys) single)
 
-pub remove_value_is_right : (profile : Profile) (s : Document) (path : List Part) → last_line (begins path) start (lines s) ≡ None → IsDocument profile s → ObeysRules (marks (mentions_in s))
+pub remove_value_is_right : (profile : Profile) (s : Document) (path : List Part)
+    → last_line (begins path) start (lines s) ≡ None → IsDocument profile s → ObeysRules (marks (mentions_in s))
     → EachChange (IsSetWhole profile s (remove path)) (change s (remove path))
 remove_value_is_right profile s path no_body valid obeys =
-    together profile s (remove path) (change s (remove path)) (valid_remove profile s path valid) (change-is s (remove path))
+    together profile s (remove path) (change s (remove path)) (valid_remove profile s path valid)
+    (change-is s (remove path))
     (remove_value_law profile s path no_body valid (rules_of_document s obeys))

@@ -11,7 +11,8 @@ use Rattle.std.proofs.lemmas.List.{append-nil}
 use Rattle.keep_syntax.specs.Tree.{Further, Value, Line, Ended, Document, keyval}
 use Rattle.keep_path.specs.Path.{Part, key, strip}
 use Rattle.keep_meaning.specs.Marks.{Mention, Reading, below, marks, start, value as kinds_value}
-use Rattle.keep_meaning.specs.Meaning.{body_fact, further_value, key_value, keyed_mentions, keyval_mentions, line_of, lines, lines_mentions}
+use Rattle.keep_meaning.specs.Meaning.{body_fact, further_value, key_value, keyed_mentions, keyval_mentions, line_of}
+use Rattle.keep_meaning.specs.Meaning.{lines, lines_mentions}
 use Rattle.keep_meaning.specs.Meaning.{mentions_in, reading_after_lines, step, valued_mentions}
 use Rattle.keep_meaning.specs.OtherValues.{HasOtherValue}
 use Rattle.keep_meaning.specs.Rules.{ObeysRules}
@@ -30,20 +31,23 @@ use Rattle.keep_edit_spec.proofs.Values.LineValue.{replaced_value}
 abbrev replace_line : List Line → Line → List Ended → Line → Page
 replace_line pre l [] last = record { ended = []; last = l }
 replace_line [] l (e ∷ es) last = record { ended = record { line = l; newline = e.newline } ∷ es; last = last }
-replace_line (x ∷ pre) l (e ∷ es) last = let more = replace_line pre l es last in record { ended = e ∷ more.ended; last = more.last }
+replace_line (x ∷ pre) l (e ∷ es) last =
+    let more = replace_line pre l es last in record { ended = e ∷ more.ended; last = more.last }
 
-line_replaced : (pre post : List Line) (old l : Line) (es : List Ended) (last : Line) → map line_of es ++ last ∷ [] ≡ pre ++ old ∷ post
-    → page_lines (replace_line pre l es last) ≡ pre ++ l ∷ post
+line_replaced : (pre post : List Line) (old l : Line) (es : List Ended) (last : Line)
+    → map line_of es ++ last ∷ [] ≡ pre ++ old ∷ post → page_lines (replace_line pre l es last) ≡ pre ++ l ∷ post
 line_replaced [] post old l [] last e = let same : [] ≡ post = cc in ap (λ (ls : List Line). l ∷ ls) same
 line_replaced (x ∷ []) post old l [] last e = let no : [] ≡ old ∷ post = cc in absurd cc
 line_replaced (x ∷ y ∷ pre) post old l [] last e = let no : [] ≡ y ∷ pre ++ old ∷ post = cc in absurd cc
-line_replaced [] post old l (z ∷ es) last e = let same : map line_of es ++ last ∷ [] ≡ post = cc in ap (λ (ls : List Line). l ∷ ls) same
+line_replaced [] post old l (z ∷ es) last e =
+    let same : map line_of es ++ last ∷ [] ≡ post = cc in ap (λ (ls : List Line). l ∷ ls) same
 line_replaced (x ∷ pre) post old l (z ∷ es) last e =
     let head : z.line ≡ x = cc in
     let tail : map line_of es ++ last ∷ [] ≡ pre ++ old ∷ post = cc in
     ap₂ (λ (y : Line) (ls : List Line). y ∷ ls) head (line_replaced pre post old l es last tail)
 
-module _ (s : Document) (path : List Part) (before : List Line) (value : Value) (obeys : ObeysRules (marks (mentions_in s)))
+module _ (s : Document) (path : List Part) (before : List Line) (value : Value)
+    (obeys : ObeysRules (marks (mentions_in s)))
     (h : IsValueLine s path before value) where
   abbrev line : Line
   line = record h.line { content = keyval h.name (bare_value value) }
@@ -64,21 +68,29 @@ module _ (s : Document) (path : List Part) (before : List Line) (value : Value) 
   rules = rules_of_document s obeys
 
   old_rules : Rules (lines_mentions start before ++ (said_by value ++ lines_mentions reading h.after))
-  old_rules = subst Rules (ap (lines_mentions start) h.here ∙ whole_mentions before h.after h.line h.name value h.content) rules
+  old_rules =
+      subst Rules (ap (lines_mentions start) h.here ∙ whole_mentions before h.after h.line h.name value h.content) rules
 
-  beside : IsBeside (reading.body ++ step 0 (Some h.name)) (lines_mentions start before) (said_by value) (lines_mentions reading h.after)
+  beside : IsBeside (reading.body ++ step 0 (Some h.name)) (lines_mentions start before) (said_by value)
+      (lines_mentions reading h.after)
   beside = beside_keyval before h.after h.name value old_rules
 
   abbrev own : Mention
-  own = record { path = reading.body ++ key (key_value h.name.key.first) ∷ []; kind = kinds_value (body_fact value.body) }
+  own = record {
+    path = reading.body ++ key (key_value h.name.key.first) ∷ [];
+    kind = kinds_value (body_fact value.body);
+  }
 
   said_bare : said_by (bare_value value) ≡ own ∷ []
   said_bare =
       let says : List Mention = valued_mentions (kinds_value (body_fact value.body)) [] in
-      ap (λ (fs : List Further). map (below reading.body) (keyed_mentions (key_value h.name.key.first ∷ map further_value fs) says)) h.one
+      ap (λ (fs : List Further).
+      map (below reading.body) (keyed_mentions (key_value h.name.key.first ∷ map further_value fs) says)) h.one
 
   own_path : own.path ≡ reading.body ++ step 0 (Some h.name)
-  own_path = ap (λ (fs : List Further). reading.body ++ key (key_value h.name.key.first) ∷ map key (map further_value fs)) (sym h.one)
+  own_path =
+      ap (λ (fs : List Further). reading.body ++ key (key_value h.name.key.first) ∷ map key (map further_value fs))
+      (sym h.one)
 
   bare_rules : Rules (mentions_in bare)
   bare_rules =
@@ -90,19 +102,27 @@ module _ (s : Document) (path : List Part) (before : List Line) (value : Value) 
       ∙ ap (λ (ms : List Mention). left ++ (ms ++ right)) said_bare in
       let under : strip p own.path ≡ Some [] = ap (strip p) (own_path ∙ sym (append-nil p)) ∙ strip-append p [] in
       subst Rules (sym whole)
-      (rules_replaced p left (said_by value) (own ∷ []) right old_rules beside.before beside.after (([], under), tt) (tt, tt))
+      (rules_replaced p left (said_by value) (own ∷ []) right old_rules beside.before beside.after (([], under), tt)
+      (tt, tt))
 
   value_taken : HasOtherValue s bare path (bare_value value)
   value_taken =
       subst (λ (p : List Part). HasOtherValue s bare p (bare_value value)) h.place
-      (replaced_value s bare before h.after h.line line h.name value (bare_value value) rules h.here h.content bare_lines refl)
+      (replaced_value s bare before h.after h.line line h.name value (bare_value value) rules h.here h.content
+      bare_lines refl)
 
   line_taken : HasLineAt (edited_document s (remove path)) bare path (body_fact value.body) before
-  line_taken = takes s path before value obeys h bare (bare_statements bare before h.after line h.name value bare_lines refl h.one)
+  line_taken =
+      takes s path before value obeys h bare
+      (bare_statements bare before h.after line h.name value bare_lines refl h.one)
 
   pub both_taken : (bare : Document) × HasOtherValue s bare path (bare_value value)
       × IsBareLine (edited_document s (remove path)) bare path (body_fact value.body) before
-  both_taken = (bare, value_taken, bare_line (edited_document s (remove path)) bare path (body_fact value.body) before line_taken bare_rules)
+  both_taken = (
+    bare,
+    value_taken,
+    bare_line (edited_document s (remove path)) bare path (body_fact value.body) before line_taken bare_rules,
+  )
 
 pub remove_takes_value : RemoveTakesValue
 remove_takes_value profile limit s path before value editable h = both_taken s path before value editable.obeys h

@@ -28,8 +28,12 @@ in_profile Wide l text h = leaf_wider l text h
 
 pub key_text : (profile : Profile) (k : List ℕ) → IsUtf8 k → IsKeyText profile k
 key_text profile k utf8 = record {
-  valid = (key_kind (is_bare_text k), in_profile profile (encoded_key_leaf k) (encoded_key k) (key_is_leaf k (text_bytes k utf8)));
-  means = sym (means_value (encoded_key_leaf k) (encoded_key k) k (string_kind (is_bare_text k)) (means_wider (encoded_key_leaf k) (encoded_key k) k (key_means k (text_bytes k utf8))));
+  valid = (
+    key_kind (is_bare_text k),
+    in_profile profile (encoded_key_leaf k) (encoded_key k) (key_is_leaf k (text_bytes k utf8)),
+  );
+  means = sym (means_value (encoded_key_leaf k) (encoded_key k) k (string_kind (is_bare_text k))
+      (means_wider (encoded_key_leaf k) (encoded_key k) k (key_means k (text_bytes k utf8))));
 }
 
 pub key_texts : (profile : Profile) (ks : List (List ℕ)) → AllByRecursion IsUtf8 ks → AllOf (IsKeyText profile) ks

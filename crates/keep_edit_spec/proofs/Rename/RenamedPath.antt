@@ -1,10 +1,12 @@
 -- Paths where one key is replaced: at and under the old path, and nowhere else.
-use Rattle.std.proofs.Common.{◌≡◌, ℕ, ◌<◌, List, [], ◌∷◌, ◌++◌, length, map, refl, sym, ap, ◌∙◌, append_assoc, length-append, arith, Option, Some, None, ◌⊎◌, inl, inr}
+use Rattle.std.proofs.Common.{◌≡◌, ℕ, ◌<◌, List, [], ◌∷◌, ◌++◌, length, map, refl, sym, ap, ◌∙◌, append_assoc}
+use Rattle.std.proofs.Common.{length-append, arith, Option, Some, None, ◌⊎◌, inl, inr}
 use Rattle.keep_path.specs.Path.{Part, key, index, moved_path}
 use Rattle.keep_meaning.specs.Marks.{Mention, below}
 use Rattle.keep_edit_spec.specs.Look.{strip}
 use Rattle.keep_edit_spec.proofs.Common.Runs.{AllOf, IsDisjoint, strip-sound, strip-append, strip_both, none_or_some}
-use Rattle.keep_edit_spec.proofs.Common.LineLaws.{Reaches, EndsInKey, prefix_cases, within_first, beyond, one_part, last_from, last_snoc}
+use Rattle.keep_edit_spec.proofs.Common.LineLaws.{Reaches, EndsInKey, prefix_cases, within_first, beyond, one_part}
+use Rattle.keep_edit_spec.proofs.Common.LineLaws.{last_from, last_snoc}
 use Rattle.keep_edit_spec.proofs.Common.SetDocument.{cancel}
 use Rattle.keep_edit_spec.proofs.Common.Moves.{moved, IsInjectiveOn}
 
@@ -45,16 +47,20 @@ renamed_injective p b x y hx hy e = by (strip p x) (strip p y) refl refl e
 -- ---- one step on
 
 pub strip_more : (p q x r : List Part) → strip p q ≡ Some r → strip p (q ++ x) ≡ Some (r ++ x)
-strip_more p q x r h = ap (λ l. strip p (l ++ x)) (strip-sound p q r h) ∙ ap (strip p) (append_assoc p r x) ∙ strip-append p (r ++ x)
+strip_more p q x r h =
+    ap (λ l. strip p (l ++ x)) (strip-sound p q r h) ∙ ap (strip p) (append_assoc p r x) ∙ strip-append p (r ++ x)
 
 pub renamed_beyond : (p b q x : List Part) → Reaches p q → moved_path p b (q ++ x) ≡ moved_path p b q ++ x
 renamed_beyond p b q x h =
-    under_renamed p b (q ++ x) (h.0 ++ x) (strip_more p q x h.0 h.1) ∙ sym (append_assoc b h.0 x) ∙ ap (λ l. l ++ x) (sym (under_renamed p b q h.0 h.1))
+    under_renamed p b (q ++ x) (h.0 ++ x) (strip_more p q x h.0 h.1) ∙ sym (append_assoc b h.0 x)
+    ∙ ap (λ l. l ++ x) (sym (under_renamed p b q h.0 h.1))
 
-pub renamed_step : (p b q : List Part) (x : Part) → (q ++ x ∷ [] ≡ p → ⊥) → moved_path p b (q ++ x ∷ []) ≡ moved_path p b q ++ x ∷ []
+pub renamed_step : (p b q : List Part) (x : Part) → (q ++ x ∷ [] ≡ p → ⊥)
+    → moved_path p b (q ++ x ∷ []) ≡ moved_path p b q ++ x ∷ []
 renamed_step p b q x never = by (none_or_some (strip p q)) (none_or_some (strip p (q ++ x ∷ [])))
   where
-    by : (strip p q ≡ None) ⊎ Reaches p q → (strip p (q ++ x ∷ []) ≡ None) ⊎ Reaches p (q ++ x ∷ []) → moved_path p b (q ++ x ∷ []) ≡ moved_path p b q ++ x ∷ []
+    by : (strip p q ≡ None) ⊎ Reaches p q → (strip p (q ++ x ∷ []) ≡ None) ⊎ Reaches p (q ++ x ∷ [])
+        → moved_path p b (q ++ x ∷ []) ≡ moved_path p b q ++ x ∷ []
     by (inr h) o = renamed_beyond p b q (x ∷ []) h
     by (inl e) (inl e') = disjoint_renamed p b (q ++ x ∷ []) e' ∙ ap (λ l. l ++ x ∷ []) (sym (disjoint_renamed p b q e))
     by (inl e) (inr u) = elim (prefix_cases p q (x ∷ []) u.0 u.1) [
@@ -67,30 +73,39 @@ renamed_step p b q x never = by (none_or_some (strip p q)) (none_or_some (strip 
 
 pub not_index : (p q : List Part) (n : ℕ) → EndsInKey p → q ++ index n ∷ [] ≡ p → ⊥
 not_index p q n ends e =
-    let same : index n ≡ key ends.1 = sym (last_snoc (index n) (index n) q) ∙ ap (last_from (index n)) (e ∙ ends.2) ∙ last_snoc (index n) (key ends.1) ends.0 in
+    let same : index n ≡ key ends.1 =
+    sym (last_snoc (index n) (index n) q) ∙ ap (last_from (index n)) (e ∙ ends.2)
+    ∙ last_snoc (index n) (key ends.1) ends.0 in
     absurd cc
 
-pub renamed_index : (p b q : List Part) (n : ℕ) → EndsInKey p → moved_path p b (q ++ index n ∷ []) ≡ moved_path p b q ++ index n ∷ []
+pub renamed_index : (p b q : List Part) (n : ℕ) → EndsInKey p
+    → moved_path p b (q ++ index n ∷ []) ≡ moved_path p b q ++ index n ∷ []
 renamed_index p b q n ends = renamed_step p b q (index n) (λ e. not_index p q n ends e)
 
 -- what is shorter than a path is disjoint from it
 pub short_disjoint : (p q : List Part) → length q < length p → strip p q ≡ None
 short_disjoint p q h = elim (none_or_some (strip p q)) [
   | inl e ↦ e
-  | inr u ↦ (let k : length q ≡ length (p ++ u.0) = ap length (strip-sound p q u.0 u.1) in absurd (omega (arith, k, length-append p u.0)))
+  | inr u ↦
+      (let k : length q ≡ length (p ++ u.0) = ap length (strip-sound p q u.0 u.1) in
+      absurd (omega (arith, k, length-append p u.0)))
 ]
 
 -- ---- mentions
 
-pub moved_disjoint : (p b : List Part) (ms : List Mention) → AllOf (IsDisjoint p) ms → map (moved (moved_path p b)) ms ≡ ms
+pub moved_disjoint : (p b : List Part) (ms : List Mention) → AllOf (IsDisjoint p) ms
+    → map (moved (moved_path p b)) ms ≡ ms
 moved_disjoint p b [] h = refl
 moved_disjoint p b (m ∷ ms) h =
-    ap (λ (q : List Part). record { path = q; kind = m.kind } ∷ map (moved (moved_path p b)) ms) (disjoint_renamed p b m.path h.0) ∙ ap (λ l. m ∷ l) (moved_disjoint p b ms h.1)
+    ap (λ (q : List Part). record { path = q; kind = m.kind } ∷ map (moved (moved_path p b)) ms)
+    (disjoint_renamed p b m.path h.0) ∙ ap (λ l. m ∷ l) (moved_disjoint p b ms h.1)
 
-pub moved_under : (p b at : List Part) (ms : List Mention) → Reaches p at → map (moved (moved_path p b)) (map (below at) ms) ≡ map (below (moved_path p b at)) ms
+pub moved_under : (p b at : List Part) (ms : List Mention) → Reaches p at
+    → map (moved (moved_path p b)) (map (below at) ms) ≡ map (below (moved_path p b at)) ms
 moved_under p b at [] h = refl
 moved_under p b at (m ∷ ms) h =
-    ap (λ (q : List Part). record { path = q; kind = m.kind } ∷ map (moved (moved_path p b)) (map (below at) ms)) (renamed_beyond p b at m.path h)
+    ap (λ (q : List Part). record { path = q; kind = m.kind } ∷ map (moved (moved_path p b)) (map (below at) ms))
+    (renamed_beyond p b at m.path h)
     ∙ ap (λ l. below (moved_path p b at) m ∷ l) (moved_under p b at ms h)
 
 -- seen from outside, the path continues from a prefix
@@ -101,8 +116,11 @@ renamed_both s p b q = ap (replaced (s ++ b) (s ++ q)) (strip_both s p q) ∙ by
     by None = refl
     by (Some r) = append_assoc s b r
 
-pub moved_below : (s p b : List Part) (ms : List Mention) → map (moved (moved_path (s ++ p) (s ++ b))) (map (below s) ms) ≡ map (below s) (map (moved (moved_path p b)) ms)
+pub moved_below : (s p b : List Part) (ms : List Mention)
+    → map (moved (moved_path (s ++ p) (s ++ b))) (map (below s) ms) ≡ map (below s) (map (moved (moved_path p b)) ms)
 moved_below s p b [] = refl
 moved_below s p b (m ∷ ms) =
-    ap (λ (q : List Part). record { path = q; kind = m.kind } ∷ map (moved (moved_path (s ++ p) (s ++ b))) (map (below s) ms)) (renamed_both s p b m.path)
+    ap (λ (q : List Part).
+    record { path = q; kind = m.kind } ∷ map (moved (moved_path (s ++ p) (s ++ b))) (map (below s) ms))
+    (renamed_both s p b m.path)
     ∙ ap (λ l. below s (moved (moved_path p b) m) ∷ l) (moved_below s p b ms)

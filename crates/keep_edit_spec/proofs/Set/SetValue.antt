@@ -1,35 +1,50 @@
--- Where `set` puts a value with a key in place of another, the numbered mentions of the value give place to those of the
+-- Where `set` puts a value with a key in place of another, the numbered mentions of the value give place to those of
+-- the
 -- new one, and what comes after has its numbers moved by how many values and key parts more, or fewer, there are.
 --
--- What a value says is one run of mentions of its keyval (`IsSet`). The numbers after the run are those after the value's
+-- What a value says is one run of mentions of its keyval (`IsSet`). The numbers after the run are those after the
+-- value's
 -- own mention, raised by how many values and key parts its entries have (`after_run`), and so are all numbers of what
 -- follows in the statement and in the statements after it (`raised_mentions`, `raised_from`). So what follows the old
--- value and what follows the new one are one list, raised by what the entries of each have (`numbers_around`). An item's
+-- value and what follows the new one are one list, raised by what the entries of each have (`numbers_around`). An
+-- item's
 -- path ends in its number (`entries_items`), so at a path that ends in a key the value has a name (`value_named`).
 --
 -- Theorems: `value_set`, and `value_in_place` for a line whose own value is another, whatever the edit.
-use Rattle.std.proofs.Common.{◌≡◌, ℕ, suc, ◌+◌, ◌-◌, ◌≤◌, List, [], ◌∷◌, ◌++◌, length, map, refl, sym, ap, ap₂, subst, ◌∙◌, append_assoc, length-append, arith, Option, Some, None}
+use Rattle.std.proofs.Common.{◌≡◌, ℕ, suc, ◌+◌, ◌-◌, ◌≤◌, List, [], ◌∷◌, ◌++◌, length, map, refl, sym, ap, ap₂, subst}
+use Rattle.std.proofs.Common.{◌∙◌, append_assoc, length-append, arith, Option, Some, None}
 use Rattle.std.specs.List.{filter_map}
 use Rattle.std.proofs.lemmas.List.{map-append}
 use Rattle.std.proofs.lemmas.List.Sums.{fold-append}
 use Rattle.keep_syntax.specs.Tree.{Name, Entries, none, entry, Value, keyval, Line, Ended, Document}
 use Rattle.keep_syntax.specs.Numbered as syntax
-use Rattle.keep_syntax.specs.Numbered.{over_lines, line_values, line_start, next_line, first_line, value_count, part_count}
+use Rattle.keep_syntax.specs.Numbered.{over_lines, line_values, line_start, next_line, first_line, value_count}
+use Rattle.keep_syntax.specs.Numbered.{part_count}
 use Rattle.keep_path.specs.Path.{Part, key, index, last_part, EndsInKey}
 use Rattle.keep_meaning.specs.Fact.{Fact}
 use Rattle.keep_meaning.specs.Marks as marks
-use Rattle.keep_meaning.specs.Marks.{MentionKind, value, item, dotted, Mention, Statement, below, Reading, statement_mentions, next_reading, reading_after, start}
-use Rattle.keep_meaning.specs.Meaning.{key_value, further_value, body_fact, valued_mentions, keyed_mentions, entry_mentions, entries_mentions, keyval_mentions, statement_of, line_mentions, after_line, line_of, lines_mentions, reading_after_lines, lines, mentions_in}
-use Rattle.keep_meaning.specs.Counts.{Count, Numbered, is_value, is_mark, one_if, count_with_mention, count_after, next_count, no_count, numbered_mentions, numbered_from, count_from, line_statement, statements_in, numbered_in}
+use Rattle.keep_meaning.specs.Marks.{MentionKind, value, item, dotted, Mention, Statement, below, Reading}
+use Rattle.keep_meaning.specs.Marks.{statement_mentions, next_reading, reading_after, start}
+use Rattle.keep_meaning.specs.Meaning.{key_value, further_value, body_fact, valued_mentions, keyed_mentions}
+use Rattle.keep_meaning.specs.Meaning.{entry_mentions, entries_mentions, keyval_mentions, statement_of, line_mentions}
+use Rattle.keep_meaning.specs.Meaning.{after_line, line_of, lines_mentions, reading_after_lines, lines, mentions_in}
+use Rattle.keep_meaning.specs.Counts.{Count, Numbered, is_value, is_mark, one_if, count_with_mention, count_after}
+use Rattle.keep_meaning.specs.Counts.{next_count, no_count, numbered_mentions, numbered_from, count_from}
+use Rattle.keep_meaning.specs.Counts.{line_statement, statements_in, numbered_in}
 use Rattle.keep_meaning.specs.Nodes.{mention_of}
-use Rattle.keep_meaning.specs.OtherValues.{HasOtherValue, IsApart, IsSaidBefore, IsSaidPast, count_past, said_by_value, said_past}
-use Rattle.keep_meaning.proofs.Shared.{count_after-keys, count_after-values, numbered_mentions-append, mentions-numbered_mentions, mentions-numbered_from, lines_mentions-statements, marked, marked-append, marked-below, marked-entries, marked-parts, valued, valued-append, valued-below, valued-content, valued-entries}
+use Rattle.keep_meaning.specs.OtherValues.{HasOtherValue, IsApart, IsSaidBefore, IsSaidPast, count_past, said_by_value}
+use Rattle.keep_meaning.specs.OtherValues.{said_past}
+use Rattle.keep_meaning.proofs.Shared.{count_after-keys, count_after-values, numbered_mentions-append}
+use Rattle.keep_meaning.proofs.Shared.{mentions-numbered_mentions, mentions-numbered_from, lines_mentions-statements}
+use Rattle.keep_meaning.proofs.Shared.{marked, marked-append, marked-below, marked-entries, marked-parts, valued}
+use Rattle.keep_meaning.proofs.Shared.{valued-append, valued-below, valued-content, valued-entries}
 use Rattle.keep_edit_spec.specs.Changed.{Changed}
 use Rattle.keep_edit_spec.specs.Edits.{set, change}
 use Rattle.keep_edit_spec.proofs.Common.Runs.{AllOf, all_join, all_right, Rules, IsDisjoint}
 use Rattle.keep_edit_spec.proofs.Common.SetLaw.{IsSet, run, tag_of}
 use Rattle.keep_edit_spec.proofs.Common.StatementNumbers.{reading_lines, count_of_lines, numbered_around}
-use Rattle.keep_edit_spec.proofs.Common.SetDocument.{LinesSet, IsLineSet, line_set, one_line_set, whole_mentions, reading_of}
+use Rattle.keep_edit_spec.proofs.Common.SetDocument.{LinesSet, IsLineSet, line_set, one_line_set, whole_mentions}
+use Rattle.keep_edit_spec.proofs.Common.SetDocument.{reading_of}
 use Rattle.keep_edit_spec.proofs.Set.SetNumbers.{reading_past, the_to}
 
 -- ---- numbers with so many values and key parts more before them
@@ -40,7 +55,8 @@ raised v k c = record c { values = c.values + v; keys = c.keys + k }
 abbrev raised_numbered : ℕ → ℕ → Numbered → Numbered
 raised_numbered v k n = record n { before = raised v k n.before }
 
-raised_with : (v k : ℕ) (c : Count) (m : Mention) → count_with_mention (raised v k c) m ≡ raised v k (count_with_mention c m)
+raised_with : (v k : ℕ) (c : Count) (m : Mention)
+    → count_with_mention (raised v k c) m ≡ raised v k (count_with_mention c m)
 raised_with v k c m =
     let values : (c.values + v) + one_if (is_value m.kind) ≡ (c.values + one_if (is_value m.kind)) + v = omega arith in
     let keys : (c.keys + k) + one_if (is_mark m.kind) ≡ (c.keys + one_if (is_mark m.kind)) + k = omega arith in
@@ -67,8 +83,10 @@ raised_from v k c r [] = refl
 raised_from v k c r (s ∷ ss) =
     let ms : List Mention = statement_mentions r s in
     ap₂ (λ (xs ys : List Numbered). xs ++ ys) (raised_mentions v k c ms)
-    (ap (λ (d : Count). numbered_from d (next_reading r s) ss) (raised_next v k c ms) ∙ raised_from v k (next_count c ms) (next_reading r s) ss)
-    ∙ sym (map-append (raised_numbered v k) (numbered_mentions c ms) (numbered_from (next_count c ms) (next_reading r s) ss))
+    (ap (λ (d : Count). numbered_from d (next_reading r s) ss) (raised_next v k c ms)
+    ∙ raised_from v k (next_count c ms) (next_reading r s) ss)
+    ∙ sym (map-append (raised_numbered v k) (numbered_mentions c ms)
+    (numbered_from (next_count c ms) (next_reading r s) ss))
 
 -- ---- the numbers after a value
 
@@ -95,8 +113,10 @@ after_run c path f es =
     let ms : List Mention = map (below path) (entries_mentions 0 es) in
     let d : Count = past_own c in
     same_count (count_after d ms) (raised (value_count es) (part_count es) d) (same_statement d ms)
-    (count_after-values d ms ∙ ap (λ (n : ℕ). d.values + n) (valued-below path (entries_mentions 0 es) ∙ valued-entries 0 es))
-    (count_after-keys d ms ∙ ap (λ (n : ℕ). d.keys + n) (marked-below path (entries_mentions 0 es) ∙ marked-entries 0 es))
+    (count_after-values d ms
+    ∙ ap (λ (n : ℕ). d.values + n) (valued-below path (entries_mentions 0 es) ∙ valued-entries 0 es))
+    (count_after-keys d ms
+    ∙ ap (λ (n : ℕ). d.keys + n) (marked-below path (entries_mentions 0 es) ∙ marked-entries 0 es))
 
 -- A value in a statement, that has `before` and `after` beside it, where so much comes before the statement.
 module _ (path : List Part) (f : Fact) (es : Entries) (c : Count) (before after : List Mention) where
@@ -113,12 +133,14 @@ module _ (path : List Part) (f : Fact) (es : Entries) (c : Count) (before after 
   keys = part_count es
 
   statement_numbers : numbered_mentions c (before ++ (in_run ++ after))
-      ≡ numbered_mentions c before ++ (said_by_value at_run path f es ++ map (raised_numbered values keys) (numbered_mentions (past_own at_run) after))
+      ≡ numbered_mentions c before ++ (said_by_value at_run path f es
+      ++ map (raised_numbered values keys) (numbered_mentions (past_own at_run) after))
   statement_numbers =
       numbered_mentions-append c before (in_run ++ after)
       ∙ ap (λ (ns : List Numbered). numbered_mentions c before ++ ns) (numbered_mentions-append at_run in_run after
       ∙ ap (λ (ns : List Numbered). said_by_value at_run path f es ++ ns)
-      (ap (λ (d : Count). numbered_mentions d after) (after_run at_run path f es) ∙ raised_mentions values keys (past_own at_run) after))
+      (ap (λ (d : Count). numbered_mentions d after) (after_run at_run path f es)
+      ∙ raised_mentions values keys (past_own at_run) after))
 
   statement_count : next_count c (before ++ (in_run ++ after)) ≡ raised values keys (next_count (past_own at_run) after)
   statement_count =
@@ -134,12 +156,14 @@ following d after r later = numbered_mentions d after ++ numbered_from (next_cou
 regroup : (a b c d e : List Numbered) → a ++ ((b ++ (c ++ d)) ++ e) ≡ (a ++ b) ++ (c ++ (d ++ e))
 regroup a b c d e = simp append_assoc refl
 
-numbers_around : (path : List Part) (f : Fact) (es : Entries) (c : Count) (before after : List Mention) (earlier : List Numbered) (r : Reading) (later : List Statement)
+numbers_around : (path : List Part) (f : Fact) (es : Entries) (c : Count) (before after : List Mention)
+    (earlier : List Numbered) (r : Reading) (later : List Statement)
     → (let ms : List Mention = before ++ (value_run path f es ++ after) in
     let d : Count = count_after c before in
     earlier ++ (numbered_mentions c ms ++ numbered_from (next_count c ms) r later)
     ≡ (earlier ++ numbered_mentions c before)
-    ++ (said_by_value d path f es ++ map (raised_numbered (value_count es) (part_count es)) (following (past_own d) after r later)))
+    ++ (said_by_value d path f es ++ map (raised_numbered (value_count es) (part_count es)) (following (past_own d)
+    after r later)))
 numbers_around path f es c before after earlier r later =
     let d : Count = count_after c before in
     let more : Numbered → Numbered = raised_numbered (value_count es) (part_count es) in
@@ -150,7 +174,8 @@ numbers_around path f es c before after earlier r later =
     (ap (λ (e : Count). numbered_from e r later) (statement_count path f es c before after)
     ∙ raised_from (value_count es) (part_count es) (next_count (past_own d) after) r later)
     ∙ regroup earlier (numbered_mentions c before) said (map more own) (map more next)
-    ∙ ap (λ (ns : List Numbered). (earlier ++ numbered_mentions c before) ++ (said ++ ns)) (sym (map-append more own next))
+    ∙ ap (λ (ns : List Numbered). (earlier ++ numbered_mentions c before) ++ (said ++ ns))
+    (sym (map-append more own next))
 
 -- what follows one value, moved, is what follows the other
 past_other : (c : Count) (old new : Entries) (ns : List Numbered)
@@ -158,10 +183,14 @@ past_other : (c : Count) (old new : Entries) (ns : List Numbered)
     ≡ map (raised_numbered (value_count new) (part_count new)) ns
 past_other c old new [] = refl
 past_other c old new (n ∷ ns) =
-    let values : ((n.before.values + value_count old) + value_count new) - value_count old ≡ n.before.values + value_count new = omega arith in
-    let keys : ((n.before.keys + part_count old) + part_count new) - part_count old ≡ n.before.keys + part_count new = omega arith in
+    let values : ((n.before.values + value_count old) + value_count new) - value_count old ≡ n.before.values
+    + value_count new = omega arith in
+    let keys : ((n.before.keys + part_count old) + part_count new) - part_count old ≡ n.before.keys + part_count new =
+    omega arith in
     ap₂ (λ (x : Numbered) (xs : List Numbered). x ∷ xs)
-    (ap₂ (λ (v k : ℕ). record { mention = n.mention; before = record { statements = n.before.statements; values = v; keys = k } }) values keys)
+    (ap₂ (λ (v k : ℕ).
+    record { mention = n.mention; before = record { statements = n.before.statements; values = v; keys = k } }) values
+    keys)
     (past_other c old new ns)
 
 -- ---- numbers before and after a value
@@ -182,37 +211,49 @@ up_from c r (s ∷ ss) =
     let more : IsUpTo (next_count c ms) (count_from c r (s ∷ ss)) = up_from (next_count c ms) (next_reading r s) ss in
     record { values = omega (arith, next.values, more.values); keys = omega (arith, next.keys, more.keys) }
 
-lower_mentions : (c : Count) (ms : List Mention) (d : Count) → IsUpTo (count_after c ms) d → AllOf (IsSaidBefore d) (numbered_mentions c ms)
+lower_mentions : (c : Count) (ms : List Mention) (d : Count) → IsUpTo (count_after c ms) d
+    → AllOf (IsSaidBefore d) (numbered_mentions c ms)
 lower_mentions c [] d h = tt
 lower_mentions c (m ∷ ms) d h =
-    let own : IsUpTo c (count_after c (m ∷ ms)) = up_after c (m ∷ ms) in
-    (record { values = omega (arith, own.values, h.values); keys = omega (arith, own.keys, h.keys) }, lower_mentions (count_with_mention c m) ms d h)
+    let own : IsUpTo c (count_after c (m ∷ ms)) = up_after c (m ∷ ms) in (
+      record { values = omega (arith, own.values, h.values); keys = omega (arith, own.keys, h.keys) },
+      lower_mentions (count_with_mention c m) ms d h,
+    )
 
-lower_from : (c : Count) (r : Reading) (ss : List Statement) (d : Count) → IsUpTo (count_from c r ss) d → AllOf (IsSaidBefore d) (numbered_from c r ss)
+lower_from : (c : Count) (r : Reading) (ss : List Statement) (d : Count) → IsUpTo (count_from c r ss) d
+    → AllOf (IsSaidBefore d) (numbered_from c r ss)
 lower_from c r [] d h = tt
 lower_from c r (s ∷ ss) d h =
     let ms : List Mention = statement_mentions r s in
     let more : IsUpTo (next_count c ms) (count_from c r (s ∷ ss)) = up_from (next_count c ms) (next_reading r s) ss in
     all_join (IsSaidBefore d) (numbered_mentions c ms) (numbered_from (next_count c ms) (next_reading r s) ss)
-    (lower_mentions c ms d (record { values = omega (arith, more.values, h.values); keys = omega (arith, more.keys, h.keys) }))
+    (lower_mentions c ms d (record {
+      values = omega (arith, more.values, h.values);
+      keys = omega (arith, more.keys, h.keys);
+    }))
     (lower_from (next_count c ms) (next_reading r s) ss d h)
 
 higher_mentions : (c d : Count) (ms : List Mention) → IsUpTo c d → AllOf (IsSaidPast c) (numbered_mentions d ms)
 higher_mentions c d [] h = tt
 higher_mentions c d (m ∷ ms) h = (
   record { values = h.values; keys = h.keys },
-  higher_mentions c (count_with_mention d m) ms (record { values = omega (arith, h.values); keys = omega (arith, h.keys) }),
+  higher_mentions c (count_with_mention d m) ms
+      (record { values = omega (arith, h.values); keys = omega (arith, h.keys) }),
 )
 
-higher_from : (c d : Count) (r : Reading) (ss : List Statement) → IsUpTo c d → AllOf (IsSaidPast c) (numbered_from d r ss)
+higher_from : (c d : Count) (r : Reading) (ss : List Statement) → IsUpTo c d
+    → AllOf (IsSaidPast c) (numbered_from d r ss)
 higher_from c d r [] h = tt
 higher_from c d r (s ∷ ss) h =
     let ms : List Mention = statement_mentions r s in
     let next : IsUpTo d (count_after d ms) = up_after d ms in
-    all_join (IsSaidPast c) (numbered_mentions d ms) (numbered_from (next_count d ms) (next_reading r s) ss) (higher_mentions c d ms h)
-    (higher_from c (next_count d ms) (next_reading r s) ss (record { values = omega (arith, h.values, next.values); keys = omega (arith, h.keys, next.keys) }))
+    all_join (IsSaidPast c) (numbered_mentions d ms) (numbered_from (next_count d ms) (next_reading r s) ss)
+    (higher_mentions c d ms h)
+    (higher_from c (next_count d ms) (next_reading r s) ss
+    (record { values = omega (arith, h.values, next.values); keys = omega (arith, h.keys, next.keys) }))
 
-higher_following : (d : Count) (after : List Mention) (r : Reading) (later : List Statement) → AllOf (IsSaidPast d) (following d after r later)
+higher_following : (d : Count) (after : List Mention) (r : Reading) (later : List Statement)
+    → AllOf (IsSaidPast d) (following d after r later)
 higher_following d after r later =
     let next : IsUpTo d (count_after d after) = up_after d after in
     all_join (IsSaidPast d) (numbered_mentions d after) (numbered_from (next_count d after) r later)
@@ -231,19 +272,24 @@ apart : (path : List Part) (ns : List Numbered) → AllOf (IsDisjoint path) (map
 apart path [] h = tt
 apart path (n ∷ ns) h = (h.0, apart path ns h.1)
 
-apart_raised : (path : List Part) (v k : ℕ) (ns : List Numbered) → AllOf (IsApart path) ns → AllOf (IsApart path) (map (raised_numbered v k) ns)
+apart_raised : (path : List Part) (v k : ℕ) (ns : List Numbered) → AllOf (IsApart path) ns
+    → AllOf (IsApart path) (map (raised_numbered v k) ns)
 apart_raised path v k [] h = tt
 apart_raised path v k (n ∷ ns) h = (h.0, apart_raised path v k ns h.1)
 
-apart_mentions : (path : List Part) (c : Count) (ms : List Mention) → AllOf (IsDisjoint path) ms → AllOf (IsApart path) (numbered_mentions c ms)
+apart_mentions : (path : List Part) (c : Count) (ms : List Mention) → AllOf (IsDisjoint path) ms
+    → AllOf (IsApart path) (numbered_mentions c ms)
 apart_mentions path c ms h =
-    apart path (numbered_mentions c ms) (subst (λ (l : List Mention). AllOf (IsDisjoint path) l) (sym (mentions-numbered_mentions c ms)) h)
+    apart path (numbered_mentions c ms)
+    (subst (λ (l : List Mention). AllOf (IsDisjoint path) l) (sym (mentions-numbered_mentions c ms)) h)
 
-apart_lines : (path : List Part) (c : Count) (r : Reading) (ls : List Line) → AllOf (IsDisjoint path) (lines_mentions r ls)
+apart_lines : (path : List Part) (c : Count) (r : Reading) (ls : List Line)
+    → AllOf (IsDisjoint path) (lines_mentions r ls)
     → AllOf (IsApart path) (numbered_from c r (filter_map line_statement ls))
 apart_lines path c r ls h =
     let ss : List Statement = filter_map line_statement ls in
-    let same : lines_mentions r ls ≡ map mention_of (numbered_from c r ss) = lines_mentions-statements r ls ∙ sym (mentions-numbered_from c r ss) in
+    let same : lines_mentions r ls ≡ map mention_of (numbered_from c r ss) =
+    lines_mentions-statements r ls ∙ sym (mentions-numbered_from c r ss) in
     apart path (numbered_from c r ss) (subst (λ (l : List Mention). AllOf (IsDisjoint path) l) same h)
 
 -- ---- an item's path ends in a number
@@ -260,27 +306,35 @@ last_part-more (a ∷ b ∷ s) p x e = last_part-more (b ∷ s) p x e
 
 items_below : (s : List Part) (ms : List Mention) → AllOf IsItemAt ms → AllOf IsItemAt (map (below s) ms)
 items_below s [] h = tt
-items_below s (m ∷ ms) h = ((λ f e. let at = h.0 f e in (at.0, last_part-more s m.path (index at.0) at.1)), items_below s ms h.1)
+items_below s (m ∷ ms) h =
+    ((λ f e. let at = h.0 f e in (at.0, last_part-more s m.path (index at.0) at.1)), items_below s ms h.1)
 
-items_keyed : (k : List ℕ) (ks : List (List ℕ)) (ms : List Mention) → AllOf IsItemAt ms → AllOf IsItemAt (keyed_mentions (k ∷ ks) ms)
+items_keyed : (k : List ℕ) (ks : List (List ℕ)) (ms : List Mention) → AllOf IsItemAt ms
+    → AllOf IsItemAt (keyed_mentions (k ∷ ks) ms)
 items_keyed k [] ms h = items_below (key k ∷ []) ms h
 items_keyed k (l ∷ ks) ms h =
-    items_below (key k ∷ []) (record { path = []; kind = dotted } ∷ keyed_mentions (l ∷ ks) ms) ((λ f e. absurd cc), items_keyed l ks ms h)
+    items_below (key k ∷ []) (record { path = []; kind = dotted } ∷ keyed_mentions (l ∷ ks) ms)
+    ((λ f e. absurd cc), items_keyed l ks ms h)
 
-items_named : (n : ℕ) (name : Option Name) (f : Fact) (nested : List Mention) → AllOf IsItemAt nested → AllOf IsItemAt (entry_mentions n name f nested)
+items_named : (n : ℕ) (name : Option Name) (f : Fact) (nested : List Mention) → AllOf IsItemAt nested
+    → AllOf IsItemAt (entry_mentions n name f nested)
 items_named n None f nested h = ((λ g e. (n, refl)), items_below (index n ∷ []) nested h)
 items_named n (Some name) f nested h =
-    items_keyed (key_value name.key.first) (map further_value name.key.more) (valued_mentions (value f) nested) ((λ g e. absurd cc), h)
+    items_keyed (key_value name.key.first) (map further_value name.key.more) (valued_mentions (value f) nested)
+    ((λ g e. absurd cc), h)
 
 entries_items : (n : ℕ) (es : Entries) → AllOf IsItemAt (entries_mentions n es)
 entries_items n none = tt
 entries_items n (entry name body nested after comma rest) =
-    all_join IsItemAt (entry_mentions n name (body_fact body) (entries_mentions 0 nested)) (entries_mentions (n + 1) rest)
-    (items_named n name (body_fact body) (entries_mentions 0 nested) (entries_items 0 nested)) (entries_items (n + 1) rest)
+    all_join IsItemAt (entry_mentions n name (body_fact body) (entries_mentions 0 nested))
+    (entries_mentions (n + 1) rest)
+    (items_named n name (body_fact body) (entries_mentions 0 nested) (entries_items 0 nested))
+    (entries_items (n + 1) rest)
 
 -- So what is said at a path that ends in a key is said of a value with a name.
 value_named : (name : Option Name) (path : List Part) (f : Fact) (before nested after : List Mention)
-    → AllOf IsItemAt (before ++ (run path (tag_of name f) nested ++ after)) → EndsInKey path → (g : Fact) → tag_of name g ≡ value g
+    → AllOf IsItemAt (before ++ (run path (tag_of name f) nested ++ after)) → EndsInKey path → (g : Fact)
+    → tag_of name g ≡ value g
 value_named (Some name) path f before nested after h ends g = refl
 value_named None path f before nested after h ends g =
     let at = (all_right IsItemAt before (run path (item f) nested ++ after) h).0 f refl in
@@ -290,7 +344,8 @@ value_named None path f before nested after h ends g =
 -- ---- how many values and key parts there are
 
 valued-lines : (r : Reading) (c : syntax.Count) (es : List Ended) (last : Line)
-    → valued (lines_mentions r (map line_of es ++ last ∷ [])) ≡ length (over_lines (λ c l line_end. line_values c l) c es last)
+    → valued (lines_mentions r (map line_of es ++ last ∷ []))
+    ≡ length (over_lines (λ c l line_end. line_values c l) c es last)
 valued-lines r c [] last =
     omega (arith, valued-append (line_mentions r last) [], valued-content r (line_start c last) last.content)
 valued-lines r c (e ∷ es) last =
@@ -311,7 +366,8 @@ abbrev with_run : List Mention → List Mention → List Mention → List Mentio
 with_run left before after right path f es = left ++ ((before ++ (value_run path f es ++ after)) ++ right)
 
 values_around : (left before after right : List Mention) (path : List Part) (f : Fact) (es : Entries)
-    → valued (with_run left before after right path f es) ≡ (valued left + (valued before + (valued after + valued right))) + suc (value_count es)
+    → valued (with_run left before after right path f es)
+    ≡ (valued left + (valued before + (valued after + valued right))) + suc (value_count es)
 values_around left before after right path f es =
     omega (
       arith,
@@ -324,7 +380,8 @@ values_around left before after right path f es =
     )
 
 keys_around : (left before after right : List Mention) (path : List Part) (f : Fact) (es : Entries)
-    → marked (with_run left before after right path f es) ≡ (marked left + (marked before + (marked after + marked right))) + suc (part_count es)
+    → marked (with_run left before after right path f es)
+    ≡ (marked left + (marked before + (marked after + marked right))) + suc (part_count es)
 keys_around left before after right path f es =
     omega (
       arith,
@@ -339,20 +396,24 @@ keys_around left before after right path f es =
 -- ---- in the document
 
 -- what the line with that value says of its value, before and after, and what other lines say
-abbrev pub IsOneSet : (s s' : Document) (path : List Part) (new : Value) → LinesSet start path new (lines s) (lines s') → Type 0
+abbrev pub IsOneSet : (s s' : Document) (path : List Part) (new : Value) → LinesSet start path new (lines s) (lines s')
+    → Type 0
 IsOneSet s s' path new h =
     let r : Reading = reading_after_lines start h.pre in
     let said_by : Value → List Mention = λ v. map (below r.body) (keyval_mentions h.content.name v) in
-    IsLineSet path new (lines_mentions start h.pre) (said_by h.content.old) (said_by h.content.now) (lines_mentions r h.post)
+    IsLineSet path new (lines_mentions start h.pre) (said_by h.content.old) (said_by h.content.now)
+    (lines_mentions r h.post)
 
 -- another value, in the place where the line says the one before
-pub record IsOtherValue (s s' : Document) (path : List Part) (new : Value) (h : LinesSet start path new (lines s) (lines s')) (one : IsOneSet s s' path new h) : Type 0 where
+pub record IsOtherValue (s s' : Document) (path : List Part) (new : Value)
+    (h : LinesSet start path new (lines s) (lines s')) (one : IsOneSet s s' path new h) : Type 0 where
   pub other : HasOtherValue s s' path new
   pub fact : other.fact ≡ one.set.fact
   pub entries : other.entries ≡ one.set.entries
   pub count : other.count ≡ count_after (count_of_lines h.pre) one.set.before
 
-module _ (s s' : Document) (path : List Part) (new : Value) (h : LinesSet start path new (lines s) (lines s')) (one : IsOneSet s s' path new h) (ends : EndsInKey path) where
+module _ (s s' : Document) (path : List Part) (new : Value) (h : LinesSet start path new (lines s) (lines s'))
+    (one : IsOneSet s s' path new h) (ends : EndsInKey path) where
   abbrev reading : Reading
   reading = reading_after_lines start h.pre
 
@@ -380,12 +441,15 @@ module _ (s s' : Document) (path : List Part) (new : Value) (h : LinesSet start 
       (subst (λ (l : List Mention). AllOf IsItemAt l) is_set.was items) ends
 
   was : said_by h.content.old ≡ is_set.before ++ (value_run path is_set.fact is_set.entries ++ is_set.after)
-  was = is_set.was ∙ ap (λ (k : MentionKind). is_set.before ++ (run path k (entries_mentions 0 is_set.entries) ++ is_set.after)) (named is_set.fact)
+  was = is_set.was
+      ∙ ap (λ (k : MentionKind). is_set.before ++ (run path k (entries_mentions 0 is_set.entries) ++ is_set.after))
+      (named is_set.fact)
 
   is : said_by h.content.now ≡ is_set.before ++ (value_run path (body_fact new.body) new.nested ++ is_set.after)
   is =
       is_set.is
-      ∙ ap (λ (k : MentionKind). is_set.before ++ (run path k (entries_mentions 0 new.nested) ++ is_set.after)) (named (body_fact new.body))
+      ∙ ap (λ (k : MentionKind). is_set.before ++ (run path k (entries_mentions 0 new.nested) ++ is_set.after))
+      (named (body_fact new.body))
 
   abbrev lines_count : Count
   lines_count = count_of_lines h.pre
@@ -411,21 +475,28 @@ module _ (s s' : Document) (path : List Part) (new : Value) (h : LinesSet start 
   -- The document has this value at the path, and says all else that both documents say.
   record IsWith (d : Document) (f : Fact) (es : Entries) : Type 0 where
     numbers : numbered_in d ≡ said_before ++ (said_by_value count path f es ++ said_after_value es)
-    values : length (syntax.values d) ≡ (valued left + (valued is_set.before + (valued is_set.after + valued right))) + suc (value_count es)
-    keys : length (syntax.parts d) ≡ (marked left + (marked is_set.before + (marked is_set.after + marked right))) + suc (part_count es)
+    values : length (syntax.values d) ≡ (valued left + (valued is_set.before + (valued is_set.after + valued right)))
+        + suc (value_count es)
+    keys : length (syntax.parts d) ≡ (marked left + (marked is_set.before + (marked is_set.after + marked right)))
+        + suc (part_count es)
 
-  is_with : (d : Document) (l : Line) (v : Value) (f : Fact) (es : Entries) → lines d ≡ h.pre ++ l ∷ h.post → l.content ≡ keyval h.content.name v
+  is_with : (d : Document) (l : Line) (v : Value) (f : Fact) (es : Entries) → lines d ≡ h.pre ++ l ∷ h.post
+      → l.content ≡ keyval h.content.name v
       → said_by v ≡ is_set.before ++ (value_run path f es ++ is_set.after) → IsWith d f es
   is_with d l v f es whole content said =
       let here : List Mention = with_run left is_set.before is_set.after right path f es in
       let mentioned : mentions_in d ≡ here =
-      ap (lines_mentions start) whole ∙ whole_mentions h.pre h.post l h.content.name v content ∙ ap (λ (ms : List Mention). left ++ (ms ++ right)) said in
+      ap (lines_mentions start) whole ∙ whole_mentions h.pre h.post l h.content.name v content
+      ∙ ap (λ (ms : List Mention). left ++ (ms ++ right)) said in
       record {
         numbers = ap (λ (ls : List Line). numbered_from no_count start (filter_map line_statement ls)) whole
             ∙ numbered_around h.pre h.post l (marks.keyval (keyval_mentions h.content.name v)) (ap statement_of content)
-            ∙ ap (λ (ms : List Mention). earlier ++ (numbered_mentions lines_count ms ++ numbered_from (next_count lines_count ms) reading later)) said
+            ∙ ap (λ (ms : List Mention).
+            earlier ++ (numbered_mentions lines_count ms ++ numbered_from (next_count lines_count ms) reading later))
+            said
             ∙ numbers_around path f es lines_count is_set.before is_set.after earlier reading later;
-        values = sym (valued-values d) ∙ ap valued mentioned ∙ values_around left is_set.before is_set.after right path f es;
+        values =
+            sym (valued-values d) ∙ ap valued mentioned ∙ values_around left is_set.before is_set.after right path f es;
         keys = sym (marked-parts d) ∙ ap marked mentioned ∙ keys_around left is_set.before is_set.after right path f es;
       }
 
@@ -445,7 +516,8 @@ module _ (s s' : Document) (path : List Part) (new : Value) (h : LinesSet start 
   all_apart : AllOf (IsApart path) said_after
   all_apart =
       let own : Count = past_own count in
-      all_join (IsApart path) (numbered_mentions own is_set.after) (numbered_from (next_count own is_set.after) reading later)
+      all_join (IsApart path) (numbered_mentions own is_set.after)
+      (numbered_from (next_count own is_set.after) reading later)
       (apart_mentions path own is_set.after is_set.disjoint_after)
       (apart_lines path (next_count own is_set.after) reading h.post one.disjoint_right)
 
@@ -453,7 +525,8 @@ module _ (s s' : Document) (path : List Part) (new : Value) (h : LinesSet start 
   same_reading =
       let x = h.content in
       reading_lines start (lines s') ∙ ap (reading_after_lines start) h.is
-      ∙ reading_past start h.pre h.post h.now h.old (λ q. reading_of q h.now x.name x.now x.is ∙ sym (reading_of q h.old x.name x.old x.was))
+      ∙ reading_past start h.pre h.post h.now h.old
+      (λ q. reading_of q h.now x.name x.now x.is ∙ sym (reading_of q h.old x.name x.old x.was))
       ∙ sym (ap (reading_after_lines start) h.was) ∙ sym (reading_lines start (lines s))
 
   abbrev lines_value_set : HasOtherValue s s' path new
@@ -468,9 +541,11 @@ module _ (s s' : Document) (path : List Part) (new : Value) (h : LinesSet start 
         ∙ ap (λ (ns : List Numbered). said_before ++ (said_by_value count path (body_fact new.body) new.nested ++ ns))
         (sym (past_other count is_set.entries new.nested said_after));
     lower = all_lower;
-    higher = higher_raised count is_set.entries said_after (higher_following (past_own count) is_set.after reading later);
+    higher =
+        higher_raised count is_set.entries said_after (higher_following (past_own count) is_set.after reading later);
     apart_before = all_join (IsApart path) earlier (numbered_mentions lines_count is_set.before)
-        (apart_lines path no_count start h.pre one.disjoint_left) (apart_mentions path lines_count is_set.before is_set.disjoint_before);
+        (apart_lines path no_count start h.pre one.disjoint_left)
+        (apart_mentions path lines_count is_set.before is_set.disjoint_before);
     apart_after = apart_raised path (value_count is_set.entries) (part_count is_set.entries) said_after all_apart;
     values = omega (arith, old_with.values, new_with.values);
     keys = omega (arith, old_with.keys, new_with.keys);
@@ -485,5 +560,7 @@ pub value_set : (s : Document) (path : List Part) (new : Value) (c : Changed Doc
     → change s (set path new) ≡ Some c → EndsInKey path → HasOtherValue s c.to path new
 value_set s path new c rules e ends =
     let lines_changed : LinesSet start path new (lines s) (lines c.to) =
-    the_to (λ s'. LinesSet start path new (lines s) (lines s')) (change s (set path new)) c e (one_line_set s path new) in
-    (value_in_place s c.to path new lines_changed (line_set path new (lines s) (lines c.to) rules lines_changed) ends).other
+    the_to (λ s'. LinesSet start path new (lines s) (lines s')) (change s (set path new)) c e
+    (one_line_set s path new) in
+    (value_in_place s c.to path new lines_changed (line_set path new (lines s) (lines c.to) rules lines_changed)
+    ends).other

@@ -9,11 +9,14 @@ use Rattle.keep_types.specs.declared.syntax.Span.{Span}
 use Rattle.keep_syntax.specs.Limit.{standard_depth}
 use Rattle.keep_syntax.specs.Tree.{Document, text}
 use Rattle.keep_syntax.specs.Numbered.{span}
-use Rattle.keep_syntax.specs.Reading.{Fault, repeat, space_at, blank_from, further_at, key_of, name_of, item_by, entry_by, value_of, content_at, comment_at, line_at, ended_at, read_document, read_one_value}
+use Rattle.keep_syntax.specs.Reading.{Fault, repeat, space_at, blank_from, further_at, key_of, name_of, item_by}
+use Rattle.keep_syntax.specs.Reading.{entry_by, value_of, content_at, comment_at, line_at, ended_at, read_document}
+use Rattle.keep_syntax.specs.Reading.{read_one_value}
 use Rattle.keep_syntax.specs.WholeLines.{replaced}
 use Rattle.keep_path.specs.Path.{key, index}
 use Rattle.keep_edit_spec.specs.Changed.{Place, put}
-use Rattle.keep_edit_spec.specs.Edits.{Edit, set, insert, rename, remove, append_table, append_element, edited_document, place}
+use Rattle.keep_edit_spec.specs.Edits.{Edit, set, insert, rename, remove, append_table, append_element, edited_document}
+use Rattle.keep_edit_spec.specs.Edits.{place}
 use Rattle.keep_edit_spec.specs.TouchedLines.{touched_by, touched_in_new, scanned}
 use Rattle.keep_edit_spec.proofs.Rows.{value}
 
@@ -29,7 +32,8 @@ pub record Row : Type 0 where
 abbrev row : Profile → List ℕ → Edit → ℕ → ℕ → ℕ → Row
 row profile old e from to n = record { profile = profile; old = old; edit = e; from = from; to = to; scanned = n }
 
--- the touched lines, how many bytes are scanned, and the old document with its touched lines replaced by what those are read as
+-- the touched lines, how many bytes are scanned, and the old document with its touched lines replaced by what those are
+-- read as
 pub record Outcome : Type 0 where
   pub touched : Span
   pub scanned : ℕ
@@ -42,10 +46,13 @@ with_lines s whole (Err f) = Err f
 abbrev reread : Profile → Document → Edit → Place → Result Document Fault
 reread profile s e p =
     let new : Span = touched_in_new s p in
-    with_lines s (touched_by s p) (read_document profile standard_depth (slice_range (put (text s) p) new.start new.end))
+    with_lines s (touched_by s p) (read_document profile standard_depth
+    (slice_range (put (text s) p) new.start new.end))
 
 abbrev outcome : Row → Document → Outcome
-outcome r s = let p : Place = place s r.edit in record { touched = touched_by s p; scanned = scanned s p; again = reread r.profile s r.edit p }
+outcome r s =
+    let p : Place = place s r.edit in
+    record { touched = touched_by s p; scanned = scanned s p; again = reread r.profile s r.edit p }
 
 abbrev computed : Row → Result Document Fault → Result Outcome Fault
 computed r (Ok s) = Ok (outcome r s)
@@ -77,7 +84,8 @@ rows : AllHold (
     -- remove element
     ∷ row Strict (codes "[[a]]\nn = 1\n[[a]]\nn = 2\n") (remove (key (codes "a") ∷ index 0 ∷ [])) 0 12 0
     -- insert in braces
-    ∷ row Strict (codes "t = { x = 1 }\n") (insert (key (codes "t") ∷ key (codes "y") ∷ key (codes "z") ∷ []) (value (codes "2"))) 0 14 23
+    ∷ row Strict (codes "t = { x = 1 }\n")
+    (insert (key (codes "t") ∷ key (codes "y") ∷ key (codes "z") ∷ []) (value (codes "2"))) 0 14 23
     -- remove in braces
     ∷ row Strict (codes "t = { x = 1, y.z = 2 }\n") (remove (key (codes "t") ∷ key (codes "x") ∷ [])) 0 23 16
     -- append table to the empty text
@@ -89,17 +97,20 @@ rows : AllHold (
     -- remove the one keyval, its comment stays
     ∷ row Strict (codes "a = 1 # c\n") (remove (key (codes "a") ∷ [])) 0 10 4
     -- insert in braces of three lines, Wide
-    ∷ row Wide (codes "a = {x = 1,\n # c\n}") (insert (key (codes "a") ∷ key (codes "y") ∷ []) (value (codes "2"))) 0 18 25
+    ∷ row Wide (codes "a = {x = 1,\n # c\n}") (insert (key (codes "a") ∷ key (codes "y") ∷ []) (value (codes "2"))) 0 18
+    25
     -- remove in braces of three lines, Wide
     ∷ row Wide (codes "a = {x = 1, y = 2,\n # c\n}") (remove (key (codes "a") ∷ key (codes "y") ∷ [])) 0 25 19
     ∷ [])
-unfolding repeat space_at blank_from further_at key_of name_of item_by entry_by value_of content_at comment_at line_at ended_at read_document read_one_value gap_at key_at scalar_at word_leaf
+unfolding repeat space_at blank_from further_at key_of name_of item_by entry_by value_of content_at comment_at line_at
+    ended_at read_document read_one_value gap_at key_at scalar_at word_leaf
 rows = refl
 
 -- values of several lines, CRLF with a byte order mark, no last newline, blank lines, the end of the text
 edges : AllHold (
     -- set item, after the byte order mark: the lines of the old value and of the new one
-    row Strict (0xEF ∷ 0xBB ∷ 0xBF ∷ codes "# c\r\na = [1,\r\n2]\r\nb = 3") (set (key (codes "a") ∷ index 1 ∷ []) (value (codes "[4,\n5]"))) 8 21 18
+    row Strict (0xEF ∷ 0xBB ∷ 0xBF ∷ codes "# c\r\na = [1,\r\n2]\r\nb = 3")
+    (set (key (codes "a") ∷ index 1 ∷ []) (value (codes "[4,\n5]"))) 8 21 18
     -- remove keyval between blank lines
     ∷ row Strict (codes "# c\n\na = 1\n\n# d\nb = 2\n") (remove (key (codes "a") ∷ [])) 5 11 0
     -- remove the last line, without a newline
@@ -117,9 +128,11 @@ edges : AllHold (
     -- rename table
     ∷ row Strict (codes "[t]\nk = 1\n\n[u]\n") (rename (key (codes "t") ∷ []) (codes "x y")) 0 4 8
     -- insert at the end of a body, before a blank line
-    ∷ row Strict (codes "[t]\nk = 1\n\n# c") (insert (key (codes "t") ∷ key (codes "l") ∷ []) (value (codes "2"))) 10 10 6
+    ∷ row Strict (codes "[t]\nk = 1\n\n# c") (insert (key (codes "t") ∷ key (codes "l") ∷ []) (value (codes "2"))) 10 10
+    6
     -- insert before comments
     ∷ row Strict (codes "# c\n\n[t]\n") (insert (key (codes "k") ∷ []) (value (codes "1"))) 0 0 6
     ∷ [])
-unfolding repeat space_at blank_from further_at key_of name_of item_by entry_by value_of content_at comment_at line_at ended_at read_document read_one_value gap_at key_at scalar_at word_leaf
+unfolding repeat space_at blank_from further_at key_of name_of item_by entry_by value_of content_at comment_at line_at
+    ended_at read_document read_one_value gap_at key_at scalar_at word_leaf
 edges = refl

@@ -9,18 +9,21 @@ use Rattle.keep_syntax.specs.Tree.{Line, Document}
 use Rattle.keep_path.specs.Path.{Part, key}
 use Rattle.keep_meaning.specs.Fact.{Fact}
 use Rattle.keep_meaning.specs.LinesMore.{HasLineMore}
-use Rattle.keep_meaning.specs.Marks.{Mention, Reading, Statement, keyval, mentions, mentions_from, next_reading, reading_after, start}
+use Rattle.keep_meaning.specs.Marks.{Mention, Reading, Statement, keyval, mentions, mentions_from, next_reading}
+use Rattle.keep_meaning.specs.Marks.{reading_after, start}
 use Rattle.keep_meaning.specs.Marks.{statement_mentions, value}
 use Rattle.keep_meaning.specs.Meaning.{mentions_in}
 use Rattle.keep_meaning.specs.OtherValues.{totals_of}
-use Rattle.keep_meaning.proofs.Shared.{marked, marked-append, marked-parts, mentions_in-statements, valued, valued-append}
+use Rattle.keep_meaning.proofs.Shared.{marked, marked-append, marked-parts, mentions_in-statements, valued}
+use Rattle.keep_meaning.proofs.Shared.{valued-append}
 use Rattle.keep_edit_spec.specs.KeyvalLines.{HasLineAt, IsBareLine}
 use Rattle.keep_edit_spec.proofs.Common.Bridge.{obeys_from_rules}
 use Rattle.keep_edit_spec.proofs.Common.Runs.{Rules}
 use Rattle.keep_edit_spec.proofs.Set.SetValue.{valued-values}
 
 -- statements after others
-said-append : (r : Reading) (xs ys : List Statement) → mentions_from r (xs ++ ys) ≡ mentions_from r xs ++ mentions_from (reading_after r xs) ys
+said-append : (r : Reading) (xs ys : List Statement)
+    → mentions_from r (xs ++ ys) ≡ mentions_from r xs ++ mentions_from (reading_after r xs) ys
 said-append r [] ys = refl
 said-append r (x ∷ xs) ys =
     let q : Reading = next_reading r x in
@@ -75,8 +78,8 @@ module _ (d more : Document) (h : HasLineMore d more) where
   }
 
 -- A line that is there, where the rules hold.
-pub bare_line : (d bare : Document) (path : List Part) (fact : Fact) (before : List Line) → HasLineAt d bare path fact before → Rules (mentions_in bare)
-    → IsBareLine d bare path fact before
+pub bare_line : (d bare : Document) (path : List Part) (fact : Fact) (before : List Line)
+    → HasLineAt d bare path fact before → Rules (mentions_in bare) → IsBareLine d bare path fact before
 bare_line d bare path fact before h rules =
     let counts = line_counts d bare h.line in
     record { line = h; values = counts.values; keys = counts.keys; obeys = obeys_from_rules (mentions_in bare) rules }

@@ -8,23 +8,32 @@
 -- says (`nested_obeys`).
 --
 -- Theorem: `line_value_text`.
-use Rattle.std.proofs.Common.{◌≡◌, ℕ, ◌+◌, ◌-◌, ◌≤◌, List, [], ◌∷◌, ◌++◌, length, map, slice_get, refl, sym, ap, subst, ◌∙◌, append_assoc, length-append, arith, Some, None}
+use Rattle.std.proofs.Common.{◌≡◌, ℕ, ◌+◌, ◌-◌, ◌≤◌, List, [], ◌∷◌, ◌++◌, length, map, slice_get, refl, sym, ap, subst}
+use Rattle.std.proofs.Common.{◌∙◌, append_assoc, length-append, arith, Some, None}
 use Rattle.std.specs.List.{cons_option, filter_map, AllByRecursion}
 use Rattle.std.proofs.lemmas.List.{append-nil}
 use Rattle.keep_types.specs.declared.leaf.Profile.{Profile}
 use Rattle.keep_types.specs.declared.syntax.Start.{Start}
 use Rattle.keep_types.specs.declared.syntax.ValueInfo.{ValueInfo}
-use Rattle.keep_syntax.specs.Tree.{Name, Value, Content, blank, keyval, header, element, Line, Ended, Document, name_leaves, value_leaves, content_leaves, text, value_text, value_depth, content_depth, lines_depth, depth}
+use Rattle.keep_syntax.specs.Tree.{Name, Value, Content, blank, keyval, header, element, Line, Ended, Document}
+use Rattle.keep_syntax.specs.Tree.{name_leaves, value_leaves, content_leaves, text, value_text, value_depth}
+use Rattle.keep_syntax.specs.Tree.{content_depth, lines_depth, depth}
 use Rattle.keep_syntax.specs.Grammar.{IsValue, IsContent, IsLine, IsEnded, IsDocument}
 use Rattle.keep_syntax.specs.Numbered as syntax
-use Rattle.keep_syntax.specs.Numbered.{width, key_count, leaf_of, info, nested_of, entries_values, content_start, content_values, line_start, line_values, over_lines, next_line, first_line}
+use Rattle.keep_syntax.specs.Numbered.{width, key_count, leaf_of, info, nested_of, entries_values, content_start}
+use Rattle.keep_syntax.specs.Numbered.{content_values, line_start, line_values, over_lines, next_line, first_line}
 use Rattle.keep_meaning.specs.Counts.{Count, count_from, line_statement, next_count, no_count}
 use Rattle.keep_meaning.specs.KeyText.{text_at}
 use Rattle.keep_meaning.specs.Marks as marks
-use Rattle.keep_meaning.specs.Marks.{Mention, Reading, Statement, below, marks as marks_of, next_reading, start, statement_mentions}
-use Rattle.keep_meaning.specs.Meaning.{body_fact, entries_mentions, keys_of, keyval_mentions, line_of, lines, lines_mentions, mentions_in, mentions_of_value, reading_after_lines, statement_of}
+use Rattle.keep_meaning.specs.Marks.{Mention, Reading, Statement, below, marks as marks_of, next_reading, start}
+use Rattle.keep_meaning.specs.Marks.{statement_mentions}
+use Rattle.keep_meaning.specs.Meaning.{body_fact, entries_mentions, keys_of, keyval_mentions, line_of, lines}
+use Rattle.keep_meaning.specs.Meaning.{lines_mentions, mentions_in, mentions_of_value, reading_after_lines}
+use Rattle.keep_meaning.specs.Meaning.{statement_of}
 use Rattle.keep_meaning.specs.Rules.{ObeysRules}
-use Rattle.keep_meaning.proofs.Shared.{IsPart, LinesSpelled, Spelled, content_spelled, count_after-values, line_spelled, lines_spelled, next_spelled, part_ends, part_taken, spelled_right, valued-content}
+use Rattle.keep_meaning.proofs.Shared.{IsPart, LinesSpelled, Spelled, content_spelled, count_after-values, line_spelled}
+use Rattle.keep_meaning.proofs.Shared.{lines_spelled, next_spelled, part_ends, part_taken, spelled_right}
+use Rattle.keep_meaning.proofs.Shared.{valued-content}
 use Rattle.keep_edit_spec.proofs.Common.Bridge.{obeys_from_rules}
 use Rattle.keep_edit_spec.proofs.Common.Marks.{rules_of_document}
 use Rattle.keep_edit_spec.proofs.Common.Runs.{Allowed, Rules, pairs_split}
@@ -40,7 +49,8 @@ abbrev HaveValues : List Statement → ℕ → Type 0
 HaveValues ss n = (k : Count) (r : Reading) → (count_from k r ss).values ≡ k.values + n
 
 -- a line's statement has as many as its content, and those of later lines come after it
-content_counted : (p : Start) (c : Content) (ss : List Statement) (n : ℕ) → HaveValues ss n → HaveValues (cons_option (statement_of c) ss) (length (content_values p c) + n)
+content_counted : (p : Start) (c : Content) (ss : List Statement) (n : ℕ) → HaveValues ss n
+    → HaveValues (cons_option (statement_of c) ss) (length (content_values p c) + n)
 content_counted p blank ss n h k r = omega (arith, h k r)
 content_counted p (keyval name v) ss n h k r =
     let s : Statement = marks.keyval (keyval_mentions name v) in
@@ -58,7 +68,8 @@ content_counted p (element b y a) ss n h k r =
 -- ---- a value among those of lines
 
 -- After the values of the lines before comes this value: where it is, and that its text is there.
-record IsFoundAfter (bytes : List ℕ) (profile : Profile) (deep : ℕ) (before : List Line) (infos : List ValueInfo) (v : Value) : Type 0 where
+record IsFoundAfter (bytes : List ℕ) (profile : Profile) (deep : ℕ) (before : List Line) (infos : List ValueInfo)
+    (v : Value) : Type 0 where
   prefix : List ValueInfo
   own : ValueInfo
   rest : List ValueInfo
@@ -82,7 +93,8 @@ module _ (bytes : List ℕ) (profile : Profile) (deep : ℕ) where
   values_of c l line_end = line_values c l
 
   -- a keyval's own value is the first
-  keyval_found : (p : Start) (name : Name) (v : Value) (rest : List ValueInfo) → IsContent profile (keyval name v) → Spelled bytes p.at (content_leaves (keyval name v)) → value_depth v ≤ deep
+  keyval_found : (p : Start) (name : Name) (v : Value) (rest : List ValueInfo) → IsContent profile (keyval name v)
+      → Spelled bytes p.at (content_leaves (keyval name v)) → value_depth v ≤ deep
       → Found [] (content_values p (keyval name v) ++ rest) v
   keyval_found p name v rest is spelled low =
       let at : ℕ = p.at + width (name_leaves name) in
@@ -100,19 +112,27 @@ module _ (bytes : List ℕ) (profile : Profile) (deep : ℕ) where
       }
 
   -- that of a line
-  own_found : (c : syntax.Count) (l : Line) (name : Name) (v : Value) (rest : List ValueInfo) → l.content ≡ keyval name v → IsContent profile l.content → Spelled bytes (content_start c l) (content_leaves l.content) → content_depth l.content ≤ deep
+  own_found : (c : syntax.Count) (l : Line) (name : Name) (v : Value) (rest : List ValueInfo)
+      → l.content ≡ keyval name v → IsContent profile l.content
+      → Spelled bytes (content_start c l) (content_leaves l.content) → content_depth l.content ≤ deep
       → Found [] (line_values c l ++ rest) v
   own_found c l name v rest e =
-      subst (λ (x : Content). IsContent profile x → Spelled bytes (content_start c l) (content_leaves x) → content_depth x ≤ deep → Found [] (content_values (line_start c l) x ++ rest) v) (sym e) (keyval_found (line_start c l) name v rest)
+      subst (λ (x : Content). IsContent profile x → Spelled bytes (content_start c l) (content_leaves x)
+      → content_depth x ≤ deep → Found [] (content_values (line_start c l) x ++ rest) v) (sym e)
+      (keyval_found (line_start c l) name v rest)
 
   -- past a line
-  found_past : (c : syntax.Count) (l : Line) (before : List Line) (infos : List ValueInfo) (v : Value) → Found before infos v → Found (l ∷ before) (line_values c l ++ infos) v
+  found_past : (c : syntax.Count) (l : Line) (before : List Line) (infos : List ValueInfo) (v : Value)
+      → Found before infos v → Found (l ∷ before) (line_values c l ++ infos) v
   found_past c l before infos v h = record {
     prefix = line_values c l ++ h.prefix;
     own = h.own;
     rest = h.rest;
-    whole = ap (λ (vs : List ValueInfo). line_values c l ++ vs) h.whole ∙ sym (append_assoc (line_values c l) h.prefix (h.own ∷ h.rest));
-    counted = λ k r. content_counted (line_start c l) l.content (filter_map line_statement before) (length h.prefix) h.counted k r ∙ ap (λ (n : ℕ). k.values + n) (sym (length-append (line_values c l) h.prefix));
+    whole = ap (λ (vs : List ValueInfo). line_values c l ++ vs) h.whole
+        ∙ sym (append_assoc (line_values c l) h.prefix (h.own ∷ h.rest));
+    counted =
+        λ k r. content_counted (line_start c l) l.content (filter_map line_statement before) (length h.prefix) h.counted
+        k r ∙ ap (λ (n : ℕ). k.values + n) (sym (length-append (line_values c l) h.prefix));
     here = h.here;
     end = h.end;
     leaf = h.leaf;
@@ -121,39 +141,49 @@ module _ (bytes : List ℕ) (profile : Profile) (deep : ℕ) where
   }
 
   -- that of one of these lines
-  lines_found : (c : syntax.Count) (es : List Ended) (last : Line) (before after : List Line) (line : Line) (name : Name) (v : Value) → AllByRecursion (IsEnded profile) es → IsLine profile last → LinesSpelled bytes c.at es last
-      → lines_depth es ≤ deep → content_depth last.content ≤ deep → map line_of es ++ last ∷ [] ≡ before ++ line ∷ after → line.content ≡ keyval name v → Found before (over_lines values_of c es last) v
+  lines_found : (c : syntax.Count) (es : List Ended) (last : Line) (before after : List Line) (line : Line)
+      (name : Name) (v : Value) → AllByRecursion (IsEnded profile) es → IsLine profile last
+      → LinesSpelled bytes c.at es last
+      → lines_depth es ≤ deep → content_depth last.content ≤ deep → map line_of es ++ last ∷ [] ≡ before ++ line ∷ after
+      → line.content ≡ keyval name v → Found before (over_lines values_of c es last) v
   lines_found c [] last [] after line name v are is spelled low low' same content =
       let one : last ≡ line = cc in
       subst (λ (vs : List ValueInfo). Found [] vs v) (append-nil (line_values c last))
-      (own_found c last name v [] (ap (λ (l : Line). l.content) one ∙ content) is.content (content_spelled bytes c last spelled) low')
+      (own_found c last name v [] (ap (λ (l : Line). l.content) one ∙ content) is.content
+      (content_spelled bytes c last spelled) low')
   lines_found c [] last (b ∷ before) after line name v are is spelled low low' same content =
       let none : [] ≡ before ++ line ∷ after = cc in absurd (never_none before line after none)
   lines_found c (e ∷ es) last [] after line name v are is spelled low low' same content =
       let one : e.line ≡ line = cc in
-      own_found c e.line name v (over_lines values_of (next_line c e) es last) (ap (λ (l : Line). l.content) one ∙ content) are.0.line.content
+      own_found c e.line name v (over_lines values_of (next_line c e) es last)
+      (ap (λ (l : Line). l.content) one ∙ content) are.0.line.content
       (content_spelled bytes c e.line (line_spelled bytes c e es last spelled)) (omega (arith, low))
   lines_found c (e ∷ es) last (b ∷ before) after line name v are is spelled low low' same content =
       let first : e.line ≡ b = cc in
       let more : map line_of es ++ last ∷ [] ≡ before ++ line ∷ after = cc in
       subst (λ (l : Line). Found (l ∷ before) (over_lines values_of c (e ∷ es) last) v) first
       (found_past c e.line before (over_lines values_of (next_line c e) es last) v
-      (lines_found (next_line c e) es last before after line name v are.1 is (next_spelled bytes c e es last spelled) (omega (arith, low)) low' more content))
+      (lines_found (next_line c e) es last before after line name v are.1 is (next_spelled bytes c e es last spelled)
+      (omega (arith, low)) low' more content))
 
 -- ---- the rules inside a value
 
-nested_obeys : (d : Document) → ObeysRules (marks_of (mentions_in d)) → (before after : List Line) (line : Line) (name : Name) (v : Value) → lines d ≡ before ++ line ∷ after → line.content ≡ keyval name v
+nested_obeys : (d : Document) → ObeysRules (marks_of (mentions_in d))
+    → (before after : List Line) (line : Line) (name : Name) (v : Value) → lines d ≡ before ++ line ∷ after
+    → line.content ≡ keyval name v
     → ObeysRules (marks_of (mentions_of_value v))
 nested_obeys d obeys before after line name v here content =
     let r : Reading = reading_after_lines start before in
     let left : List Mention = lines_mentions start before in
     let mid : List Mention = map (below r.body) (keyval_mentions name v) in
     let right : List Mention = lines_mentions r after in
-    let mentioned : mentions_in d ≡ left ++ (mid ++ right) = ap (lines_mentions start) here ∙ whole_mentions before after line name v content in
+    let mentioned : mentions_in d ≡ left ++ (mid ++ right) =
+    ap (lines_mentions start) here ∙ whole_mentions before after line name v content in
     let rules : Rules (left ++ (mid ++ right)) = subst Rules mentioned (rules_of_document d obeys) in
     let its : Rules mid = (pairs_split Allowed mid right (pairs_split Allowed left (mid ++ right) rules).right).left in
     obeys_from_rules (entries_mentions 0 v.nested)
-    (rules_named 0 (Some name) (body_fact v.body) (entries_mentions 0 v.nested) (rules_below r.body (keyval_mentions name v) its))
+    (rules_named 0 (Some name) (body_fact v.body) (entries_mentions 0 v.nested)
+    (rules_below r.body (keyval_mentions name v) its))
 
 -- ---- the value of a line
 
@@ -170,17 +200,22 @@ pub record IsLineValueText (profile : Profile) (d : Document) (number : ℕ) (v 
 
 -- The value of a keyval's line has as its number how many values the lines before it have, and its bytes alone are a
 -- text of it.
-pub line_value_text : (profile : Profile) (d : Document) → IsDocument profile d → ObeysRules (marks_of (mentions_in d)) → (before after : List Line) (line : Line) (name : Name) (v : Value)
-    → lines d ≡ before ++ line ∷ after → line.content ≡ keyval name v → IsLineValueText profile d (count_from no_count start (filter_map line_statement before)).values v
+pub line_value_text : (profile : Profile) (d : Document) → IsDocument profile d → ObeysRules (marks_of (mentions_in d))
+    → (before after : List Line) (line : Line) (name : Name) (v : Value)
+    → lines d ≡ before ++ line ∷ after → line.content ≡ keyval name v
+    → IsLineValueText profile d (count_from no_count start (filter_map line_statement before)).values v
 line_value_text profile d is obeys before after line name v here content =
     let number : ℕ = (count_from no_count start (filter_map line_statement before)).values in
     let h : IsFoundAfter (text d) profile (depth d) before (syntax.values d) v =
-    lines_found (text d) profile (depth d) (first_line d) d.ended d.last before after line name v is.ended is.last (lines_spelled (text d) d refl) (omega arith) (omega arith) here content in
+    lines_found (text d) profile (depth d) (first_line d) d.ended d.last before after line name v is.ended is.last
+    (lines_spelled (text d) d refl) (omega arith) (omega arith) here content in
     let count : number ≡ length h.prefix = omega (arith, h.counted no_count start) in
     record {
       info = h.own;
       here = ap (λ (vs : List ValueInfo). slice_get vs number) h.whole ∙ get_here h.prefix h.own h.rest number count;
-      spelled = part_taken (text d) h.own.span.start (h.own.span.end - h.own.span.start) (value_text v) h.here (omega (arith, h.end));
+      spelled =
+          part_taken (text d) h.own.span.start (h.own.span.end - h.own.span.start) (value_text v) h.here
+          (omega (arith, h.end));
       within = (omega (arith, h.end), omega (arith, h.end, part_ends (text d) h.own.span.start (value_text v) h.here));
       leaf = h.leaf;
       valid = h.valid;

@@ -41,7 +41,8 @@ scalar_leaf_fact leaf.InlineOpen t is = absurd (false≢true is)
 scalar_leaf_fact _ t is = refl
 
 -- a body, its leaf and its text tell the same
-body_leaf_fact : (profile : Profile) (body : Body) (nested : Entries) → IsBody profile body → AreEntries profile (place_in body) nested
+body_leaf_fact : (profile : Profile) (body : Body) (nested : Entries) → IsBody profile body
+    → AreEntries profile (place_in body) nested
     → body_fact body ≡ leaf_fact (leaf_of body) (value_text (record { body = body; nested = nested }))
 body_leaf_fact profile (array first) nested is are = refl
 body_leaf_fact profile (inline first) nested is are = refl
@@ -50,16 +51,18 @@ body_leaf_fact profile (scalar w) none is are =
 body_leaf_fact profile (scalar w) (entry name body nested after comma rest) is are = absurd are.0
 
 -- The fact at a path is what the leaf and the text of its value mean.
-pub fact_of_leaf : (profile : Profile) (path : List Part) (s : Document) (v : ℕ) (i : ValueInfo) → IsValueOf profile path s v i
-    → fact_at path (mentions_in s) ≡ Some (leaf_fact i.leaf (text_at (text s) i.span))
+pub fact_of_leaf : (profile : Profile) (path : List Part) (s : Document) (v : ℕ) (i : ValueInfo)
+    → IsValueOf profile path s v i → fact_at path (mentions_in s) ≡ Some (leaf_fact i.leaf (text_at (text s) i.span))
 fact_of_leaf profile path s v i h =
     let t : List ℕ = value_text h.value in
-    let stated : body_fact h.value.body ≡ leaf_fact (leaf_of h.value.body) t = body_leaf_fact profile h.value.body h.value.nested h.valid.body h.valid.nested in
+    let stated : body_fact h.value.body ≡ leaf_fact (leaf_of h.value.body) t =
+    body_leaf_fact profile h.value.body h.value.nested h.valid.body h.valid.nested in
     h.fact ∙ ap Some (stated ∙ ap (λ (l : Leaf). leaf_fact l t) (sym h.leaf) ∙ ap (leaf_fact i.leaf) (sym h.spelled))
 
 -- ---- integers
 
-integer_leaf : (l : Leaf) (t : List ℕ) (n : ℤ) → leaf_fact l t ≡ fact.integer n → (l ≡ leaf.Integer) × (n ≡ integer_value t)
+integer_leaf : (l : Leaf) (t : List ℕ) (n : ℤ) → leaf_fact l t ≡ fact.integer n
+    → (l ≡ leaf.Integer) × (n ≡ integer_value t)
 integer_leaf leaf.Integer t n e = let same : n ≡ integer_value t = cc in (refl, same)
 integer_leaf leaf.Bom t n e = absurd cc
 integer_leaf leaf.Ws t n e = absurd cc
@@ -90,15 +93,19 @@ integer_leaf leaf.InlineClose t n e = absurd cc
 integer_leaf leaf.End t n e = absurd cc
 
 -- An integer leaf is an integer, that of its text.
-pub integer_at_leaf : (profile : Profile) (path : List Part) (s : Document) (v : ℕ) (i : ValueInfo) → IsValueOf profile path s v i → i.leaf ≡ leaf.Integer
+pub integer_at_leaf : (profile : Profile) (path : List Part) (s : Document) (v : ℕ) (i : ValueInfo)
+    → IsValueOf profile path s v i → i.leaf ≡ leaf.Integer
     → fact_at path (mentions_in s) ≡ Some (fact.integer (integer_value (text_at (text s) i.span)))
-integer_at_leaf profile path s v i h e = fact_of_leaf profile path s v i h ∙ ap (λ (l : Leaf). Some (leaf_fact l (text_at (text s) i.span))) e
+integer_at_leaf profile path s v i h e =
+    fact_of_leaf profile path s v i h ∙ ap (λ (l : Leaf). Some (leaf_fact l (text_at (text s) i.span))) e
 
 -- An integer has an integer leaf, and is that of its text.
-pub leaf_of_integer : (profile : Profile) (path : List Part) (s : Document) (v : ℕ) (i : ValueInfo) (n : ℤ) → IsValueOf profile path s v i → fact_at path (mentions_in s) ≡ Some (fact.integer n)
+pub leaf_of_integer : (profile : Profile) (path : List Part) (s : Document) (v : ℕ) (i : ValueInfo) (n : ℤ)
+    → IsValueOf profile path s v i → fact_at path (mentions_in s) ≡ Some (fact.integer n)
     → (i.leaf ≡ leaf.Integer) × (n ≡ integer_value (text_at (text s) i.span))
 leaf_of_integer profile path s v i n h e =
-    let k : Some (leaf_fact i.leaf (text_at (text s) i.span)) ≡ Some (fact.integer n) = sym (fact_of_leaf profile path s v i h) ∙ e in
+    let k : Some (leaf_fact i.leaf (text_at (text s) i.span)) ≡ Some (fact.integer n) =
+    sym (fact_of_leaf profile path s v i h) ∙ e in
     integer_leaf i.leaf (text_at (text s) i.span) n (one k)
   where
     one : {f g : Fact} → Some f ≡ Some g → f ≡ g
@@ -145,13 +152,16 @@ string_leaf leaf.InlineClose t = refl
 string_leaf leaf.End t = refl
 
 -- The string at a path is what a string leaf there means, and none at another leaf.
-pub string_at_leaf : (profile : Profile) (path : List Part) (s : Document) (v : ℕ) (i : ValueInfo) → IsValueOf profile path s v i
+pub string_at_leaf : (profile : Profile) (path : List Part) (s : Document) (v : ℕ) (i : ValueInfo)
+    → IsValueOf profile path s v i
     → string_of (fact_at path (mentions_in s)) ≡ string_of_leaf i.leaf (text_at (text s) i.span)
-string_at_leaf profile path s v i h = ap string_of (fact_of_leaf profile path s v i h) ∙ string_leaf i.leaf (text_at (text s) i.span)
+string_at_leaf profile path s v i h =
+    ap string_of (fact_of_leaf profile path s v i h) ∙ string_leaf i.leaf (text_at (text s) i.span)
 
 -- ---- where there is no value
 
-none_of_table : {A : Type 0} (g : Option Fact → Option A) → g None ≡ None → g (Some fact.table) ≡ None → (o : Option Fact) → elim o [ None ↦ false | Some f ↦ is_value_fact f ] ≡ false → g o ≡ None
+none_of_table : {A : Type 0} (g : Option Fact → Option A) → g None ≡ None → g (Some fact.table) ≡ None
+    → (o : Option Fact) → elim o [ None ↦ false | Some f ↦ is_value_fact f ] ≡ false → g o ≡ None
 none_of_table g n t None h = n
 none_of_table g n t (Some fact.table) h = t
 none_of_table g n t (Some (fact.string v)) h = absurd cc

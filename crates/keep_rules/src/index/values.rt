@@ -18,8 +18,8 @@ use keep_token::Profile;
 use keep_types::{Kind, kind_of};
 use std::alloc::Global;
 
-/// The nodes of a value and its kind, read of its own text. `NotInPlace` where memory was refused, and where the text is
-/// no value of the profile that obeys the rules of definition.
+/// The nodes of a value and its kind, read of its own text. `NotInPlace` where memory was refused, and where the text
+/// is no value of the profile that obeys the rules of definition.
 fn nodes_in_text(alloc: Global, text: &str, profile: Profile) -> Result<(Tree, Kind), NotInPlace>
     ensures nodes { IfOk result
         (λ read. (v : Value) → IsTextOfValue text.now v → node_infos read.0 ≡ nodes_in_value v) }

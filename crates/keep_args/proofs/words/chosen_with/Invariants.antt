@@ -6,4 +6,5 @@ use Rattle.keep_args.specs.App.{word_ids}
 use Rattle.keep_args.proofs.words.chosen_with.Given as goal
 
 abbrev pub invariant-loop-place : goal.invariant-loop-place
-invariant-loop-place l = map string_bytes l.words.items ≡ map (λ id. word_in id (rows_of (found_of l.matches))) (take l.place word_ids)
+invariant-loop-place l =
+    map string_bytes l.words.items ≡ map (λ id. word_in id (rows_of (found_of l.matches))) (take l.place word_ids)

@@ -8,14 +8,18 @@ use Rattle.keep_commands.proofs.answer.after_edits.Goals as goal
 
 pub returns-then-is_empty : goal.returns-then-is_empty
 returns-then-is_empty c = λ s h bytes are.
-    subst (λ (b : List ℕ). AreMade s c.args.edits.now c.args.document (text_in c.args.document.profile b)) (sym (are ∙ c.into_text.ensures.text))
+    subst (λ (b : List ℕ). AreMade s c.args.edits.now c.args.document (text_in c.args.document.profile b))
+    (sym (are ∙ c.into_text.ensures.text))
     (nothing_made s c.args.edits.now c.args.document c.if-is_empty.ensures h)
 
 pub returns-in-Ok : goal.returns-in-Ok
 returns-in-Ok c = λ s h bytes are.
     let made = c.in-Ok.ensures.done s h in
     subst (λ (p : Profile). AreMade s c.args.edits.now c.args.document (text_in p bytes)) made.profile
-    (subst (λ (b : List ℕ). AreMade s c.args.edits.now c.args.document (text_in c.apply_but_last.new.self.profile b)) (sym (are ∙ c.new.ensures)) made)
+    (subst (λ (b : List ℕ). AreMade s c.args.edits.now c.args.document (text_in c.apply_but_last.new.self.profile b))
+    (sym (are ∙ c.new.ensures)) made)
 
 pub returns-in-Err : goal.returns-in-Err
-returns-in-Err c = λ s h. rw (c.of_edit.ensures) (stopped_at s c.args.edits.now c.args.document.profile c.in-Err.index c.in-Err.fault (c.in-Err.ensures.done s h))
+returns-in-Err c =
+    λ s h. rw (c.of_edit.ensures) (stopped_at s c.args.edits.now c.args.document.profile c.in-Err.index c.in-Err.fault
+    (c.in-Err.ensures.done s h))

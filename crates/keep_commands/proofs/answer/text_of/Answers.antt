@@ -6,4 +6,5 @@ use Rattle.keep_commands.proofs.answer.text_of.Goals as goal
 
 pub returns-in-Lines : goal.returns-in-Lines
 returns-in-Lines c =
-    subst (λ (a : Answer). IfOk c.text.result (λ t. AreBytesOf a (string_bytes t))) (sym c.in-Lines.is) (lines_text c.in-Lines.lines c.text.result c.text.ensures.accepted c.text.ensures.lines)
+    subst (λ (a : Answer). IfOk c.text.result (λ t. AreBytesOf a (string_bytes t))) (sym c.in-Lines.is)
+    (lines_text c.in-Lines.lines c.text.result c.text.ensures.accepted c.text.ensures.lines)

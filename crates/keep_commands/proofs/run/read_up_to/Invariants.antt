@@ -7,7 +7,8 @@ invariant-loop-bytes g l = record {
   fresh : l.input.failed ≡ false;
   calls : l.input.calls ≤ length l.bytes.items;
   most : length l.bytes.items ≤ l.most;
-  taken : Consumes (prepend_known l.fn.bytes.items (g.R.Read.remaining l.fn.input.inner)) (g.R.Read.remaining l.input.inner) l.bytes.items;
+  taken : Consumes (prepend_known l.fn.bytes.items (g.R.Read.remaining l.fn.input.inner))
+      (g.R.Read.remaining l.input.inner) l.bytes.items;
 }
 
 abbrev pub decreases-loop-bytes : goal.decreases-loop-bytes

@@ -7,5 +7,8 @@ use Rattle.keep_commands.proofs.write.write_answer.Goals as goal
 
 pub returns-in-Lines-clause-writes : goal.returns-in-Lines-clause-writes
 returns-in-Lines-clause-writes g c =
-    let (s, read) = c.write_lines.ensures.accepted in
-    (lines_of (entries_of s), subst (λ (a : Answer). AreBytesOf a (lines_of (entries_of s))) (sym c.in-Lines.is) (s, read, refl), c.write_lines.ensures.writes s read)
+    let (s, read) = c.write_lines.ensures.accepted in (
+      lines_of (entries_of s),
+      subst (λ (a : Answer). AreBytesOf a (lines_of (entries_of s))) (sym c.in-Lines.is) (s, read, refl),
+      c.write_lines.ensures.writes s read,
+    )

@@ -13,7 +13,8 @@ invariant-loop-number g l = record {
   same : l.lines.document ≡ l.fn.lines.document;
   written : (s : Document) → IsTextOfTree l.fn.lines.document s
       → (l.written ≡ length (lines_of (take l.number (entries_of s))))
-      × Appends (g.W.Write.contents l.fn.output.inner) (g.W.Write.contents l.output.inner) (lines_of (take l.number (entries_of s)));
+      × Appends (g.W.Write.contents l.fn.output.inner) (g.W.Write.contents l.output.inner)
+      (lines_of (take l.number (entries_of s)));
   silent : l.written ≡ 0 → l.output.calls ≡ l.fn.output.calls;
 }
 

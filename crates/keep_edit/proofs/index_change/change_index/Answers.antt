@@ -7,9 +7,13 @@ pub returns-in-AddedValue-clause-changed : goal.returns-in-AddedValue-clause-cha
 returns-in-AddedValue-clause-changed c = λ d was done.
     let can = subst (CanChange c.args.index.now) c.in-AddedValue.is c.requires in
     rw (c.in-AddedValue.is, sym (c.totals_of-in-AddedValue.ensures d was.is))
-    (λ v text. from_ok _ c.insert_value.result (sym c.is_ok-in-AddedValue.ensures.value ∙ done) c.insert_value.ensures.inserted _ can.2 v text)
+    (λ v text.
+    from_ok _ c.insert_value.result (sym c.is_ok-in-AddedValue.ensures.value ∙ done) c.insert_value.ensures.inserted _
+    can.2 v text)
 
 pub returns-in-Element-clause-changed : goal.returns-in-Element-clause-changed
 returns-in-Element-clause-changed c = λ d was done.
     rw (c.in-AppendedHeader.is, c.in-Element.is)
-    (λ old is numbers. from_ok _ c.append_element.result (sym c.is_ok-in-Element.ensures.value ∙ done) (c.append_element.ensures.told old is numbers))
+    (λ old is numbers.
+    from_ok _ c.append_element.result (sym c.is_ok-in-Element.ensures.value ∙ done)
+    (c.append_element.ensures.told old is numbers))

@@ -8,10 +8,12 @@ replace-requires c =
       document = h.edit.tree;
       is = is_syntax old made _ _ h.holds h.edit h.edit.tree h.edit.read;
       new = (touches old made _ _ h.holds h.edit).lines;
-      can = can_as old made _ _ h.holds h.edit c.args.whole h.touched_are c.args.profile c.args.lines.now h.profile_is h.lines_are;
+      can = can_as old made _ _ h.holds h.edit c.args.whole h.touched_are c.args.profile c.args.lines.now h.profile_is
+          h.lines_are;
     }
 
 pub returns-clause-renewed : goal.returns-clause-renewed
 returns-clause-renewed c = λ old made index h.
-    is_reread old made _ _ h.holds h.edit c.args.whole h.touched_are c.replace.result c.args.profile c.args.lines.now c.replace.new.self h.profile_is h.lines_are
+    is_reread old made _ _ h.holds h.edit c.args.whole h.touched_are c.replace.result c.args.profile c.args.lines.now
+    c.replace.new.self h.profile_is h.lines_are
     c.replace.ensures.read c.replace.ensures.of_text

@@ -11,5 +11,8 @@ replace_range-requires-clause-start_boundary c =
 
 pub returns : goal.returns
 returns c = λ before can.
-    let put : string_bytes c.replace_range.new.self ≡ replace_range (string_bytes c.args.text.now) c.args.edited.now.place.start (c.args.edited.now.place.start + length c.as_str.result.now) c.args.replaced_bytes.now = search rules in
-    is_back c.args.edited.now before c.args.replaced_bytes.now c.args.text.now can (string_bytes c.replace_range.new.self) (rw c.as_str.ensures.value at put)
+    let put : string_bytes c.replace_range.new.self
+    ≡ replace_range (string_bytes c.args.text.now) c.args.edited.now.place.start
+    (c.args.edited.now.place.start + length c.as_str.result.now) c.args.replaced_bytes.now = search rules in
+    is_back c.args.edited.now before c.args.replaced_bytes.now c.args.text.now can
+    (string_bytes c.replace_range.new.self) (rw c.as_str.ensures.value at put)

@@ -11,4 +11,6 @@ abbrev pub invariant-loop-name : goal.invariant-loop-name
 invariant-loop-name l =
     (l.at.0 < length l.index.paths) ×
     ((s : tree.Document) → IsIndexOf s l.index
-    → conflict_from s [] (key_texts l.keys) (role_of l.header) ≡ conflict_from s (path_numbered l.index l.at.0) (key_texts (drop l.name-index l.prefix) ++ string_bytes l.last ∷ []) (role_of l.header))
+    → conflict_from s [] (key_texts l.keys) (role_of l.header)
+    ≡ conflict_from s (path_numbered l.index l.at.0)
+    (key_texts (drop l.name-index l.prefix) ++ string_bytes l.last ∷ []) (role_of l.header))

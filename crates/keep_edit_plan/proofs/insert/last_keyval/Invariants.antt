@@ -6,4 +6,5 @@ use Rattle.keep_edit_plan.proofs.KeyvalSteps.{last_or}
 use Rattle.keep_edit_plan.proofs.insert.last_keyval.Given as goal
 
 abbrev pub invariant-loop-number : goal.invariant-loop-number
-invariant-loop-number l = last_keyval_among l.braces (values_of l.syntax) ≡ last_or l.last l.number l.depth (values_of l.syntax)
+invariant-loop-number l =
+    last_keyval_among l.braces (values_of l.syntax) ≡ last_or l.last l.number l.depth (values_of l.syntax)

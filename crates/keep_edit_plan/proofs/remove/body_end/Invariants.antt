@@ -5,4 +5,6 @@ use Rattle.keep_edit_spec.specs.Removal as removal
 use Rattle.keep_edit_plan.proofs.remove.body_end.Given as goal
 
 abbrev pub invariant-loop-next : goal.invariant-loop-next
-invariant-loop-next l = removal.body_end l.end (drop l.next (statements_of l.syntax)) ≡ removal.body_end l.at (drop l.first (statements_of l.syntax))
+invariant-loop-next l =
+    removal.body_end l.end (drop l.next (statements_of l.syntax))
+    ≡ removal.body_end l.at (drop l.first (statements_of l.syntax))

@@ -6,6 +6,7 @@ use Rattle.keep_edit_plan.proofs.remove.section_cut.Goals as goal
 
 pub returns-clause-place : goal.returns-clause-place
 returns-clause-place c = λ bytes.
-    let ends = section_ends c.args.number (suc c.args.number) c.statement-start.result _ c.statement-start.ensures refl in
+    let ends =
+    section_ends c.args.number (suc c.args.number) c.statement-start.result _ c.statement-start.ensures refl in
     same_place _ _ _ _ _ _ refl (c.section_end.ensures ∙ ends) (text_none bytes c.statement-start.result.line.start)
     ∙ sym (section_here c.args.number c.statement-start.result _ c.statement-start.ensures)

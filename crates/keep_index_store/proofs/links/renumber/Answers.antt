@@ -7,7 +7,8 @@ use Rattle.keep_index_store.proofs.links.renumber.Goals as goal
 pub renumber_link-requires-clause-grows : goal.renumber_link-requires-clause-grows
 renumber_link-requires-clause-grows c =
     let d : PackedLink = record { parent = 0; number = 0 } in
-    subst (λ (h : PackedLink). (h.parent < 4294967295) × (h.number < 4294967295)) (sym (link_same c.args.links.now c.loop-link.links c.loop-link.link-index d c.loop-link.invariant.1))
+    subst (λ (h : PackedLink). (h.parent < 4294967295) × (h.number < 4294967295))
+    (sym (link_same c.args.links.now c.loop-link.links c.loop-link.link-index d c.loop-link.invariant.1))
     (c.requires.grows c.loop-link.link-index d (omega (arith, c.loop-link-test.true)))
 
 pub loop-link-preserved : goal.loop-link-preserved

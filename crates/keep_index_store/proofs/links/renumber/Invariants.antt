@@ -5,5 +5,7 @@ use Rattle.keep_index_store.specs.Moved.{moved_link}
 use Rattle.keep_index_store.proofs.links.renumber.Given as goal
 
 abbrev pub invariant-loop-link : goal.invariant-loop-link
-invariant-loop-link l = (map link_of l.links ≡ map (moved_link l.place) (take l.link-index (map link_of l.fn.links)) ++ drop l.link-index (map link_of l.fn.links))
+invariant-loop-link l =
+    (map link_of l.links ≡ map (moved_link l.place) (take l.link-index (map link_of l.fn.links))
+    ++ drop l.link-index (map link_of l.fn.links))
     × (drop l.link-index l.links ≡ drop l.link-index l.fn.links)

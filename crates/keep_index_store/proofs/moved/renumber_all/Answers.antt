@@ -9,7 +9,9 @@ pub loop-id-preserved : goal.loop-id-preserved
 loop-id-preserved c =
     let f = moved_number c.args.last c.args.at in
     let low : c.loop-id.id-index < length c.args.ids.now = omega (arith, c.loop-id-test.true) in
-    let many : length c.loop-id.ids ≡ length c.args.ids.now = partly_count f c.args.ids.now c.loop-id.ids c.loop-id.id-index c.loop-id.invariant (omega (arith, low)) in
+    let many : length c.loop-id.ids ≡ length c.args.ids.now =
+    partly_count f c.args.ids.now c.loop-id.ids c.loop-id.id-index c.loop-id.invariant (omega (arith, low)) in
     let x = get_or c.loop-id.ids c.loop-id.id-index 0 in
     ap (set c.loop-id.ids c.loop-id.id-index) c.number_then.ensures
-    ∙ map_over_more f c.args.ids.now c.loop-id.ids c.loop-id.id-index x low c.loop-id.invariant (get_or_default c.loop-id.ids c.loop-id.id-index 0 x (omega (arith, low, many)))
+    ∙ map_over_more f c.args.ids.now c.loop-id.ids c.loop-id.id-index x low c.loop-id.invariant
+    (get_or_default c.loop-id.ids c.loop-id.id-index 0 x (omega (arith, low, many)))

@@ -5,4 +5,5 @@ use Rattle.keep_path.specs.Step.{part_of}
 use Rattle.keep_path.proofs.step.push_all_further.Given as goal
 
 abbrev pub invariant-loop-step : goal.invariant-loop-step
-invariant-loop-step l = string_bytes l.out ≡ string_bytes l.initial.out ++ flat_map part_text (map part_of (take l.step-index l.steps))
+invariant-loop-step l =
+    string_bytes l.out ≡ string_bytes l.initial.out ++ flat_map part_text (map part_of (take l.step-index l.steps))

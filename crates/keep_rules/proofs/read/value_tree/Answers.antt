@@ -23,13 +23,18 @@ read_inside-requires c =
     let root = c.in_ok-root.root in
     record {
       readable = λ n p at.
-          value_syntax_readable c.args.syntax.now c.args.text.now c.requires.1.profile c.requires.0 c.utf8.text c.requires.1.reads.valid c.requires.1.reads.spelled c.requires.1.is n p
+          value_syntax_readable c.args.syntax.now c.args.text.now c.requires.1.profile c.requires.0 c.utf8.text
+          c.requires.1.reads.valid c.requires.1.reads.spelled c.requires.1.is n p
           (ap (λ q. slice_get (flat q).keys n) (sym c.parts-parts.ensures) ∙ at);
       next = (
         value_nesting (body_fact c.requires.0.body),
         nested_values 0 1 c.requires.0.nested,
         0,
-        alone_next c.args.text.now c.requires.1.profile c.requires.0 c.requires.1.reads.valid c.requires.1.reads.spelled (flat c.parts-parts.result.now) (ap (λ p. (flat p).keys) c.parts-parts.ensures ∙ c.requires.1.is.parts) (ap (λ p. (flat p).values) c.parts-parts.ensures ∙ c.requires.1.is.values) root c.value.result (ap (λ p. slice_get (flat p).values 0) c.parts-parts.ensures ∙ c.value.ensures.stored) _ c.holds_of_leaf-holds.ensures c.in_ok-root.ensures,
+        alone_next c.args.text.now c.requires.1.profile c.requires.0 c.requires.1.reads.valid c.requires.1.reads.spelled
+            (flat c.parts-parts.result.now) (ap (λ p. (flat p).keys) c.parts-parts.ensures ∙ c.requires.1.is.parts)
+            (ap (λ p. (flat p).values) c.parts-parts.ensures ∙ c.requires.1.is.values) root c.value.result
+            (ap (λ p. slice_get (flat p).values 0) c.parts-parts.ensures ∙ c.value.ensures.stored) _
+            c.holds_of_leaf-holds.ensures c.in_ok-root.ensures,
       );
       numbered = refl;
     }
@@ -42,7 +47,11 @@ returns-in_err-root-clause-checked c =
 pub returns-in-Ok-clause-checked : goal.returns-in-Ok-clause-checked
 returns-in-Ok-clause-checked c = record {
   ok = λ (v : Value) (was : WasReadAlone c.args.text.now c.args.syntax.now v).
-      alone_obeys c.args.text.now was.profile v was.reads.valid was.reads.spelled (flat c.parts-parts.result.now) (ap (λ p. (flat p).keys) c.parts-parts.ensures ∙ was.is.parts) (ap (λ p. (flat p).values) c.parts-parts.ensures ∙ was.is.values) c.in_ok-root.root c.value.result (ap (λ p. slice_get (flat p).values 0) c.parts-parts.ensures ∙ c.value.ensures.stored) _ c.holds_of_leaf-holds.ensures c.in_ok-root.ensures c.read_inside.new.self.tree c.in-Ok.ensures.0
+      alone_obeys c.args.text.now was.profile v was.reads.valid was.reads.spelled (flat c.parts-parts.result.now)
+      (ap (λ p. (flat p).keys) c.parts-parts.ensures ∙ was.is.parts)
+      (ap (λ p. (flat p).values) c.parts-parts.ensures ∙ was.is.values) c.in_ok-root.root c.value.result
+      (ap (λ p. slice_get (flat p).values 0) c.parts-parts.ensures ∙ c.value.ensures.stored) _
+      c.holds_of_leaf-holds.ensures c.in_ok-root.ensures c.read_inside.new.self.tree c.in-Ok.ensures.0
       c.in-Ok.ensures.1.was_read;
   read = λ v was obeys. tt;
   faults = λ v was. tt;
@@ -53,17 +62,31 @@ returns-in-Ok-clause-checked c = record {
 pub returns-in-Ok-clause-nodes : goal.returns-in-Ok-clause-nodes
 returns-in-Ok-clause-nodes c = λ (v : Value) (was : WasReadAlone c.args.text.now c.args.syntax.now v).
     let few : length (flat c.parts-parts.result.now).keys < 2 ^ 64 = omega (arith, few_keys c.parts-parts.result.now) in
-    alone_nodes c.args.text.now was.profile v was.reads.valid was.reads.spelled (flat c.parts-parts.result.now) (ap (λ p. (flat p).keys) c.parts-parts.ensures ∙ was.is.parts) (ap (λ p. (flat p).values) c.parts-parts.ensures ∙ was.is.values) c.in_ok-root.root c.value.result (ap (λ p. slice_get (flat p).values 0) c.parts-parts.ensures ∙ c.value.ensures.stored) _ c.holds_of_leaf-holds.ensures c.in_ok-root.ensures few c.read_inside.new.self.tree c.in-Ok.ensures.0
+    alone_nodes c.args.text.now was.profile v was.reads.valid was.reads.spelled (flat c.parts-parts.result.now)
+    (ap (λ p. (flat p).keys) c.parts-parts.ensures ∙ was.is.parts)
+    (ap (λ p. (flat p).values) c.parts-parts.ensures ∙ was.is.values) c.in_ok-root.root c.value.result
+    (ap (λ p. slice_get (flat p).values 0) c.parts-parts.ensures ∙ c.value.ensures.stored) _
+    c.holds_of_leaf-holds.ensures c.in_ok-root.ensures few c.read_inside.new.self.tree c.in-Ok.ensures.0
     c.in-Ok.ensures.1.was_read
 
 pub read_fault-requires : goal.read_fault-requires
 read_fault-requires c =
-    alone_within c.args.text.now c.requires.1.profile c.requires.0 c.requires.1.reads.valid c.requires.1.reads.spelled (flat c.parts-parts.result.now) (ap (λ p. (flat p).keys) c.parts-parts.ensures ∙ c.requires.1.is.parts) (ap (λ p. (flat p).values) c.parts-parts.ensures ∙ c.requires.1.is.values) c.in_ok-root.root c.value.result (ap (λ p. slice_get (flat p).values 0) c.parts-parts.ensures ∙ c.value.ensures.stored) _ c.holds_of_leaf-holds.ensures c.in_ok-root.ensures c.in-Err.fault c.in-Err.ensures.1.define
+    alone_within c.args.text.now c.requires.1.profile c.requires.0 c.requires.1.reads.valid c.requires.1.reads.spelled
+    (flat c.parts-parts.result.now) (ap (λ p. (flat p).keys) c.parts-parts.ensures ∙ c.requires.1.is.parts)
+    (ap (λ p. (flat p).values) c.parts-parts.ensures ∙ c.requires.1.is.values) c.in_ok-root.root c.value.result
+    (ap (λ p. slice_get (flat p).values 0) c.parts-parts.ensures ∙ c.value.ensures.stored) _
+    c.holds_of_leaf-holds.ensures c.in_ok-root.ensures c.in-Err.fault c.in-Err.ensures.1.define
 
 pub returns-in-Err-clause-checked : goal.returns-in-Err-clause-checked
 returns-in-Err-clause-checked c =
-    let refused : (v : Value) → WasReadAlone c.args.text.now c.args.syntax.now v → IsValueRefusal v c.read_fault.result = λ v was.
-    alone_refused c.args.text.now was.profile v was.reads.valid was.reads.spelled (flat c.parts-parts.result.now) (ap (λ p. (flat p).keys) c.parts-parts.ensures ∙ was.is.parts) (ap (λ p. (flat p).values) c.parts-parts.ensures ∙ was.is.values) c.in_ok-root.root c.value.result (ap (λ p. slice_get (flat p).values 0) c.parts-parts.ensures ∙ c.value.ensures.stored) _ c.holds_of_leaf-holds.ensures c.in_ok-root.ensures c.in-Err.fault c.read_fault.result c.read_fault.ensures c.in-Err.ensures.1.define in
+    let refused : (v : Value) → WasReadAlone c.args.text.now c.args.syntax.now v
+    → IsValueRefusal v c.read_fault.result = λ v was.
+    alone_refused c.args.text.now was.profile v was.reads.valid was.reads.spelled (flat c.parts-parts.result.now)
+    (ap (λ p. (flat p).keys) c.parts-parts.ensures ∙ was.is.parts)
+    (ap (λ p. (flat p).values) c.parts-parts.ensures ∙ was.is.values) c.in_ok-root.root c.value.result
+    (ap (λ p. slice_get (flat p).values 0) c.parts-parts.ensures ∙ c.value.ensures.stored) _
+    c.holds_of_leaf-holds.ensures c.in_ok-root.ensures c.in-Err.fault c.read_fault.result c.read_fault.ensures
+    c.in-Err.ensures.1.define in
     record {
       ok = λ v was. tt;
       read = λ v was obeys. value_refused_memory v c.read_fault.result (refused v was) obeys;

@@ -9,4 +9,6 @@ returns-in_err-end c =
     rw (p.1, p.2) (key_fails_part c.args.profile c.args.text.now c.args.at c.in_err-end.field-0.0 c.in_err-end.ensures)
 
 pub returns : goal.returns
-returns c = key_is c.args.profile c.args.text.now c.args.at c.in_ok-end.end (flat c.args.out.now) (flat c.key_part.new.out) (flat c.dotted_rest.new.out) c.dotted_rest.result c.in_ok-end.ensures c.dotted_rest.ensures
+returns c =
+    key_is c.args.profile c.args.text.now c.args.at c.in_ok-end.end (flat c.args.out.now) (flat c.key_part.new.out)
+    (flat c.dotted_rest.new.out) c.dotted_rest.result c.in_ok-end.ensures c.dotted_rest.ensures

@@ -11,8 +11,10 @@ returns-then-byte_at-ne35 c =
 
 pub returns-in_ok-push_token-in-Some : goal.returns-in_ok-push_token-in-Some
 returns-in_ok-push_token-in-Some c =
-    let e = comment_kind c.args.text.now c.args.at c.in-Some.field-0-0 c.in-Some.end (omega (arith, c.byte_at.ensures)) c.in-Some.ensures.value in
-    some_comment c.args.text.now c.args.at (flat c.args.out.now) (flat c.push_token.new.self) c.in-Some.end c.requires c.in-Some.ensures.ends e c.in_ok-push_token-in-Some.ensures.ok
+    let e = comment_kind c.args.text.now c.args.at c.in-Some.field-0-0 c.in-Some.end (omega (arith, c.byte_at.ensures))
+    c.in-Some.ensures.value in
+    some_comment c.args.text.now c.args.at (flat c.args.out.now) (flat c.push_token.new.self) c.in-Some.end c.requires
+    c.in-Some.ensures.ends e c.in_ok-push_token-in-Some.ensures.ok
 
 pub returns-in-None : goal.returns-in-None
 returns-in-None c = none_comment c.args.text.now c.args.at (flat c.args.out.now) c.requires c.in-None.ensures.value

@@ -12,17 +12,20 @@ returns-in_err-begin c =
 
 pub overflow_sub-keys : goal.overflow_sub-keys
 overflow_sub-keys c =
-    let n = name_grown c.args.limits.profile c.args.text.now c.args.start.now.at c.in_ok-begin.begin (flat c.args.out.now) (flat c.key_and_equals.new.out) c.in_ok-begin.ensures in
+    let n = name_grown c.args.limits.profile c.args.text.now c.args.start.now.at c.in_ok-begin.begin
+    (flat c.args.out.now) (flat c.key_and_equals.new.out) c.in_ok-begin.ensures in
     omega (arith, c.requires.parts, c.key_count.ensures, n.0)
 
 pub value-requires-clause-values : goal.value-requires-clause-values
 value-requires-clause-values c =
-    let n = name_grown c.args.limits.profile c.args.text.now c.args.start.now.at c.in_ok-begin.begin (flat c.args.out.now) (flat c.key_and_equals.new.out) c.in_ok-begin.ensures in
+    let n = name_grown c.args.limits.profile c.args.text.now c.args.start.now.at c.in_ok-begin.begin
+    (flat c.args.out.now) (flat c.key_and_equals.new.out) c.in_ok-begin.ensures in
     c.requires.values ∙ sym n.1
 
 pub value-requires-clause-parts : goal.value-requires-clause-parts
 value-requires-clause-parts c =
-    let n = name_grown c.args.limits.profile c.args.text.now c.args.start.now.at c.in_ok-begin.begin (flat c.args.out.now) (flat c.key_and_equals.new.out) c.in_ok-begin.ensures in
+    let n = name_grown c.args.limits.profile c.args.text.now c.args.start.now.at c.in_ok-begin.begin
+    (flat c.args.out.now) (flat c.key_and_equals.new.out) c.in_ok-begin.ensures in
     omega (arith, c.requires.parts, c.key_count.ensures, n.0)
 
 pub returns-in_err-end : goal.returns-in_err-end
@@ -34,6 +37,7 @@ returns-in_err-end c =
 
 pub returns : goal.returns
 returns c =
-    keyval_is c.args.limits.profile c.args.limits.depth c.args.text.now c.args.start.now c.in_ok-begin.begin c.in_ok-end.end c.key_count.result _ (flat c.args.out.now) (flat c.key_and_equals.new.out) (flat c.value.new.out)
+    keyval_is c.args.limits.profile c.args.limits.depth c.args.text.now c.args.start.now c.in_ok-begin.begin
+    c.in_ok-end.end c.key_count.result _ (flat c.args.out.now) (flat c.key_and_equals.new.out) (flat c.value.new.out)
     c.requires.begins.0 c.requires.begins.1 c.in_ok-begin.ensures c.requires.parts c.key_count.ensures
     refl c.in_ok-end.ensures

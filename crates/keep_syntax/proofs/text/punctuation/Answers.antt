@@ -10,7 +10,8 @@ returns c =
     let e : last + 1 ≡ c.args.at + c.args.len = omega arith in
     record {
       end_is = refl;
-      bound = subst (λ (n : ℕ). IsCharBoundary c.args.text.now n) e (IsCharBoundary-after_ascii c.args.text.now last c.utf8.text within c.requires.ascii);
+      bound = subst (λ (n : ℕ). IsCharBoundary c.args.text.now n) e
+          (IsCharBoundary-after_ascii c.args.text.now last c.utf8.text within c.requires.ascii);
       start = c.requires.bound;
       stored = c.in_ok-push_token.ensures.ok;
     }

@@ -17,7 +17,8 @@ decreases-entries l = 4 * (length l.text.now - l.start.now.at) + 3
 
 -- what was read so far
 abbrev pub invariant-entries-items : goal.invariant-entries-items
-invariant-entries-items l = SoFar l.brackets l.limits.profile l.limits.depth l.text l.fn.start (flat l.fn.out) (flat l.out) l.here
+invariant-entries-items l =
+    SoFar l.brackets l.limits.profile l.limits.depth l.text l.fn.start (flat l.fn.out) (flat l.out) l.here
 
 abbrev pub decreases-entries-items : goal.decreases-entries-items
 decreases-entries-items l = length l.text - l.here.at

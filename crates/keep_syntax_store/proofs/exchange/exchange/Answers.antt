@@ -1,10 +1,14 @@
-use Rattle.std.proofs.Common.{◌≡◌, ◌-◌, ◌++◌, length, take, drop, slice_range, ap, sym, ◌∙◌, arith, vec_len, append_assoc}
+use Rattle.std.proofs.Common.{◌≡◌, ◌-◌, ◌++◌, length, take, drop, slice_range, ap, sym, ◌∙◌, arith, vec_len}
+use Rattle.std.proofs.Common.{append_assoc}
 use Rattle.std.proofs.lemmas.List.{length-append, length-drop, take_rest}
 use Rattle.keep_syntax_store.proofs.ExchangeLaws.{three, take_prefix, drop_prefix, take_length, range_length}
 use Rattle.keep_syntax_store.proofs.exchange.exchange.Goals as goal
 
 -- all four runs, the one that leaves at the end
-swapped : (g : _) (c : goal.After-truncate g) → c.swap_runs_in.new.items.items ≡ take c.args.from c.args.items.now.items ++ (c.args.other.now.items ++ (drop c.args.to c.args.items.now.items ++ slice_range c.args.items.now.items c.args.from c.args.to))
+swapped : (g : _) (c : goal.After-truncate g)
+    → c.swap_runs_in.new.items.items ≡ take c.args.from c.args.items.now.items
+    ++ (c.args.other.now.items ++ (drop c.args.to c.args.items.now.items
+    ++ slice_range c.args.items.now.items c.args.from c.args.to))
 swapped g c =
     let xs = c.args.items.now.items in
     let ns = c.args.other.now.items in
@@ -28,7 +32,8 @@ returns-clause-items g c =
     let a = take from xs in
     let b = slice_range xs from to in
     let d = drop to xs in
-    let together : a ++ (ns ++ (d ++ b)) ≡ (a ++ (ns ++ d)) ++ b = ap (λ ys. a ++ ys) (sym (append_assoc ns d b)) ∙ sym (append_assoc a (ns ++ d) b) in
+    let together : a ++ (ns ++ (d ++ b)) ≡ (a ++ (ns ++ d)) ++ b =
+    ap (λ ys. a ++ ys) (sym (append_assoc ns d b)) ∙ sym (append_assoc a (ns ++ d) b) in
     c.truncate.ensures.items ∙ ap (take (c.len.result - (to - from))) (swapped g c ∙ together)
     ∙ take_prefix (a ++ (ns ++ d)) b (c.len.result - (to - from))
     (omega (
@@ -57,7 +62,8 @@ returns-clause-gone g c =
     let a = take from xs in
     let b = slice_range xs from to in
     let d = drop to xs in
-    let together : a ++ (ns ++ (d ++ b)) ≡ (a ++ (ns ++ d)) ++ b = ap (λ ys. a ++ ys) (sym (append_assoc ns d b)) ∙ sym (append_assoc a (ns ++ d) b) in
+    let together : a ++ (ns ++ (d ++ b)) ≡ (a ++ (ns ++ d)) ++ b =
+    ap (λ ys. a ++ ys) (sym (append_assoc ns d b)) ∙ sym (append_assoc a (ns ++ d) b) in
     let n : length (a ++ (ns ++ d)) ≡ c.len.result - (to - from) =
     omega (
       arith,
@@ -73,8 +79,14 @@ returns-clause-gone g c =
       c.requires.range.0,
       c.requires.range.1,
     ) in
-    let rest : drop (c.len.result - (to - from)) c.swap_runs_in.new.items.items ≡ b = ap (drop (c.len.result - (to - from))) (swapped g c ∙ together) ∙ drop_prefix (a ++ (ns ++ d)) b (c.len.result - (to - from)) n in
+    let rest : drop (c.len.result - (to - from)) c.swap_runs_in.new.items.items ≡ b =
+    ap (drop (c.len.result - (to - from))) (swapped g c ∙ together)
+    ∙ drop_prefix (a ++ (ns ++ d)) b (c.len.result - (to - from)) n in
     let all : c.extend_from_slice.new.self.items ≡ drop (c.len.result - (to - from)) c.swap_runs_in.new.items.items =
-    c.in-Ok-extend_from_slice.ensures.items ∙ ap (λ ys. ys ++ take (length c.deref.result.now - (c.len.result - (to - from))) (drop (c.len.result - (to - from)) c.deref.result.now)) c.in-Ok.ensures.other_items
-    ∙ take_rest c.deref.result.now (c.len.result - (to - from)) ∙ ap (drop (c.len.result - (to - from))) c.deref.ensures.value in
+    c.in-Ok-extend_from_slice.ensures.items
+    ∙ ap (λ ys.
+    ys ++ take (length c.deref.result.now - (c.len.result - (to - from)))
+    (drop (c.len.result - (to - from)) c.deref.result.now)) c.in-Ok.ensures.other_items
+    ∙ take_rest c.deref.result.now (c.len.result - (to - from))
+    ∙ ap (drop (c.len.result - (to - from))) c.deref.ensures.value in
     all ∙ rest

@@ -15,7 +15,8 @@ halves-init c =
 pub halves-preserved-then-statement_at-place : goal.halves-preserved-then-statement_at-place
 halves-preserved-then-statement_at-place c =
     record {
-      low = statements_more c.args.place (flat c.args.parts.now).statements _ c.statement_at.result c.requires c.statement_at.ensures c.if-statement_at-place.true;
+      low = statements_more c.args.place (flat c.args.parts.now).statements _ c.statement_at.result c.requires
+          c.statement_at.ensures c.if-statement_at-place.true;
       high = c.halves.invariant.high;
       within = c.halves.invariant.within;
     }
@@ -24,6 +25,7 @@ pub halves-preserved : goal.halves-preserved
 halves-preserved c =
     record {
       low = c.halves.invariant.low;
-      high = statements_stop c.args.place (flat c.args.parts.now).statements _ c.statement_at.result c.statement_at.ensures (omega (arith, c.if-statement_at-place.false));
+      high = statements_stop c.args.place (flat c.args.parts.now).statements _ c.statement_at.result
+          c.statement_at.ensures (omega (arith, c.if-statement_at-place.false));
       within = omega (arith, c.halves.invariant.within);
     }

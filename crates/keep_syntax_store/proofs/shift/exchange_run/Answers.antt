@@ -14,12 +14,21 @@ returns g c =
     let m : length ns ≡ vec_len c.args.run.now = omega (arith, c.args.run.now.ok.0) in
     let prefix = take from xs ++ ns in
     let back = drop to xs in
-    let now : c.exchange.new.items.items ≡ prefix ++ back = c.exchange.ensures.items ∙ sym (append_assoc (take from xs) ns back) in
-    let n : length prefix ≡ from + c.len.result = omega (arith, length-append (take from xs) ns, take_length xs from (omega (arith, c.requires.room.order, c.requires.room.within, l)), m, c.len.ensures) in
+    let now : c.exchange.new.items.items ≡ prefix ++ back =
+    c.exchange.ensures.items ∙ sym (append_assoc (take from xs) ns back) in
+    let n : length prefix ≡ from + c.len.result =
+    omega (
+      arith,
+      length-append (take from xs) ns,
+      take_length xs from (omega (arith, c.requires.room.order, c.requires.room.within, l)),
+      m,
+      c.len.ensures,
+    ) in
     record {
       items_are = c.shift_from.ensures.items
           ∙ ap (λ ys. take (from + c.len.result) ys ++ map f (drop (from + c.len.result) ys)) now
-          ∙ ap (λ ys. ys ++ map f (drop (from + c.len.result) (prefix ++ back))) (take_prefix prefix back (from + c.len.result) n)
+          ∙ ap (λ ys. ys ++ map f (drop (from + c.len.result) (prefix ++ back)))
+          (take_prefix prefix back (from + c.len.result) n)
           ∙ ap (λ ys. prefix ++ map f ys) (drop_prefix prefix back (from + c.len.result) n)
           ∙ append_assoc (take from xs) ns (map f back);
       run_is = c.exchange.ensures.gone;

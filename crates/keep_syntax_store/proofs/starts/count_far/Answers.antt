@@ -11,7 +11,13 @@ steps-preserved c =
     let first = c.in-Some.ensures in
     let rest = take_rest left (at + 1) in
     record {
-      counted = omega (arith, c.steps.invariant.counted, far_counted left at first.0.high (λ k before. first.0.before k (omega arith) before) first.1, ap fars rest);
+      counted =
+          omega (
+            arith,
+            c.steps.invariant.counted,
+            far_counted left at first.0.high (λ k before. first.0.before k (omega arith) before) first.1,
+            ap fars rest,
+          );
       bounded = omega (arith, c.steps.invariant.bounded, ap length rest, length-drop (at + 1) left, first.0.high);
     }
 

@@ -15,7 +15,11 @@ milestones-preserved c = λ steps far all.
       | in-Some+in_ok-push w ↦
           let is = w.in-Some.ensures in
           let here : IsMilestone steps far w.in-Some.moved =
-          subst (IsMilestone steps far) (sym is.moved) (all_at can c.args.milestones.now c.milestones.milestone-index none c.milestones-test.true all is.from is.to) in
-          rw w.out-is (subst (AllByRecursion (IsMilestone steps far)) (sym w.in_ok-push.ensures.items) (all_append (IsMilestone steps far) c.milestones.out.items (w.in-Some.moved ∷ []) (c.milestones.invariant steps far all) (here, tt)))
+          subst (IsMilestone steps far) (sym is.moved)
+          (all_at can c.args.milestones.now c.milestones.milestone-index none c.milestones-test.true all is.from
+          is.to) in
+          rw w.out-is (subst (AllByRecursion (IsMilestone steps far)) (sym w.in_ok-push.ensures.items)
+          (all_append (IsMilestone steps far) c.milestones.out.items (w.in-Some.moved ∷ [])
+          (c.milestones.invariant steps far all) (here, tt)))
       | in_default w ↦ rw w.out-is (c.milestones.invariant steps far all)
     ]

@@ -6,4 +6,5 @@ use Rattle.keep_test_questions.proofs.lines.are_closed.Goals as goal
 pub returns : goal.returns
 returns c = λ ends m reads is.
     last_is_empty c.args.limits.profile m (length c.args.lines.now) reads.valid (ap length reads.spelled)
-    (sym (ap (λ (s : Span). s.start) (c.lines.ensures m is)) ∙ eqb-true c.lines.result.start (length c.args.lines.now) ends)
+    (sym (ap (λ (s : Span). s.start) (c.lines.ensures m is))
+    ∙ eqb-true c.lines.result.start (length c.args.lines.now) ends)

@@ -4,7 +4,8 @@ use Rattle.keep_syntax.specs.WholeLines.{begin}
 use Rattle.keep_syntax.proofs.Shared.{same_begin}
 use Rattle.keep_test_questions.proofs.LineLaws.{no_mark}
 use Rattle.keep_test_questions.proofs.lines.replaced.Goals as goal
-use Rattle.keep_test_questions.proofs.lines.replaced.Goals.{else-whole-text-via-then-whole-text+else-not-are_closed, else-whole-text-via-else-whole-text}
+use Rattle.keep_test_questions.proofs.lines.replaced.Goals.{else-whole-text-via-then-whole-text+else-not-are_closed}
+use Rattle.keep_test_questions.proofs.lines.replaced.Goals.{else-whole-text-via-else-whole-text}
 
 clash : (b : Bool) → IsTrue b → b ≡ false → ⊥
 clash b h k = cc

@@ -10,4 +10,5 @@ pub returns-in-None-clause-len : goal.returns-in-None-clause-len
 returns-in-None-clause-len c =
     let rest = take_rest c.args.bytes.now 1 in
     let none = ap (escape_at c.args.profile) (sym rest) ∙ c.in-None.ensures.escape in
-    c.line_end_len.ensures.len ∙ ap (λ t. piece_len (line_end_at t)) rest ∙ ap piece_len (sym (ml_basic_line_end c.args.profile c.args.bytes.now (cc) none))
+    c.line_end_len.ensures.len ∙ ap (λ t. piece_len (line_end_at t)) rest
+    ∙ ap piece_len (sym (ml_basic_line_end c.args.profile c.args.bytes.now (cc) none))

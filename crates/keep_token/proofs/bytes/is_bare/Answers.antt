@@ -12,5 +12,6 @@ table = refl
 pub returns : goal.returns
 returns c =
     let within : c.args.byte < length CLASSES = omega arith in
-    let h : not (bit_and (get_or CLASSES c.args.byte 0) 2 == 0) ≡ is_bare c.args.byte = agrees_all is_bare 2 CLASSES c.args.byte table within in
+    let h : not (bit_and (get_or CLASSES c.args.byte 0) 2 == 0) ≡ is_bare c.args.byte =
+    agrees_all is_bare 2 CLASSES c.args.byte table within in
     cc

@@ -12,5 +12,6 @@ table = refl
 pub returns : goal.returns
 returns c =
     let within : c.args.byte < length CLASSES = omega arith in
-    let h : not (bit_and (get_or CLASSES c.args.byte 0) 8 == 0) ≡ is_basic c.args.byte = agrees_all is_basic 8 CLASSES c.args.byte table within in
+    let h : not (bit_and (get_or CLASSES c.args.byte 0) 8 == 0) ≡ is_basic c.args.byte =
+    agrees_all is_basic 8 CLASSES c.args.byte table within in
     cc

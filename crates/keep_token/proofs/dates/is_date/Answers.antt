@@ -47,4 +47,6 @@ pair-day-requires-clause-ones c =
 pub returns : goal.returns
 returns c =
     let k : leaves.has_date_shape c.args.bytes.now ≡ true = grind arith in
-    c.is_day.ensures ∙ rw (c.pair.ensures, c.pair-2.ensures, c.pair-month.ensures, c.pair-day.ensures) (sym (shaped c.args.bytes.now k).date)
+    c.is_day.ensures
+    ∙ rw (c.pair.ensures, c.pair-2.ensures, c.pair-month.ensures, c.pair-day.ensures)
+    (sym (shaped c.args.bytes.now k).date)

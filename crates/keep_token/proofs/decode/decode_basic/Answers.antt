@@ -7,16 +7,24 @@ use Rattle.keep_token.proofs.decode.decode_basic.Goals as goal
 
 pub range-requires-clause-start_boundary : goal.range-requires-clause-start_boundary
 range-requires-clause-start_boundary c _ =
-    start_cut c.args.text.now (0x22 ∷ []) (text_of c.requires.0) (0x22 ∷ []) 1 c.requires.1.spelled c.utf8.text (one_ascii 0x22 (omega arith)) refl
+    start_cut c.args.text.now (0x22 ∷ []) (text_of c.requires.0) (0x22 ∷ []) 1 c.requires.1.spelled c.utf8.text
+    (one_ascii 0x22 (omega arith)) refl
 
 pub unescape-requires : goal.unescape-requires
 unescape-requires c =
     let (ps, string) = c.requires in
-    let body = c.range.ensures.value ∙ nested c.args.text.now (0x22 ∷ []) (text_of ps) (0x22 ∷ []) 1 _ string.spelled refl (omega (arith, c.range.ensures.len)) in
+    let body =
+    c.range.ensures.value
+    ∙ nested c.args.text.now (0x22 ∷ []) (text_of ps) (0x22 ∷ []) 1 _ string.spelled refl
+    (omega (arith, c.range.ensures.len)) in
     (ps, basic_body c.range.result.now ps body string.each)
 
 pub returns : goal.returns
 returns c =
     let (ps, string) = c.requires in
-    let body = c.range.ensures.value ∙ nested c.args.text.now (0x22 ∷ []) (text_of ps) (0x22 ∷ []) 1 _ string.spelled refl (omega (arith, c.range.ensures.len)) in
-    IfOk-weaker c.unescape.result _ _ (λ s given. (ps, string, given ps (basic_body c.range.result.now ps body string.each))) c.unescape.ensures
+    let body =
+    c.range.ensures.value
+    ∙ nested c.args.text.now (0x22 ∷ []) (text_of ps) (0x22 ∷ []) 1 _ string.spelled refl
+    (omega (arith, c.range.ensures.len)) in
+    IfOk-weaker c.unescape.result _ _
+    (λ s given. (ps, string, given ps (basic_body c.range.result.now ps body string.each))) c.unescape.ensures

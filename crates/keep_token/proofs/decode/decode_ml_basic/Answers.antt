@@ -12,8 +12,11 @@ pub range-requires-clause-start_boundary : goal.range-requires-clause-start_boun
 range-requires-clause-start_boundary c _ =
     let (ps, string) = c.requires in
     let text = c.args.text.now in
-    let newline = c.newline_len-start.ensures.len ∙ ap newline_len (take_rest c.as_bytes.result.now 3 ∙ ap (drop 3) c.as_bytes.ensures.value) in
-    starts (IsMlBasicPiece Wide) 0x22 text ps (ml_basic_parts text ps string) c.newline_len-start.result newline (omega arith) c.utf8.text
+    let newline =
+    c.newline_len-start.ensures.len
+    ∙ ap newline_len (take_rest c.as_bytes.result.now 3 ∙ ap (drop 3) c.as_bytes.ensures.value) in
+    starts (IsMlBasicPiece Wide) 0x22 text ps (ml_basic_parts text ps string) c.newline_len-start.result newline
+    (omega arith) c.utf8.text
 
 pub range-requires-clause-end_boundary : goal.range-requires-clause-end_boundary
 range-requires-clause-end_boundary c =
@@ -25,16 +28,24 @@ pub unescape-requires : goal.unescape-requires
 unescape-requires c =
     let (ps, string) = c.requires in
     let text = c.args.text.now in
-    let newline = c.newline_len-start.ensures.len ∙ ap newline_len (take_rest c.as_bytes.result.now 3 ∙ ap (drop 3) c.as_bytes.ensures.value) in
+    let newline =
+    c.newline_len-start.ensures.len
+    ∙ ap newline_len (take_rest c.as_bytes.result.now 3 ∙ ap (drop 3) c.as_bytes.ensures.value) in
     let p = ml_basic_parts text ps string in
-    let body = c.range.ensures.value ∙ between_marks (IsMlBasicPiece Wide) 0x22 text ps p c.newline_len-start.result newline in
+    let body =
+    c.range.ensures.value ∙ between_marks (IsMlBasicPiece Wide) 0x22 text ps p c.newline_len-start.result newline in
     (p.rest, ml_basic_body c.range.result.now text ps string p body)
 
 pub returns : goal.returns
 returns c =
     let (ps, string) = c.requires in
     let text = c.args.text.now in
-    let newline = c.newline_len-start.ensures.len ∙ ap newline_len (take_rest c.as_bytes.result.now 3 ∙ ap (drop 3) c.as_bytes.ensures.value) in
+    let newline =
+    c.newline_len-start.ensures.len
+    ∙ ap newline_len (take_rest c.as_bytes.result.now 3 ∙ ap (drop 3) c.as_bytes.ensures.value) in
     let p = ml_basic_parts text ps string in
-    let body = c.range.ensures.value ∙ between_marks (IsMlBasicPiece Wide) 0x22 text ps p c.newline_len-start.result newline in
-    IfOk-weaker c.unescape.result _ _ (λ s given. (ps, string, given p.rest (ml_basic_body c.range.result.now text ps string p body) ∙ sym p.given)) c.unescape.ensures
+    let body =
+    c.range.ensures.value ∙ between_marks (IsMlBasicPiece Wide) 0x22 text ps p c.newline_len-start.result newline in
+    IfOk-weaker c.unescape.result _ _
+    (λ s given. (ps, string, given p.rest (ml_basic_body c.range.result.now text ps string p body) ∙ sym p.given))
+    c.unescape.ensures

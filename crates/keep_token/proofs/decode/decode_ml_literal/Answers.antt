@@ -11,8 +11,11 @@ pub range-requires-clause-start_boundary : goal.range-requires-clause-start_boun
 range-requires-clause-start_boundary c _ =
     let (ps, string) = c.requires in
     let text = c.args.text.now in
-    let newline = c.newline_len-start.ensures.len ∙ ap newline_len (take_rest c.as_bytes.result.now 3 ∙ ap (drop 3) c.as_bytes.ensures.value) in
-    starts IsMlLiteralPiece 0x27 text ps (ml_literal_parts text ps string) c.newline_len-start.result newline (omega arith) c.utf8.text
+    let newline =
+    c.newline_len-start.ensures.len
+    ∙ ap newline_len (take_rest c.as_bytes.result.now 3 ∙ ap (drop 3) c.as_bytes.ensures.value) in
+    starts IsMlLiteralPiece 0x27 text ps (ml_literal_parts text ps string) c.newline_len-start.result newline
+    (omega arith) c.utf8.text
 
 pub range-requires-clause-end_boundary : goal.range-requires-clause-end_boundary
 range-requires-clause-end_boundary c =
@@ -24,7 +27,11 @@ pub returns : goal.returns
 returns c =
     let (ps, string) = c.requires in
     let text = c.args.text.now in
-    let newline = c.newline_len-start.ensures.len ∙ ap newline_len (take_rest c.as_bytes.result.now 3 ∙ ap (drop 3) c.as_bytes.ensures.value) in
+    let newline =
+    c.newline_len-start.ensures.len
+    ∙ ap newline_len (take_rest c.as_bytes.result.now 3 ∙ ap (drop 3) c.as_bytes.ensures.value) in
     let p = ml_literal_parts text ps string in
-    let body = c.range.ensures.value ∙ between_marks IsMlLiteralPiece 0x27 text ps p c.newline_len-start.result newline in
-    IfOk-weaker c.from_str.result _ _ (λ s same. (ps, string, same ∙ body ∙ sym (ml_literal_value p.rest p.each) ∙ sym p.given)) c.from_str.ensures.ok
+    let body =
+    c.range.ensures.value ∙ between_marks IsMlLiteralPiece 0x27 text ps p c.newline_len-start.result newline in
+    IfOk-weaker c.from_str.result _ _
+    (λ s same. (ps, string, same ∙ body ∙ sym (ml_literal_value p.rest p.each) ∙ sym p.given)) c.from_str.ensures.ok

@@ -10,8 +10,10 @@ use Rattle.keep_token.proofs.encode.encode_int.Goals as goal
 
 pub returns-clause-leaf : goal.returns-clause-leaf
 returns-clause-leaf c =
-    ok_of (IsLeaf Strict leaf.Integer) (signed_decimal c.args.value) _ (search rules) (encoded_int c.args.value c.ranges.value).0
+    ok_of (IsLeaf Strict leaf.Integer) (signed_decimal c.args.value) _ (search rules)
+    (encoded_int c.args.value c.ranges.value).0
 
 pub returns-clause-value : goal.returns-clause-value
 returns-clause-value c =
-    ok_of (λ t. integer_value t ≡ c.args.value) (signed_decimal c.args.value) _ (search rules) (encoded_int c.args.value c.ranges.value).1
+    ok_of (λ t. integer_value t ≡ c.args.value) (signed_decimal c.args.value) _ (search rules)
+    (encoded_int c.args.value c.ranges.value).1

@@ -15,9 +15,12 @@ overflow_add-value c =
 pub loop-digit-preserved : goal.loop-digit-preserved
 loop-digit-preserved c =
     let (below, value) = c.in_ok-value.ensures.value in
-    let more = one_more c.args.digits.now c.loop-digit.digit-index c.in_ok-value.field-0 (omega arith) (value ∙ ap digit_value c.from.ensures) (omega (arith, below, value)) c.loop-digit.invariant.digits in
+    let more =
+    one_more c.args.digits.now c.loop-digit.digit-index c.in_ok-value.field-0 (omega arith)
+    (value ∙ ap digit_value c.from.ensures) (omega (arith, below, value)) c.loop-digit.invariant.digits in
     record {
       read = ap (λ n. n * 16 + c.in_ok-value.field-0) c.loop-digit.invariant.read ∙ more.0;
       digits = more.1;
-      bound = power_more c.loop-digit.digit-index c.loop-digit.value c.in_ok-value.field-0 c.loop-digit.invariant.bound (omega (arith, below, value));
+      bound = power_more c.loop-digit.digit-index c.loop-digit.value c.in_ok-value.field-0 c.loop-digit.invariant.bound
+          (omega (arith, below, value));
     }

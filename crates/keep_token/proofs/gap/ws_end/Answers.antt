@@ -11,14 +11,19 @@ use Rattle.keep_token.proofs.gap.ws_end.Goals as goal
 found : (c : goal.After-ws_run) → gap_at (drop c.args.at c.args.text.now) ≡ Some (leaf.Ws, c.ws_run.result)
 found c =
     let rest = drop c.args.at c.args.text.now in
-    let len = at_rest (prefix_len is_ws) c.ws_run.result c.as_bytes.result.now c.args.text.now c.args.at c.as_bytes.ensures.value c.ws_run.ensures.len in
-    (ws_found rest (rw (get_or-drop c.args.at c.args.text.now 0 0, add-zero) c.requires.begins)).0 ∙ ap (λ n. Some (leaf.Ws, n)) len
+    let len =
+    at_rest (prefix_len is_ws) c.ws_run.result c.as_bytes.result.now c.args.text.now c.args.at c.as_bytes.ensures.value
+    c.ws_run.ensures.len in
+    (ws_found rest (rw (get_or-drop c.args.at c.args.text.now 0 0, add-zero) c.requires.begins)).0
+    ∙ ap (λ n. Some (leaf.Ws, n)) len
 
 pub returns-clause-leaf : goal.returns-clause-leaf
 returns-clause-leaf c = (gap_at_place c.args.text.now c.args.at leaf.Ws c.ws_run.result (found c)).1
 
 pub returns-clause-ends : goal.returns-clause-ends
-returns-clause-ends c = gap_ends c.args.text.now c.args.at leaf.Ws c.ws_run.result (λ i. (c.type_inv.text i).fits) c.utf8.text c.requires.bound.0 (found c)
+returns-clause-ends c =
+    gap_ends c.args.text.now c.args.at leaf.Ws c.ws_run.result (λ i. (c.type_inv.text i).fits) c.utf8.text
+    c.requires.bound.0 (found c)
 
 pub returns-clause-value : goal.returns-clause-value
 returns-clause-value c = ap (moved c.args.at) (found c)

@@ -1,6 +1,7 @@
 -- None of the digits in a row but the last can come before an underscore, so the test of the whole is the test of what
 -- begins at the last (`skipped`, by induction on how many come before it).
-use Rattle.std.proofs.Common.{◌≡◌, ℕ, zero, suc, ◌-◌, ◌<◌, ◌≤◌, true, false, ◌==◌, List, [], ◌∷◌, length, take, drop, refl, ap, ◌∙◌, arith}
+use Rattle.std.proofs.Common.{◌≡◌, ℕ, zero, suc, ◌-◌, ◌<◌, ◌≤◌, true, false, ◌==◌, List, [], ◌∷◌, length, take, drop}
+use Rattle.std.proofs.Common.{refl, ap, ◌∙◌, arith}
 use Rattle.std.proofs.lemmas.Bool.{and_parts}
 use Rattle.std.proofs.lemmas.Bool.Decides.{nat_tests}
 use Rattle.std.proofs.lemmas.List.{take_rest}
@@ -34,4 +35,5 @@ from_last (suc m) k t some all e =
 pub returns : goal.returns
 returns c =
     let digits = c.digits_in_blocks-in_a_row in
-    from_last digits.result c.saturating_sub.result c.args.bytes.now digits.ensures.within digits.ensures.digits c.saturating_sub.ensures
+    from_last digits.result c.saturating_sub.result c.args.bytes.now digits.ensures.within digits.ensures.digits
+    c.saturating_sub.ensures

@@ -7,20 +7,32 @@ use Rattle.keep_token.proofs.scalar.scan_scalar.Goals as goal
 
 pub returns-in-Ok-clause-found : goal.returns-in-Ok-clause-found
 returns-in-Ok-clause-found c =
-    let found = at_rest (scalar_at c.args.profile) (Some (c.in-Ok.leaf, c.in-Ok.len)) c.as_bytes.result.now c.args.text.now c.args.at c.as_bytes.ensures.value (sym c.in-Ok.ensures.value) in
+    let found =
+    at_rest (scalar_at c.args.profile) (Some (c.in-Ok.leaf, c.in-Ok.len)) c.as_bytes.result.now c.args.text.now
+    c.args.at c.as_bytes.ensures.value (sym c.in-Ok.ensures.value) in
     scalar_at_place c.args.profile c.args.text.now c.args.at c.in-Ok.leaf c.in-Ok.len found
 
 pub returns-in-Ok-clause-only : goal.returns-in-Ok-clause-only
 returns-in-Ok-clause-only c =
-    let found = at_rest (scalar_at c.args.profile) (Some (c.in-Ok.leaf, c.in-Ok.len)) c.as_bytes.result.now c.args.text.now c.args.at c.as_bytes.ensures.value (sym c.in-Ok.ensures.value) in
-    λ k m h. only_found c.args.at (scalar_at c.args.profile (drop c.args.at c.args.text.now)) c.in-Ok.leaf c.in-Ok.len found k m (scalar_one c.args.profile (drop c.args.at c.args.text.now) k m h)
+    let found =
+    at_rest (scalar_at c.args.profile) (Some (c.in-Ok.leaf, c.in-Ok.len)) c.as_bytes.result.now c.args.text.now
+    c.args.at c.as_bytes.ensures.value (sym c.in-Ok.ensures.value) in
+    λ k m h.
+    only_found c.args.at (scalar_at c.args.profile (drop c.args.at c.args.text.now)) c.in-Ok.leaf c.in-Ok.len found k m
+    (scalar_one c.args.profile (drop c.args.at c.args.text.now) k m h)
 
 pub returns-in-Ok-clause-ends : goal.returns-in-Ok-clause-ends
 returns-in-Ok-clause-ends c =
-    let found = at_rest (scalar_at c.args.profile) (Some (c.in-Ok.leaf, c.in-Ok.len)) c.as_bytes.result.now c.args.text.now c.args.at c.as_bytes.ensures.value (sym c.in-Ok.ensures.value) in
+    let found =
+    at_rest (scalar_at c.args.profile) (Some (c.in-Ok.leaf, c.in-Ok.len)) c.as_bytes.result.now c.args.text.now
+    c.args.at c.as_bytes.ensures.value (sym c.in-Ok.ensures.value) in
     scalar_ends c.args.profile c.args.text.now c.args.at c.in-Ok.leaf c.in-Ok.len c.utf8.text c.requires found
 
 pub returns-in-Err-clause-only : goal.returns-in-Err-clause-only
 returns-in-Err-clause-only c =
-    let none = at_rest (scalar_at c.args.profile) None c.as_bytes.result.now c.args.text.now c.args.at c.as_bytes.ensures.value (sym c.in-Err.ensures.value) in
-    λ k m h. only_none (scalar_at c.args.profile (drop c.args.at c.args.text.now)) k m none (scalar_one c.args.profile (drop c.args.at c.args.text.now) k m h)
+    let none =
+    at_rest (scalar_at c.args.profile) None c.as_bytes.result.now c.args.text.now c.args.at c.as_bytes.ensures.value
+    (sym c.in-Err.ensures.value) in
+    λ k m h.
+    only_none (scalar_at c.args.profile (drop c.args.at c.args.text.now)) k m none
+    (scalar_one c.args.profile (drop c.args.at c.args.text.now) k m h)

@@ -22,5 +22,6 @@ loop-at-preserved c =
     let len = c.newline_len-newline.ensures.len ∙ ap newline_len (take_rest c.args.bytes.now c.loop-at.at) in
     record {
       within = omega arith;
-      passed = newline_at c.args.bytes.now c.loop-at.at c.newline_len-newline.result len (cc) ∙ c.loop-at.invariant.passed;
+      passed =
+          newline_at c.args.bytes.now c.loop-at.at c.newline_len-newline.result len (cc) ∙ c.loop-at.invariant.passed;
     }

@@ -8,7 +8,10 @@ use Rattle.keep_commands.proofs.lines.Lines.count.Goals as goal
 pub returns-clause-few : goal.returns-clause-few
 returns-clause-few c = λ s read.
     let here = subst (λ (l : ListState). IsTextOfTree l.document s) (sym c.self.view_is) read in
-    entries_few s c.counts.result.nodes (subst (λ (k : Counts). k.nodes ≤ c.counts.result.nodes) (c.counts.ensures.counts s here) (omega arith))
+    entries_few s c.counts.result.nodes
+    (subst (λ (k : Counts). k.nodes ≤ c.counts.result.nodes) (c.counts.ensures.counts s here) (omega arith))
 
 pub returns-clause-fits : goal.returns-clause-fits
-returns-clause-fits c = λ s read. (c.self.invariant s (subst (λ (l : ListState). IsTextOfTree l.document s) (sym c.self.view_is) read)).lines.all
+returns-clause-fits c =
+    λ s read.
+    (c.self.invariant s (subst (λ (l : ListState). IsTextOfTree l.document s) (sym c.self.view_is) read)).lines.all

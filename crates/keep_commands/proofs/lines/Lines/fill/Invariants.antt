@@ -13,8 +13,10 @@ invariant-loop-next l = record {
   least : l.number ≤ l.next;
   none : l.next ≡ l.number → length (string_bytes l.self-inside.block) ≡ 0;
   lines : (s : Document) → IsTextOfTree l.fn.self.document s
-      → lines_of (take l.number (entries_of s)) ++ string_bytes l.self-inside.block ≡ lines_of (take l.next (entries_of s));
-  room : (s : Document) → IsTextOfTree l.fn.self.document s → HasBlockRoom s l.self-inside.room (string_capacity l.self-inside.block);
+      → lines_of (take l.number (entries_of s)) ++ string_bytes l.self-inside.block
+      ≡ lines_of (take l.next (entries_of s));
+  room : (s : Document) → IsTextOfTree l.fn.self.document s
+      → HasBlockRoom s l.self-inside.room (string_capacity l.self-inside.block);
 }
 
 abbrev pub decreases-loop-next : goal.decreases-loop-next

@@ -9,7 +9,8 @@ use Rattle.keep_commands.proofs.lines.Lines.text.Given as goal
 abbrev pub invariant-loop-number : goal.invariant-loop-number
 invariant-loop-number l = record {
   same : l.self.document ≡ l.fn.self.document;
-  text : (s : Document) → IsTextOfTree l.fn.self.document s → string_bytes l.text ≡ lines_of (take l.number (entries_of s));
+  text : (s : Document) → IsTextOfTree l.fn.self.document s
+      → string_bytes l.text ≡ lines_of (take l.number (entries_of s));
 }
 
 abbrev pub decreases-loop-number : goal.decreases-loop-number

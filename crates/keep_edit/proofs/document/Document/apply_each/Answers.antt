@@ -11,8 +11,10 @@ pub returns-in-Err-clause-done : goal.returns-in-Err-clause-done
 returns-in-Err-clause-done c = λ s h.
     let before = c.loop-index.invariant s h in
     let (e, given) = c.in-Err.ensures.edit in
-    one_stopped (IsEdited before.tree e c.apply.new.self c.loop-index.self) s c.args.edits.now c.args.self.now c.loop-index.self c.loop-index.index c.index-edits-index.result c.index-edits-index.result e
-    (omega (arith, c.loop-index-test.true)) (sym c.index-edits-index.is) given before c.in-Err.fault (c.in-Err.ensures.done before.tree before.read e given)
+    one_stopped (IsEdited before.tree e c.apply.new.self c.loop-index.self) s c.args.edits.now c.args.self.now
+    c.loop-index.self c.loop-index.index c.index-edits-index.result c.index-edits-index.result e
+    (omega (arith, c.loop-index-test.true)) (sym c.index-edits-index.is) given before c.in-Err.fault
+    (c.in-Err.ensures.done before.tree before.read e given)
 
 pub loop-index-preserved : goal.loop-index-preserved
 loop-index-preserved c =
@@ -26,4 +28,6 @@ loop-index-preserved c =
     λ s h.
     let before = c.loop-index.invariant s h in
     subst (λ (n : ℕ). AreMade s (take n edits) first new) one
-    (one_made (IsEdited before.tree e new c.loop-index.self) s edits first c.loop-index.self i c.index-edits-index.result c.index-edits-index.result e lt (sym c.index-edits-index.is) given before new c.in_default.field-0 (λ done. done.1) (c.in_default.ensures.done before.tree before.read e given))
+    (one_made (IsEdited before.tree e new c.loop-index.self) s edits first c.loop-index.self i
+    c.index-edits-index.result c.index-edits-index.result e lt (sym c.index-edits-index.is) given before new
+    c.in_default.field-0 (λ done. done.1) (c.in_default.ensures.done before.tree before.read e given))

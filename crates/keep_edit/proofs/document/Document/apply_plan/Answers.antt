@@ -8,4 +8,6 @@ returns-in_err-plan-clause-done c = λ s read e planned.
     rw (p.1, p.2) (undone_of s e c.args.self.now c.args.self.now _ (rw c.in_err-plan.was at planned))
 
 pub returns-clause-done : goal.returns-clause-done
-returns-clause-done c = λ s read e planned. done_of s e c.args.self.now _ c.in_ok-plan.plan _ read (rw c.in_ok-plan.was at planned) c.replaced.ensures.moved
+returns-clause-done c =
+    λ s read e planned.
+    done_of s e c.args.self.now _ c.in_ok-plan.plan _ read (rw c.in_ok-plan.was at planned) c.replaced.ensures.moved

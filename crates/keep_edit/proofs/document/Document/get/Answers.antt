@@ -17,9 +17,12 @@ value-requires c =
 pub part_at-requires : goal.part_at-requires
 part_at-requires c =
     let h = seen c.self.view_is c.self.invariant in
-    rw (c.as_str-text.ensures.value, text_seen c.self.view_is) (value_there _ _ _ _ h.tree _ h h.read ((rw c.as_ref.ensures at c.in_ok-number.ensures) h.tree h.read) _ c.value.ensures.stored).span
+    rw (c.as_str-text.ensures.value, text_seen c.self.view_is)
+    (value_there _ _ _ _ h.tree _ h h.read ((rw c.as_ref.ensures at c.in_ok-number.ensures) h.tree h.read) _
+    c.value.ensures.stored).span
 
 pub returns-clause-got : goal.returns-clause-got
 returns-clause-got c = λ s read.
     let h = seen c.self.view_is c.self.invariant in
-    got _ _ s _ _ _ read (value_there _ _ _ _ s _ h read ((rw c.as_ref.ensures at c.in_ok-number.ensures) s read) _ c.value.ensures.stored) (c.part_at.ensures ∙ rw (c.as_str-text.ensures.value, text_seen c.self.view_is) refl)
+    got _ _ s _ _ _ read (value_there _ _ _ _ s _ h read ((rw c.as_ref.ensures at c.in_ok-number.ensures) s read) _
+    c.value.ensures.stored) (c.part_at.ensures ∙ rw (c.as_str-text.ensures.value, text_seen c.self.view_is) refl)

@@ -6,4 +6,7 @@ pub apply_plan-requires : goal.apply_plan-requires
 apply_plan-requires c = rw c.as_ref.ensures at c.insert_plan.ensures.of_edit
 
 pub returns-clause-done : goal.returns-clause-done
-returns-clause-done c = λ s read v value. c.apply_plan.ensures.done s read (insert c.args.path.now v) (planned_of s (insert c.args.path.now v) _ c.as_ref.ensures (λ k. c.insert_plan.ensures.planned s k v value) read)
+returns-clause-done c =
+    λ s read v value.
+    c.apply_plan.ensures.done s read (insert c.args.path.now v)
+    (planned_of s (insert c.args.path.now v) _ c.as_ref.ensures (λ k. c.insert_plan.ensures.planned s k v value) read)

@@ -9,9 +9,11 @@ loop-number-init c = λ s read. c.new-entries.ensures.items ∙ entries_none s
 pub loop-number-preserved : goal.loop-number-preserved
 loop-number-preserved c = λ s read.
     c.in_ok-push.ensures.items
-    ∙ entries_more _ _ _ s c.loop-number.entries.items c.loop-number.number c.in_ok-path.path c.node-kind.result (seen c.self.view_is c.self.invariant) read
+    ∙ entries_more _ _ _ s c.loop-number.entries.items c.loop-number.number c.in_ok-path.path c.node-kind.result
+    (seen c.self.view_is c.self.invariant) read
     (c.loop-number.invariant s read) (omega arith) (omega arith) c.in_ok-path.ensures c.node-kind.ensures
 
 pub returns-clause-entries : goal.returns-clause-entries
 returns-clause-entries c = λ s read.
-    entries_all _ _ _ s c.loop-number.entries.items c.loop-number.number (seen c.self.view_is c.self.invariant) read (c.loop-number.invariant s read) (omega arith)
+    entries_all _ _ _ s c.loop-number.entries.items c.loop-number.number (seen c.self.view_is c.self.invariant) read
+    (c.loop-number.invariant s read) (omega arith)

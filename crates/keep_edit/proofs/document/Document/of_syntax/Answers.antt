@@ -15,12 +15,19 @@ returns-in_err-index-clause-only c = λ (s, read).
 pub returns-in_err-index-clause-faults : goal.returns-in_err-index-clause-faults
 returns-in_err-index-clause-faults c =
     let p = err_from_is_err_and c.from_residual.result c.from_residual.ensures.1 in
-    rw (p.1, p.2) (no_index c.args.profile _ _ _ (rw c.as_str.ensures.value at c.as_str.utf8) c.requires (rw c.as_str.ensures.value at c.in_err-index.ensures.faults))
+    rw (
+      p.1,
+      p.2,
+    ) (no_index c.args.profile _ _ _ (rw c.as_str.ensures.value at c.as_str.utf8) c.requires
+    (rw c.as_str.ensures.value at c.in_err-index.ensures.faults))
 
 pub invariant_of-result : goal.invariant_of-result
-invariant_of-result c = holds c.args.profile _ _ _ (rw c.as_str.ensures.value at c.as_str.utf8) c.requires (rw c.as_str.ensures.value at c.in_ok-index.ensures.ok)
+invariant_of-result c =
+    holds c.args.profile _ _ _ (rw c.as_str.ensures.value at c.as_str.utf8) c.requires
+    (rw c.as_str.ensures.value at c.in_ok-index.ensures.ok)
 
 pub returns-clause-accepted : goal.returns-clause-accepted
 returns-clause-accepted c =
-    let h = holds c.args.profile _ _ _ (rw c.as_str.ensures.value at c.as_str.utf8) c.requires (rw c.as_str.ensures.value at c.in_ok-index.ensures.ok) in
+    let h = holds c.args.profile _ _ _ (rw c.as_str.ensures.value at c.as_str.utf8) c.requires
+    (rw c.as_str.ensures.value at c.in_ok-index.ensures.ok) in
     (h.tree, h.read)

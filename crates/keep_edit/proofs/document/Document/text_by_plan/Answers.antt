@@ -8,4 +8,6 @@ returns-in_err-plan c = λ s read e planned.
     rw (p.1, p.2) (no_text_of s e c.args.self.now _ (rw c.in_err-plan.was at planned))
 
 pub returns : goal.returns
-returns c = λ s read e planned. report_of s e c.args.self.now c.in_ok-plan.plan _ (rw c.in_ok-plan.was at planned) c.text_after.ensures
+returns c =
+    λ s read e planned.
+    report_of s e c.args.self.now c.in_ok-plan.plan _ (rw c.in_ok-plan.was at planned) c.text_after.ensures

@@ -6,4 +6,7 @@ pub text_by_plan-requires : goal.text_by_plan-requires
 text_by_plan-requires c = rw c.as_ref.ensures at c.append_plan.ensures.of_edit
 
 pub returns-clause-stated : goal.returns-clause-stated
-returns-clause-stated c = λ s read. c.text_by_plan.ensures s read (append_element (key_texts c.args.keys.now)) ((rw c.as_ref.ensures at c.append_plan.ensures.planned) s read)
+returns-clause-stated c =
+    λ s read.
+    c.text_by_plan.ensures s read (append_element (key_texts c.args.keys.now))
+    ((rw c.as_ref.ensures at c.append_plan.ensures.planned) s read)

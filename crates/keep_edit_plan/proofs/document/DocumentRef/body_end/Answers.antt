@@ -8,7 +8,13 @@ section_end-requires c =
     header_within _ _ _ s (seen c.self.view_is c.self.invariant) read c.args.header c.in-Some.number within c.in-Some.is
 
 pub returns-in-Some : goal.returns-in-Some
-returns-in-Some c = λ s read. header_ends _ _ _ s (seen c.self.view_is c.self.invariant) read c.args.header c.in-Some.number _ c.in-Some.is c.section_end.ensures
+returns-in-Some c =
+    λ s read.
+    header_ends _ _ _ s (seen c.self.view_is c.self.invariant) read c.args.header c.in-Some.number _ c.in-Some.is
+    c.section_end.ensures
 
 pub returns-in-None : goal.returns-in-None
-returns-in-None c = λ s read. root_ends _ _ _ s (seen c.self.view_is c.self.invariant) read c.args.header c.lines_start.result _ c.in-None.is (c.lines_start.ensures s read) c.body_end.ensures
+returns-in-None c =
+    λ s read.
+    root_ends _ _ _ s (seen c.self.view_is c.self.invariant) read c.args.header c.lines_start.result _ c.in-None.is
+    (c.lines_start.ensures s read) c.body_end.ensures

@@ -10,7 +10,13 @@ returns-in-BeforeItem c = λ s read v value there.
     let brackets : IsInBrackets c.args.insertion.spot =
     elim c.in-BeforeItem.is [
       | inl item ↦ subst IsInBrackets (sym item.1) tt
-      | inr other ↦ (elim other [ inl entry ↦ subst IsInBrackets (sym entry.1) tt | inr empty ↦ subst IsInBrackets (sym empty.1) tt ])
+      | inr other ↦
+          (elim other [
+            | inl entry ↦ subst IsInBrackets (sym entry.1) tt
+            | inr empty ↦
+                subst IsInBrackets (sym empty.1) tt
+          ])
     ] in
     c.inside_change.ensures s read (insert c.args.path.now v)
-    (insert_is_inside _ _ _ c.args.path.now s v c.args.value.now c.args.insertion (seen c.self.view_is c.self.invariant) read value there c.requires.utf8 brackets)
+    (insert_is_inside _ _ _ c.args.path.now s v c.args.value.now c.args.insertion (seen c.self.view_is c.self.invariant)
+    read value there c.requires.utf8 brackets)

@@ -12,31 +12,43 @@ pub line_numbers-line-requires : goal.line_numbers-line-requires
 line_numbers-line-requires c =
     let (s, read, (v, value, there)) = c.requires in
     let h = seen c.self.view_is c.self.invariant in
-    let spot = body_spot _ _ _ c.args.path.now s v c.args.value.now c.args.insertion h read value there c.len.ensures.utf8 _ c.in-AfterBody.is in
+    let spot =
+    body_spot _ _ _ c.args.path.now s v c.args.value.now c.args.insertion h read value there c.len.ensures.utf8 _
+    c.in-AfterBody.is in
     (s, read, (_, _, spot))
 
 -- nothing is in the value
 pub returns-then-depth-eq0 : goal.returns-then-depth-eq0
 returns-then-depth-eq0 c = λ s read v value there.
     let h = seen c.self.view_is c.self.invariant in
-    let spot = body_spot _ _ _ c.args.path.now s v c.args.value.now c.args.insertion h read value there c.len.ensures.utf8 _ c.in-AfterBody.is in
+    let spot =
+    body_spot _ _ _ c.args.path.now s v c.args.value.now c.args.insertion h read value there c.len.ensures.utf8 _
+    c.in-AfterBody.is in
     let step : slice_get c.args.path.now c.args.insertion.from ≡ Some (key c.as_str-key.result.now) =
-    sym c.in_ok-key.ensures ∙ ap (λ x. Some (part_of x)) c.in-Key.is ∙ ap (λ x. Some (key x)) (sym c.as_str-key.ensures.value) in
+    sym c.in_ok-key.ensures ∙ ap (λ x. Some (part_of x)) c.in-Key.is
+    ∙ ap (λ x. Some (key x)) (sym c.as_str-key.ensures.value) in
     let few : length c.args.path.now - c.args.insertion.from ≡ 1 =
     omega (arith, c.if-saturating_sub-ne1.false, c.saturating_sub.ensures, c.len.ensures.count) in
-    line_changed _ _ _ c.args.path.now s v c.args.value.now c.args.insertion h read value there c.len.ensures.utf8 _ c.in-AfterBody.is
-    c.as_str-key.result step few c.in_ok-parent.parent (sym c.in_ok-parent.ensures.found) _ (c.line_numbers-line.ensures s read _ _ spot)
+    line_changed _ _ _ c.args.path.now s v c.args.value.now c.args.insertion h read value there c.len.ensures.utf8 _
+    c.in-AfterBody.is
+    c.as_str-key.result step few c.in_ok-parent.parent (sym c.in_ok-parent.ensures.found) _
+    (c.line_numbers-line.ensures s read _ _ spot)
     (omega (arith, c.if-depth-eq0.true, c.depth.ensures v value)) _ (c.kind-kind.ensures v value)
 
 -- something may be
 pub returns : goal.returns
 returns c = λ s read v value there.
     let h = seen c.self.view_is c.self.invariant in
-    let spot = body_spot _ _ _ c.args.path.now s v c.args.value.now c.args.insertion h read value there c.len.ensures.utf8 _ c.in-AfterBody.is in
+    let spot =
+    body_spot _ _ _ c.args.path.now s v c.args.value.now c.args.insertion h read value there c.len.ensures.utf8 _
+    c.in-AfterBody.is in
     let step : slice_get c.args.path.now c.args.insertion.from ≡ Some (key c.as_str-key.result.now) =
-    sym c.in_ok-key.ensures ∙ ap (λ x. Some (part_of x)) c.in-Key.is ∙ ap (λ x. Some (key x)) (sym c.as_str-key.ensures.value) in
+    sym c.in_ok-key.ensures ∙ ap (λ x. Some (part_of x)) c.in-Key.is
+    ∙ ap (λ x. Some (key x)) (sym c.as_str-key.ensures.value) in
     let few : length c.args.path.now - c.args.insertion.from ≡ 1 =
     omega (arith, c.if-saturating_sub-ne1.false, c.saturating_sub.ensures, c.len.ensures.count) in
-    line_value_added insert_adds_value _ _ _ c.args.path.now s v c.args.value c.args.insertion h read value there c.len.ensures.utf8 _ c.in-AfterBody.is
-    c.as_str-key.result step few c.in_ok-parent.parent (sym c.in_ok-parent.ensures.found) _ (c.line_numbers-line.ensures s read _ _ spot)
+    line_value_added insert_adds_value _ _ _ c.args.path.now s v c.args.value c.args.insertion h read value there
+    c.len.ensures.utf8 _ c.in-AfterBody.is
+    c.as_str-key.result step few c.in_ok-parent.parent (sym c.in_ok-parent.ensures.found) _
+    (c.line_numbers-line.ensures s read _ _ spot)
     c.totals_of-totals.result (c.totals_of-totals.ensures h.tree h.is ∙ ap totals_of (tree_is _ _ _ s h read))

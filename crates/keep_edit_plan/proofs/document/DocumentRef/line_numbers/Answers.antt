@@ -9,4 +9,5 @@ next_statement-statement-requires c =
 
 pub returns : goal.returns
 returns c = λ s read a from spot.
-    numbers_counted _ _ _ s a from _ _ (seen c.self.view_is c.self.invariant) read spot c.next_statement-statement.ensures c.next_value.ensures c.next_key.ensures
+    numbers_counted _ _ _ s a from _ _ (seen c.self.view_is c.self.invariant) read spot
+    c.next_statement-statement.ensures c.next_value.ensures c.next_key.ensures

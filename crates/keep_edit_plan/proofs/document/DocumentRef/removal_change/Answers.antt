@@ -12,12 +12,17 @@ use Rattle.keep_edit_plan.proofs.document.DocumentRef.removal_change.Goals as go
 pub value-requires : goal.value-requires
 value-requires c =
     let (s, read, here) = c.requires in
-    let found = subst (λ (p : Piece). IsRemovalOf c.args.self.now.profile c.args.path.now s (Ok p)) c.in-Value.is here.1 in
+    let found =
+    subst (λ (p : Piece). IsRemovalOf c.args.self.now.profile c.args.path.now s (Ok p)) c.in-Value.is here.1 in
     value_nested _ _ _ c.args.path.now s _ (seen c.self.view_is c.self.invariant) read found.1
 
 pub returns-in_default-owner : goal.returns-in_default-owner
 returns-in_default-owner c = λ s read here.
-    let found = subst (λ (p : Piece). IsRemovalOf c.args.self.now.profile c.args.path.now s (Ok p)) c.in-Value.is here.1 in
-    let arm = entry_arm _ _ _ c.args.path.now s (seen c.self.view_is c.self.invariant) read found.0 c.in-Value.number c.value.result found.1 c.value.ensures.stored c.in_default-owner.not-Line in
+    let found =
+    subst (λ (p : Piece). IsRemovalOf c.args.self.now.profile c.args.path.now s (Ok p)) c.in-Value.is here.1 in
+    let arm =
+    entry_arm _ _ _ c.args.path.now s (seen c.self.view_is c.self.invariant) read found.0 c.in-Value.number
+    c.value.result found.1 c.value.ensures.stored c.in_default-owner.not-Line in
     c.inside_change.ensures s read (remove c.args.path.now)
-    (inside_by_law c.args.self.now c.args.path.now s (remove c.args.path.now) (removal_law c.args.self.now c.args.path.now s read found.0) removal arm.inside)
+    (inside_by_law c.args.self.now c.args.path.now s (remove c.args.path.now)
+    (removal_law c.args.self.now c.args.path.now s read found.0) removal arm.inside)

@@ -33,9 +33,12 @@ returns-clause-planned c = λ s read.
     let found = c.in_ok-node.ensures s read in
     let at = c.cut-cut.ensures c.args.path.now s read found.1 in
     let is = rw (c.part_at.ensures, text_seen c.self.view_is) at c.plan_at.ensures in
-    planned c.args.self.now s (remove c.args.path.now) c.cut-cut.result.span (text_at c.args.self.now.text c.cut-cut.result.preserved) read
-    (removal_done c.args.self.now c.args.path.now s _ c.cut-cut.result found.1 at) (removal_law c.args.self.now c.args.path.now s read found.1.0)
-    c.removal_change-change.result (c.removal_change-change.ensures s read found) (λ one. absurd one) c.plan_at.result is
+    planned c.args.self.now s (remove c.args.path.now) c.cut-cut.result.span
+    (text_at c.args.self.now.text c.cut-cut.result.preserved) read
+    (removal_done c.args.self.now c.args.path.now s _ c.cut-cut.result found.1 at)
+    (removal_law c.args.self.now c.args.path.now s read found.1.0)
+    c.removal_change-change.result (c.removal_change-change.ensures s read found) (λ one. absurd one) c.plan_at.result
+    is
 
 pub returns-clause-of_edit : goal.returns-clause-of_edit
 returns-clause-of_edit c =
@@ -43,6 +46,8 @@ returns-clause-of_edit c =
     let found = c.in_ok-node.ensures h.tree h.read in
     let at = c.cut-cut.ensures c.args.path.now h.tree h.read found.1 in
     let is = rw (c.part_at.ensures, text_seen c.self.view_is) at c.plan_at.ensures in
-    plan_of_edit c.args.self.now h.tree (remove c.args.path.now) c.cut-cut.result.span (text_at c.args.self.now.text c.cut-cut.result.preserved) h.read
-    (removal_done c.args.self.now c.args.path.now h.tree _ c.cut-cut.result found.1 at) (removal_law c.args.self.now c.args.path.now h.tree h.read found.1.0)
+    plan_of_edit c.args.self.now h.tree (remove c.args.path.now) c.cut-cut.result.span
+    (text_at c.args.self.now.text c.cut-cut.result.preserved) h.read
+    (removal_done c.args.self.now c.args.path.now h.tree _ c.cut-cut.result found.1 at)
+    (removal_law c.args.self.now c.args.path.now h.tree h.read found.1.0)
     c.removal_change-change.result (c.removal_change-change.ensures h.tree h.read found) c.plan_at.result is

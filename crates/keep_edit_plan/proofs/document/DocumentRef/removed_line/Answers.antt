@@ -25,7 +25,8 @@ child_count-requires c =
 pub returns-then-child_count-eq0 : goal.returns-then-child_count-eq0
 returns-then-child_count-eq0 c = λ s read path here.
     let removal = subst (λ (p : Piece). IsRemovalOf c.args.self.now.profile path s (Ok p)) c.in-Value.is here.1 in
-    line_removed _ _ _ path s (seen c.self.view_is c.self.invariant) read c.args.node here.0 removal.0 _ removal.1 _ c.value-value.ensures.stored
+    line_removed _ _ _ path s (seen c.self.view_is c.self.invariant) read c.args.node here.0 removal.0 _ removal.1 _
+    c.value-value.ensures.stored
     _ c.in-Line.is c.if-value-ne1.false _ c.child_count.ensures (omega (arith, c.if-child_count-eq0.true))
 
 -- some may be
@@ -33,5 +34,7 @@ pub returns : goal.returns
 returns c = λ s read path here.
     let h = seen c.self.view_is c.self.invariant in
     let removal = subst (λ (p : Piece). IsRemovalOf c.args.self.now.profile path s (Ok p)) c.in-Value.is here.1 in
-    line_value_removed remove_takes_value _ _ _ path s h read c.args.node here.0 removal.0 _ removal.1 _ c.value-value.ensures.stored
-    _ c.in-Line.is c.if-value-ne1.false c.totals_of-totals.result (c.totals_of-totals.ensures h.tree h.is ∙ ap totals_of (tree_is _ _ _ s h read))
+    line_value_removed remove_takes_value _ _ _ path s h read c.args.node here.0 removal.0 _ removal.1 _
+    c.value-value.ensures.stored
+    _ c.in-Line.is c.if-value-ne1.false c.totals_of-totals.result
+    (c.totals_of-totals.ensures h.tree h.is ∙ ap totals_of (tree_is _ _ _ s h read))

@@ -6,4 +6,5 @@ use Rattle.keep_edit_plan.proofs.insert.numbers.next_value.Given as goal
 
 abbrev pub invariant-loop-number : goal.invariant-loop-number
 invariant-loop-number l =
-    next_value (length (values_of l.syntax)) (drop l.number (statements_of l.syntax)) ≡ next_value (length (values_of l.syntax)) (drop l.first (statements_of l.syntax))
+    next_value (length (values_of l.syntax)) (drop l.number (statements_of l.syntax))
+    ≡ next_value (length (values_of l.syntax)) (drop l.first (statements_of l.syntax))

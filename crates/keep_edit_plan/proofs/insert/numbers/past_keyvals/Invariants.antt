@@ -6,4 +6,5 @@ use Rattle.keep_edit_plan.proofs.insert.numbers.past_keyvals.Given as goal
 
 abbrev pub invariant-loop-number : goal.invariant-loop-number
 invariant-loop-number l =
-    (l.end ≡ l.number) × (l.number + body_count (drop l.number (statements_of l.syntax)) ≡ l.first + body_count (drop l.first (statements_of l.syntax)))
+    (l.end ≡ l.number) × (l.number + body_count (drop l.number (statements_of l.syntax)) ≡ l.first
+    + body_count (drop l.first (statements_of l.syntax)))

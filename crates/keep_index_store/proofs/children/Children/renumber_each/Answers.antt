@@ -6,7 +6,8 @@ use Rattle.keep_index_store.specs.Runs.{consecutive}
 use Rattle.keep_index_store.proofs.MovedKeyLemmas.{items_moved, keys_moved}
 use Rattle.keep_index_store.proofs.MovedRunLemmas.{keys_within, run_within}
 use Rattle.keep_index_store.proofs.children.Children.renumber_each.Goals as goal
-use Rattle.keep_index_store.proofs.children.Children.renumber_each.Goals.{in-Nothing-1, in-NoKeys-1, in-OneKey, in-Keys, in-Run, in-Items}
+use Rattle.keep_index_store.proofs.children.Children.renumber_each.Goals.{in-Nothing-1, in-NoKeys-1, in-OneKey, in-Keys}
+use Rattle.keep_index_store.proofs.children.Children.renumber_each.Goals.{in-Run, in-Items}
 
 pub renumber-requires : goal.renumber-requires
 renumber-requires c =
@@ -26,13 +27,18 @@ returns c = elim c.match-self.branch [
   | in-Keys w ↦
       let old : c.args.self.now ≡ Keyed w.deref_mut-in-Keys.result.now = search rules in
       let new : children_in c.match-self.self-inside.form ≡ Keyed w.renumber.new.self = search rules in
-      new ∙ keys_moved c.args.last c.args.at c.args.self.now w.deref_mut-in-Keys.result.now w.renumber.new.self old w.renumber.ensures
+      new ∙ keys_moved c.args.last c.args.at c.args.self.now w.deref_mut-in-Keys.result.now w.renumber.new.self old
+      w.renumber.ensures
   | in-Run w ↦
       let old : c.args.self.now ≡ Listed (consecutive w.in-Run.first w.in-Run.len) = search rules in
-      let new : children_in c.match-self.self-inside.form ≡ Listed (consecutive w.first_then.result w.in-Run.len) = search rules in
-      new ∙ items_moved c.args.last c.args.at c.args.self.now (consecutive w.in-Run.first w.in-Run.len) (consecutive w.first_then.result w.in-Run.len) old w.first_then.ensures.run
+      let new : children_in c.match-self.self-inside.form ≡ Listed (consecutive w.first_then.result w.in-Run.len) =
+      search rules in
+      new ∙ items_moved c.args.last c.args.at c.args.self.now (consecutive w.in-Run.first w.in-Run.len)
+      (consecutive w.first_then.result w.in-Run.len) old w.first_then.ensures.run
   | in-Items w ↦
       let old : c.args.self.now ≡ Listed w.as_mut_slice.result.now = search rules in
-      let new : children_in c.match-self.self-inside.form ≡ Listed w.renumber_all.new.ids = search (rules, with_items_is) in
-      new ∙ items_moved c.args.last c.args.at c.args.self.now w.as_mut_slice.result.now w.renumber_all.new.ids old w.renumber_all.ensures
+      let new : children_in c.match-self.self-inside.form ≡ Listed w.renumber_all.new.ids =
+      search (rules, with_items_is) in
+      new ∙ items_moved c.args.last c.args.at c.args.self.now w.as_mut_slice.result.now w.renumber_all.new.ids old
+      w.renumber_all.ensures
 ]

@@ -9,5 +9,6 @@ returns-clause-ok c =
     let key = c.args.key in
     let child = c.args.child in
     let view = c.self.view_is in
-    c.in_ok-insert.ensures.entries ∙ insert_entry-new bytes_eq keys key child (ap (lookup (bytes_eq key)) view ∙ c.requires)
+    c.in_ok-insert.ensures.entries
+    ∙ insert_entry-new bytes_eq keys key child (ap (lookup (bytes_eq key)) view ∙ c.requires)
     ∙ ap (λ es. es ++ (key, child) ∷ []) view

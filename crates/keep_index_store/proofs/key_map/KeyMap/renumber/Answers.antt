@@ -14,31 +14,41 @@ index_mut-child-requires c =
       c.loop-number-test.true,
       c.len-number-end.ensures.len,
       ap length c.self.view_is,
-      partly_count (with_value (moved_number c.args.last c.args.at)) c.args.self.now _ c.loop-number.number c.loop-number.invariant
+      partly_count (with_value (moved_number c.args.last c.args.at)) c.args.self.now _ c.loop-number.number
+          c.loop-number.invariant
           (omega (arith, c.loop-number-test.true, c.len-number-end.ensures.len, ap length c.self.view_is)),
     )
 
 pub number_then-requires : goal.number_then-requires
 number_then-requires c =
     let f : List ℕ × ℕ → List ℕ × ℕ = with_value (moved_number c.args.last c.args.at) in
-    let low : c.loop-number.number < length c.args.self.now = omega (arith, c.loop-number-test.true, c.len-number-end.ensures.len, ap length c.self.view_is) in
+    let low : c.loop-number.number < length c.args.self.now =
+    omega (arith, c.loop-number-test.true, c.len-number-end.ensures.len, ap length c.self.view_is) in
     let many = partly_count f c.args.self.now _ c.loop-number.number c.loop-number.invariant (omega (arith, low)) in
     omega (
       arith,
-      value_read c.loop-number.self-inside.table.entries c.loop-number.number _ c.index_mut-child.ensures.value (omega (arith, low, many)),
-      ap (λ (e : List ℕ × ℕ). e.1) (partly_at f c.args.self.now _ c.loop-number.number c.loop-number.invariant ([], 0) low),
+      value_read c.loop-number.self-inside.table.entries c.loop-number.number _ c.index_mut-child.ensures.value
+          (omega (arith, low, many)),
+      ap (λ (e : List ℕ × ℕ).
+          e.1) (partly_at f c.args.self.now _ c.loop-number.number c.loop-number.invariant ([], 0) low),
       c.requires c.loop-number.number ([], 0) low,
     )
 
 pub loop-number-preserved : goal.loop-number-preserved
 loop-number-preserved c =
     let f : List ℕ × ℕ → List ℕ × ℕ = with_value (moved_number c.args.last c.args.at) in
-    let low : c.loop-number.number < length c.args.self.now = omega (arith, c.loop-number-test.true, c.len-number-end.ensures.len, ap length c.self.view_is) in
+    let low : c.loop-number.number < length c.args.self.now =
+    omega (arith, c.loop-number-test.true, c.len-number-end.ensures.len, ap length c.self.view_is) in
     let many = partly_count f c.args.self.now _ c.loop-number.number c.loop-number.invariant (omega (arith, low)) in
-    values_more (moved_number c.args.last c.args.at) c.args.self.now c.loop-number.self-inside.table.entries c.loop-number.number c.number_then.result low (omega (arith, low, many)) c.loop-number.invariant
-    (c.number_then.ensures ∙ ap (moved_number c.args.last c.args.at) (sym (value_read c.loop-number.self-inside.table.entries c.loop-number.number _ c.index_mut-child.ensures.value (omega (arith, low, many)))))
+    values_more (moved_number c.args.last c.args.at) c.args.self.now c.loop-number.self-inside.table.entries
+    c.loop-number.number c.number_then.result low (omega (arith, low, many)) c.loop-number.invariant
+    (c.number_then.ensures
+    ∙ ap (moved_number c.args.last c.args.at)
+    (sym (value_read c.loop-number.self-inside.table.entries c.loop-number.number _ c.index_mut-child.ensures.value
+    (omega (arith, low, many)))))
 
 pub returns : goal.returns
 returns c =
-    partly_all (with_value (moved_number c.args.last c.args.at)) c.args.self.now _ c.loop-number.number c.loop-number.invariant
+    partly_all (with_value (moved_number c.args.last c.args.at)) c.args.self.now _ c.loop-number.number
+    c.loop-number.invariant
     (omega (arith, c.loop-number-test.false, c.len-number-end.ensures.len, ap length c.self.view_is))

@@ -5,4 +5,6 @@ use Rattle.keep_index_store.proofs.MovedKeyLemmas.{with_value}
 use Rattle.keep_index_store.proofs.key_map.KeyMap.renumber.Given as goal
 
 abbrev pub invariant-loop-number : goal.invariant-loop-number
-invariant-loop-number l = l.self-inside.table.entries ≡ map (with_value (moved_number l.last l.at)) (take l.number l.fn.self) ++ drop l.number l.fn.self
+invariant-loop-number l =
+    l.self-inside.table.entries ≡ map (with_value (moved_number l.last l.at)) (take l.number l.fn.self)
+    ++ drop l.number l.fn.self

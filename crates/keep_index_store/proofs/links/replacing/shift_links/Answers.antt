@@ -17,7 +17,8 @@ pub overflow_cast-link-in-loop-link : goal.overflow_cast-link-in-loop-link
 overflow_cast-link-in-loop-link c =
     let none : PackedLink = record { parent = 0; number = 0 } in
     let low : c.loop-link.link-index < length c.args.links.now = omega (arith, c.loop-link-test.true) in
-    let can = can_here c.args.by c.args.links.now _ c.loop-link.link-index none c.requires c.loop-link.invariant.1 low in
+    let can =
+    can_here c.args.by c.args.links.now _ c.loop-link.link-index none c.requires c.loop-link.invariant.1 low in
     omega (arith, can.1.0, c.shifted.ensures)
 
 pub loop-link-preserved : goal.loop-link-preserved

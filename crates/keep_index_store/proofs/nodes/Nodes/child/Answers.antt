@@ -7,4 +7,7 @@ pub index-requires : goal.index-requires
 index-requires c = omega (arith, c.requires, count_seen _ _ _ c.self.view_is c.self.invariant, c.self.inside.list.ok.0)
 
 pub returns : goal.returns
-returns c = c.child.ensures ∙ ap (λ (x : ChildList). child_named x c.args.text.now) (children_read _ _ _ c.self.view_is c.self.invariant c.args.id c.requires c.index.result.now c.index.ensures)
+returns c =
+    c.child.ensures
+    ∙ ap (λ (x : ChildList). child_named x c.args.text.now)
+    (children_read _ _ _ c.self.view_is c.self.invariant c.args.id c.requires c.index.result.now c.index.ensures)

@@ -8,4 +8,6 @@ index-requires c = omega (arith, c.requires, count_seen _ _ _ c.self.view_is c.s
 
 pub returns : goal.returns
 returns c =
-    c.len.ensures ∙ ap (λ (x : ChildList). length (child_ids x)) (children_read _ _ _ c.self.view_is c.self.invariant c.args.id c.requires c.index.result.now c.index.ensures)
+    c.len.ensures
+    ∙ ap (λ (x : ChildList). length (child_ids x))
+    (children_read _ _ _ c.self.view_is c.self.invariant c.args.id c.requires c.index.result.now c.index.ensures)

@@ -10,7 +10,10 @@ pub returns-clause-ok : goal.returns-clause-ok
 returns-clause-ok c =
     let nodes = c.args.self.now.items in
     let own = (node_at nodes c.args.first).facts in
-    let with_role : Option Role → List Node = λ r. with_facts nodes c.args.first (record (joined_facts own c.args.more) { role = r }) in
+    let with_role : Option Role → List Node =
+    λ r. with_facts nodes c.args.first (record (joined_facts own c.args.more) { role = r }) in
     c.set_facts.ensures
-    ∙ ap (λ (ns : List Node). with_facts ns c.args.second c.in_ok-joined.joined) (c.in_ok-join_facts.ensures.ok ∙ ap with_role c.role-role.ensures)
-    ∙ ap (λ (t : NodeFacts). with_facts (with_facts nodes c.args.first (joined_facts own c.args.more)) c.args.second t) c.in_ok-joined.ensures
+    ∙ ap (λ (ns : List Node). with_facts ns c.args.second c.in_ok-joined.joined)
+    (c.in_ok-join_facts.ensures.ok ∙ ap with_role c.role-role.ensures)
+    ∙ ap (λ (t : NodeFacts). with_facts (with_facts nodes c.args.first (joined_facts own c.args.more)) c.args.second t)
+    c.in_ok-joined.ensures

@@ -11,4 +11,7 @@ index-requires c = omega (arith, c.requires, count_seen _ _ _ c.self.view_is c.s
 pub returns : goal.returns
 returns c =
     let joined : NodeFacts → NodeFacts = λ t. joined_facts t c.args.more in
-    IfOk-weaker c.joined.result _ _ (λ packed is. is ∙ ap joined (facts_read _ _ _ c.self.view_is c.self.invariant c.args.id c.requires c.index.result.now c.index.ensures)) c.joined.ensures
+    IfOk-weaker c.joined.result _ _
+    (λ packed is. is
+    ∙ ap joined (facts_read _ _ _ c.self.view_is c.self.invariant c.args.id c.requires c.index.result.now
+    c.index.ensures)) c.joined.ensures

@@ -9,4 +9,6 @@ index-requires c = omega (arith, c.requires, count_seen _ _ _ c.self.view_is c.s
 
 pub returns : goal.returns
 returns c =
-    c.key_at.ensures ∙ ap (λ (x : ChildList). option_map (λ e. e.0) (slice_get (named x) c.args.number)) (children_read _ _ _ c.self.view_is c.self.invariant c.args.id c.requires c.index.result.now c.index.ensures)
+    c.key_at.ensures
+    ∙ ap (λ (x : ChildList). option_map (λ e. e.0) (slice_get (named x) c.args.number))
+    (children_read _ _ _ c.self.view_is c.self.invariant c.args.id c.requires c.index.result.now c.index.ensures)

@@ -12,4 +12,5 @@ returns c =
     ∙ ap (λ n. node_rows (take (n - 1) nodes) c.pop-4.new.self) count
     ∙ ap (node_rows (take (length nodes - 1) nodes)) (c.pop-4.ensures ∙ ap (λ n. take (n - 1) links) c.self.invariant)
     ∙ nodes_cut nodes links c.args.self.now c.self.view_is c.self.invariant (length nodes - 1)
-    ∙ ap (λ n. take (n - 1) c.args.self.now.items) (sym (count_seen nodes links c.args.self.now c.self.view_is c.self.invariant))
+    ∙ ap (λ n. take (n - 1) c.args.self.now.items)
+    (sym (count_seen nodes links c.args.self.now c.self.view_is c.self.invariant))

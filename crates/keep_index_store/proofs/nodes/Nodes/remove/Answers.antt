@@ -32,7 +32,8 @@ remove_node-requires-clause-each c =
 
 pub invariant_of-self : goal.invariant_of-self
 invariant_of-self c =
-    counts _ _ _ c.self.view_is c.self.invariant c.args.at c.requires.leaf c.remove-gone.result c.remove-gone.ensures.gone
+    counts _ _ _ c.self.view_is c.self.invariant c.args.at c.requires.leaf c.remove-gone.result
+    c.remove-gone.ensures.gone
     c.remove_node.new.list.items c.remove-gone.new.self c.remove_node.ensures c.remove-gone.ensures.others
 
 pub returns : goal.returns

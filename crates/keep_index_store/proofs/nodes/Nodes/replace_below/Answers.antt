@@ -147,7 +147,8 @@ replace_nodes-requires-clause-after c =
     let done : c.make_ready.result ≡ true = c.if-not-make_ready.false in
     let same = c.make_ready.ensures.shifted done in
     subst (λ (ns : List StoredNode).
-    All (λ n. CanShiftChildren c.numbers_beside-beside.result n.children) (drop (suc c.args.id + c.args.gone) ns)) (sym same)
+    All (λ n. CanShiftChildren c.numbers_beside-beside.result n.children) (drop (suc c.args.id + c.args.gone) ns))
+    (sym same)
     (subst (λ (s : Shift).
     All (λ n. CanShiftChildren s n.children)
     (drop (suc c.args.id + c.args.gone) (map (with_shifted_stored c.args.by) c.self.inside.list.items))) (sym is)

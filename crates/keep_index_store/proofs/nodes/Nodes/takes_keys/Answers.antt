@@ -11,4 +11,5 @@ index-requires c = omega (arith, c.requires, count_seen _ _ _ c.self.view_is c.s
 pub returns : goal.returns
 returns c =
     subst (λ (x : ChildList). Decides c.takes_keys.result (holds_of x ≡ by_key))
-    (children_read _ _ _ c.self.view_is c.self.invariant c.args.id c.requires c.index.result.now c.index.ensures) c.takes_keys.ensures
+    (children_read _ _ _ c.self.view_is c.self.invariant c.args.id c.requires c.index.result.now c.index.ensures)
+    c.takes_keys.ensures

@@ -1,4 +1,5 @@
-use Rattle.std.proofs.Common.{◌≡◌, ◌<◌, ◌+◌, ◌++◌, suc, All, List, length, ap, ◌∙◌, arith, drop, map, set, subst, sym, take}
+use Rattle.std.proofs.Common.{◌≡◌, ◌<◌, ◌+◌, ◌++◌, suc, All, List, length, ap, ◌∙◌, arith, drop, map, set, subst, sym}
+use Rattle.std.proofs.Common.{take}
 use Rattle.std.proofs.lemmas.List.{with_items_is}
 use Rattle.keep_index_store.specs.declared.nodes.Node.{Node as StoredNode}
 use Rattle.keep_path.specs.NodesBelow.{spliced}
@@ -14,7 +15,8 @@ shift_beside-requires-clause-after c =
     let past : suc c.args.id + c.args.gone ≡ c.args.id + c.args.gone + 1 = omega arith in
     let each = λ (n : StoredNode). CanShiftChildren c.args.beside n.children in
     subst (λ n. All each (drop n c.as_mut_slice.result.now)) past
-    (subst (λ (ns : List StoredNode). All each (drop (suc c.args.id + c.args.gone) ns)) (sym c.as_mut_slice.ensures.value)
+    (subst (λ (ns : List StoredNode). All each (drop (suc c.args.id + c.args.gone) ns))
+    (sym c.as_mut_slice.ensures.value)
     c.requires.after)
 
 pub returns : goal.returns

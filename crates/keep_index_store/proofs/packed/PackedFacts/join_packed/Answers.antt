@@ -8,4 +8,5 @@ pub returns-clause-facts : goal.returns-clause-facts
 returns-clause-facts c =
     let own = c.in-Packed in
     let old : NodeFacts = facts_in (Packed own.state own.kind own.short) in
-    rw (← c.self.view_is, own.is, c.later_kind.ensures, c.in_ok-short.ensures, c.in_ok-more_short.ensures.short) (joined_in_place old c.args.more.now c.args.role)
+    rw (← c.self.view_is, own.is, c.later_kind.ensures, c.in_ok-short.ensures, c.in_ok-more_short.ensures.short)
+    (joined_in_place old c.args.more.now c.args.role)

@@ -5,7 +5,8 @@ use Rattle.keep_index_store.specs.Children.{holding}
 use Rattle.keep_index_store.specs.Growth.{Grows}
 use Rattle.keep_index_store.specs.Stored.{IsStored, trie_of, infos_of}
 use Rattle.keep_index_store.specs.Trie.{path_at}
-use Rattle.keep_index_store.proofs.KeyBelowLemmas.{key_fresh, key_grows, key_infos, key_stored, parent_keyed, parent_low}
+use Rattle.keep_index_store.proofs.KeyBelowLemmas.{key_fresh, key_grows, key_infos, key_stored, parent_keyed}
+use Rattle.keep_index_store.proofs.KeyBelowLemmas.{parent_low}
 use Rattle.keep_index_store.proofs.tree.Tree.add_key.Goals as goal
 
 pub add_key-requires-clause-within : goal.add_key-requires-clause-within
@@ -35,7 +36,9 @@ invariant_of-self-2 c =
 
 pub returns-clause-grows : goal.returns-clause-grows
 returns-clause-grows c =
-    subst (λ (ns : List Node). Grows c.args.self.now.trie (trie_of ns) c.args.parent (path_at c.args.self.now.trie c.args.parent ++ key c.args.text.now ∷ []) (Some c.args.role) (holding c.args.holds))
+    subst (λ (ns : List Node).
+    Grows c.args.self.now.trie (trie_of ns) c.args.parent
+    (path_at c.args.self.now.trie c.args.parent ++ key c.args.text.now ∷ []) (Some c.args.role) (holding c.args.holds))
     (sym c.in_ok-add_key.ensures.ok)
     (key_grows c.self.inside.nodes.items c.args.self.now c.args.parent c.args.text.now (holding c.args.holds)
     (record c.args.facts { role = Some c.args.role })

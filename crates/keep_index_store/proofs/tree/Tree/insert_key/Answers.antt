@@ -12,9 +12,11 @@ pub returns-then-not-insert_node-clause-refused : goal.returns-then-not-insert_n
 returns-then-not-insert_node-clause-refused c =
     let not : c.insert_node.result ≡ false = search rules in
     let same : c.insert_node.new.self ≡ c.renumber_later.new.self = c.insert_node.ensures.refused not in
-    let infos : c.renumber_later.new.self.infos ≡ map (renumbered later_number (numbers_of c.args.line)) c.args.self.now.infos = search rules in
+    let infos : c.renumber_later.new.self.infos
+    ≡ map (renumbered later_number (numbers_of c.args.line)) c.args.self.now.infos = search rules in
     ap₂ (λ (ts : List TrieNode) (is : List NodeInfo). let t : TrieInfos = record { trie = ts; infos = is } in t)
     (c.renumber_earlier.ensures.trie ∙ ap (λ (t : TrieInfos). t.trie) same ∙ c.renumber_later.ensures.trie)
     (c.renumber_earlier.ensures.infos
     ∙ ap (λ (t : TrieInfos). map (renumbered earlier_number (numbers_of c.args.line)) t.infos) same
-    ∙ ap (map (renumbered earlier_number (numbers_of c.args.line))) infos ∙ infos_back (numbers_of c.args.line) c.args.self.now.infos)
+    ∙ ap (map (renumbered earlier_number (numbers_of c.args.line))) infos
+    ∙ infos_back (numbers_of c.args.line) c.args.self.now.infos)

@@ -16,7 +16,8 @@ insert_leaf-requires-clause-place c =
 pub returns-clause-paths : goal.returns-clause-paths
 returns-clause-paths c done =
     (c.insert_leaf.ensures.inserted done).paths
-    ∙ ap (λ (x : TrieInfos). insert (paths_of x.trie) c.args.at (path_at x.trie c.args.parent ++ key c.args.text.now ∷ [])) c.self.view_is
+    ∙ ap (λ (x : TrieInfos).
+    insert (paths_of x.trie) c.args.at (path_at x.trie c.args.parent ++ key c.args.text.now ∷ [])) c.self.view_is
 
 pub returns-clause-holdings : goal.returns-clause-holdings
 returns-clause-holdings c done =

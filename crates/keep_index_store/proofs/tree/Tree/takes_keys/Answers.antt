@@ -7,4 +7,5 @@ use Rattle.keep_index_store.proofs.tree.Tree.takes_keys.Goals as goal
 pub returns : goal.returns
 returns c =
     subst (λ (h : Holding). Decides c.takes_keys.result (h ≡ by_key))
-    (holds_seen c.self.inside.nodes.items c.args.self.now c.self.view_is c.self.invariant c.args.id c.requires) c.takes_keys.ensures
+    (holds_seen c.self.inside.nodes.items c.args.self.now c.self.view_is c.self.invariant c.args.id c.requires)
+    c.takes_keys.ensures

@@ -27,26 +27,35 @@ returns-in_default c = λ holds.
         place = refl;
         reason = c.why_of.ensures;
         refused = was_refused nodes.trie _ c.args.role c.args.id c.requires.within refl
-            (subst (λ (s : Option Role). (roles : List Role) → IsState s roles → list_all (λ e. allows e c.args.role) roles ≡ false) c.role.ensures c.in_default.ensures.refused);
+            (subst (λ (s : Option Role). (roles : List Role) → IsState s roles
+            → list_all (λ e. allows e c.args.role) roles ≡ false) c.role.ensures c.in_default.ensures.refused);
       };
       unchanged = refl;
     }
 
-marked : (c : goal.After-set_role) (holds : Holding) → Restates c.args.self.now.tree.trie c.set_role.new.self.trie c.args.id c.in-Some.next
-    → IsDefined c.args.self.now.tree.trie c.set_role.new.self.trie (path_at c.args.self.now.tree.trie c.args.id) c.args.role holds c.args.id
+marked : (c : goal.After-set_role) (holds : Holding)
+    → Restates c.args.self.now.tree.trie c.set_role.new.self.trie c.args.id c.in-Some.next
+    → IsDefined c.args.self.now.tree.trie c.set_role.new.self.trie (path_at c.args.self.now.tree.trie c.args.id)
+    c.args.role holds c.args.id
 marked c holds restates =
     let nodes = c.args.self.now.tree.trie in
     let new = c.set_role.new.self.trie in
     let at = c.requires.named in
     subst (λ (p : List Part). IsDefined nodes new p c.args.role holds c.args.id) (sym at.2)
     (marked_existing nodes new at.0 at.1 c.args.role c.in-Some.next holds c.args.id restates c.args.self.now.shaped at.2
-    (subst (λ (s : Option Role). (roles : List Role) → IsState s roles → list_all (λ e. allows e c.args.role) roles ≡ true) c.role.ensures c.in-Some.ensures.allowed)
-    (subst (λ (s : Option Role). (roles : List Role) → IsState s roles → IsState (Some c.in-Some.next) (roles ++ c.args.role ∷ [])) c.role.ensures c.in-Some.ensures.next))
+    (subst (λ (s : Option Role). (roles : List Role) → IsState s roles
+    → list_all (λ e. allows e c.args.role) roles ≡ true) c.role.ensures c.in-Some.ensures.allowed)
+    (subst (λ (s : Option Role). (roles : List Role) → IsState s roles
+    → IsState (Some c.in-Some.next) (roles ++ c.args.role ∷ [])) c.role.ensures c.in-Some.ensures.next))
 
 pub invariant_of-self : goal.invariant_of-self
 invariant_of-self c = record {
-  shaped = on_either c.set_role.result _ _ _ (λ restates. (marked (goal.at.invariant_of-self c).After-set_role by_key restates).shaped)
-      (λ (is : c.set_role.new.self ≡ c.args.self.now.tree). subst (λ (t : TrieInfos). IsShaped t.trie) (sym is) c.args.self.now.shaped) c.set_role.ensures.restates c.set_role.ensures.refused;
+  shaped =
+      on_either c.set_role.result _ _ _
+      (λ restates. (marked (goal.at.invariant_of-self c).After-set_role by_key restates).shaped)
+      (λ (is : c.set_role.new.self ≡ c.args.self.now.tree).
+      subst (λ (t : TrieInfos). IsShaped t.trie) (sym is) c.args.self.now.shaped) c.set_role.ensures.restates
+      c.set_role.ensures.refused;
 }
 
 pub returns-in_err-set_role : goal.returns-in_err-set_role
@@ -60,7 +69,8 @@ returns c = λ holds.
     record {
       ok = record {
         node = marked (goal.at.returns c).After-set_role holds restates;
-        facts = added_at_existing c.args.self.now.tree c.set_role.new.self c.args.id _ (info_of c.args.facts) restates.trie restates.within refl restates.paths c.in_ok-set_role.ensures.infos;
+        facts = added_at_existing c.args.self.now.tree c.set_role.new.self c.args.id _ (info_of c.args.facts)
+            restates.trie restates.within refl restates.paths c.in_ok-set_role.ensures.infos;
       };
       refused = tt;
       unchanged = tt;

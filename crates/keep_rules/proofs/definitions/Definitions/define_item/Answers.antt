@@ -17,8 +17,13 @@ invariant_of-self c =
     let old = c.args.self.now in
     let new = c.add_item.new.self in
     record {
-      shaped = on_either c.add_item.result _ _ _ (λ grows. (adds_item old.tree.trie new.trie c.args.array (length old.tree.trie) (holding c.args.holds) grows old.shaped c.requires.plain refl).shaped)
-          (λ (is : new ≡ old.tree). subst (λ (t : TrieInfos). IsShaped t.trie) (sym is) old.shaped) c.add_item.ensures.grows c.add_item.ensures.refused;
+      shaped =
+          on_either c.add_item.result _ _ _
+          (λ grows.
+          (adds_item old.tree.trie new.trie c.args.array (length old.tree.trie) (holding c.args.holds) grows old.shaped
+          c.requires.plain refl).shaped)
+          (λ (is : new ≡ old.tree). subst (λ (t : TrieInfos). IsShaped t.trie) (sym is) old.shaped)
+          c.add_item.ensures.grows c.add_item.ensures.refused;
     }
 
 pub returns-clause-ok : goal.returns-clause-ok
@@ -26,7 +31,11 @@ returns-clause-ok c =
     let old = c.args.self.now in
     let new = c.add_item.new.self in
     let holds = holding c.args.holds in
-    two_ok c.add_item.result _ _ (DefinesItem old.tree new c.args.array c.args.value c.args.kind holds) (λ to one facts. record { node = one; facts = facts })
-    (both_ok _ _ _ _ (λ grows to last. adds_item old.tree.trie new.trie c.args.array to holds grows old.shaped c.requires.plain last) c.add_item.ensures.grows c.add_item.ensures.last)
+    two_ok c.add_item.result _ _ (DefinesItem old.tree new c.args.array c.args.value c.args.kind holds)
+    (λ to one facts. record { node = one; facts = facts })
+    (both_ok _ _ _ _ (λ grows to last.
+    adds_item old.tree.trie new.trie c.args.array to holds grows old.shaped c.requires.plain last)
+    c.add_item.ensures.grows c.add_item.ensures.last)
     (both_on _ _ _ _ (λ grows infos. item_added old.tree new c.args.array c.args.value c.args.kind holds grows
-    (subst (λ (i : NodeInfo). new.infos ≡ old.tree.infos ++ i ∷ []) c.unnamed-facts.ensures.info infos)) c.add_item.ensures.grows c.add_item.ensures.infos)
+    (subst (λ (i : NodeInfo). new.infos ≡ old.tree.infos ++ i ∷ []) c.unnamed-facts.ensures.info infos))
+    c.add_item.ensures.grows c.add_item.ensures.infos)

@@ -28,11 +28,24 @@ returns c =
     let r = c.define_text.result in
     let own = c.args.definition in
     let before = path_at old.trie c.args.parent in
-    let is : c.as_str.result.now ≡ key_text_at c.args.keys.now c.args.number = c.as_str.ensures ∙ c.in_ok-text.ensures in
+    let is : c.as_str.result.now ≡ key_text_at c.args.keys.now c.args.number =
+    c.as_str.ensures ∙ c.in_ok-text.ensures in
     record {
-      ok = subst (λ (t : List ℕ). IfOk r (Defines old new (before ++ key t ∷ []) own.role (holding own.holds) (named_info own.kind (c.args.keys.now.first + c.args.number) own.origin))) is
-          (subst (λ (i : NodeInfo). IfOk r (Defines old new (before ++ key c.as_str.result.now ∷ []) own.role (holding own.holds) i)) (c.named-facts.ensures.info ∙ ap (λ n. named_info own.kind n own.origin) c.part_number-part.ensures) c.define_text.ensures.ok);
-      refused = subst (λ (n : ℕ). IfErr r (λ fault. FaultMeets fault (IsRefusedAt old.trie (before ++ key (key_text_at c.args.keys.now c.args.number) ∷ []) own.role n))) (c.named-facts.ensures.key ∙ c.part_number-part.ensures)
-          (subst (λ (t : List ℕ). IfErr r (λ fault. FaultMeets fault (IsRefusedAt old.trie (before ++ key t ∷ []) own.role c.named-facts.result.key))) is c.define_text.ensures.refused);
+      ok = subst (λ (t : List ℕ).
+          IfOk r (Defines old new (before ++ key t ∷ []) own.role (holding own.holds)
+          (named_info own.kind (c.args.keys.now.first + c.args.number) own.origin))) is
+          (subst (λ (i : NodeInfo).
+          IfOk r (Defines old new (before ++ key c.as_str.result.now ∷ []) own.role (holding own.holds) i))
+          (c.named-facts.ensures.info ∙ ap (λ n. named_info own.kind n own.origin) c.part_number-part.ensures)
+          c.define_text.ensures.ok);
+      refused =
+          subst (λ (n : ℕ).
+          IfErr r (λ fault.
+          FaultMeets fault (IsRefusedAt old.trie (before ++ key (key_text_at c.args.keys.now c.args.number) ∷ [])
+          own.role n))) (c.named-facts.ensures.key ∙ c.part_number-part.ensures)
+          (subst (λ (t : List ℕ).
+          IfErr r (λ fault.
+          FaultMeets fault (IsRefusedAt old.trie (before ++ key t ∷ []) own.role c.named-facts.result.key))) is
+          c.define_text.ensures.refused);
       unchanged = c.define_text.ensures.unchanged;
     }

@@ -19,8 +19,11 @@ invariant_of-self c =
     let new = c.add_key.new.self in
     record {
       shaped = on_either c.add_key.result _ _ _
-          (λ grows. (marked_new old.tree.trie new.trie c.args.parent c.args.text.now c.args.role (holding c.args.holds) (length old.tree.trie) grows old.shaped c.requires.table.keyed c.requires.fits refl).shaped)
-          (λ (is : new ≡ old.tree). subst (λ (t : TrieInfos). IsShaped t.trie) (sym is) old.shaped) c.add_key.ensures.grows c.add_key.ensures.refused;
+          (λ grows.
+          (marked_new old.tree.trie new.trie c.args.parent c.args.text.now c.args.role (holding c.args.holds)
+          (length old.tree.trie) grows old.shaped c.requires.table.keyed c.requires.fits refl).shaped)
+          (λ (is : new ≡ old.tree). subst (λ (t : TrieInfos). IsShaped t.trie) (sym is) old.shaped)
+          c.add_key.ensures.grows c.add_key.ensures.refused;
     }
 
 pub returns-in_err-add_key-in-None : goal.returns-in_err-add_key-in-None
@@ -34,9 +37,12 @@ returns-in_ok-add_key-in-None c =
     let new = c.add_key.new.self in
     record {
       ok = record {
-        node = marked_new old.tree.trie new.trie c.args.parent c.args.text.now c.args.role (holding c.args.holds) _ c.in_ok-add_key-in-None.ensures.grows old.shaped c.requires.table.keyed c.requires.fits
+        node = marked_new old.tree.trie new.trie c.args.parent c.args.text.now c.args.role (holding c.args.holds) _
+            c.in_ok-add_key-in-None.ensures.grows old.shaped c.requires.table.keyed c.requires.fits
             (c.in_ok-add_key-in-None.ensures.last);
-        facts = added_at_new old.tree new c.args.parent (path_at old.tree.trie c.args.parent ++ key c.args.text.now ∷ []) (Some c.args.role) (holding c.args.holds) (info_of c.args.facts)
+        facts = added_at_new old.tree new c.args.parent
+            (path_at old.tree.trie c.args.parent ++ key c.args.text.now ∷ []) (Some c.args.role) (holding c.args.holds)
+            (info_of c.args.facts)
             c.in_ok-add_key-in-None.ensures.grows c.in_ok-add_key-in-None.ensures.infos;
       };
       refused = tt;
@@ -44,9 +50,15 @@ returns-in_ok-add_key-in-None c =
     }
 
 pub define_again-requires : goal.define_again-requires
-define_again-requires c = record { within = c.in-Some.ensures.0; named = (path_at c.args.self.now.tree.trie c.args.parent, c.args.text.now, c.in-Some.ensures.1) }
+define_again-requires c =
+    record {
+      within = c.in-Some.ensures.0;
+      named = (path_at c.args.self.now.tree.trie c.args.parent, c.args.text.now, c.in-Some.ensures.1);
+    }
 
 pub returns-in-Some : goal.returns-in-Some
 returns-in-Some c =
     let holds = holding c.args.holds in
-    subst (λ (p : List Part). DefinesOrRefuses c.args.self.now.tree c.define_again.new.self.tree p c.args.role holds (info_of c.args.facts) c.args.facts.key c.define_again.result) c.in-Some.ensures.1 (c.define_again.ensures holds)
+    subst (λ (p : List Part).
+    DefinesOrRefuses c.args.self.now.tree c.define_again.new.self.tree p c.args.role holds (info_of c.args.facts)
+    c.args.facts.key c.define_again.result) c.in-Some.ensures.1 (c.define_again.ensures holds)

@@ -8,5 +8,6 @@ use Rattle.keep_rules.proofs.definitions.Definitions.descend_dotted.Given as goa
 abbrev pub invariant-loop-number : goal.invariant-loop-number
 invariant-loop-number l = record {
   gone : DottedDescent l.fn.self.tree.trie l.self.tree.trie l.fn.table l.at (take l.number l.keys.texts);
-  facts : DottedAdds l.fn.self.tree l.self.tree l.keys.first l.fn.value (dotted_mentions (path_at l.fn.self.tree.trie l.fn.table) (take l.number l.keys.texts));
+  facts : DottedAdds l.fn.self.tree l.self.tree l.keys.first l.fn.value
+      (dotted_mentions (path_at l.fn.self.tree.trie l.fn.table) (take l.number l.keys.texts));
 }

@@ -37,9 +37,16 @@ loop-number-preserved c =
     let text = c.as_str.result.now in
     let is : text ≡ key_text_at keys c.loop-number.number = c.as_str.ensures ∙ c.in_ok-text.ensures in
     record {
-      walked = walked_more old.trie mid.trie new.trie c.loop-number.at c.in_ok-at.at keys c.loop-number.number text (omega (arith, c.count-number-end.ensures.many)) is c.loop-number.invariant.walked c.in_ok-at.ensures.ok.node;
-      facts = walked_added old mid new keys c.loop-number.number text c.loop-number.at c.args.statement (omega (arith, c.count-number-end.ensures.many)) is c.loop-number.invariant.walked c.loop-number.invariant.facts
-          (subst (λ (n : ℕ). HeaderAdds mid new n c.args.statement (λ tables. passing_mentions tables (path_at mid.trie c.loop-number.at ++ key text ∷ []))) c.part_number-part.ensures c.in_ok-at.ensures.ok.facts);
+      walked =
+          walked_more old.trie mid.trie new.trie c.loop-number.at c.in_ok-at.at keys c.loop-number.number text
+          (omega (arith, c.count-number-end.ensures.many)) is c.loop-number.invariant.walked c.in_ok-at.ensures.ok.node;
+      facts = walked_added old mid new keys c.loop-number.number text c.loop-number.at c.args.statement
+          (omega (arith, c.count-number-end.ensures.many)) is c.loop-number.invariant.walked
+          c.loop-number.invariant.facts
+          (subst (λ (n : ℕ).
+          HeaderAdds mid new n c.args.statement
+          (λ tables. passing_mentions tables (path_at mid.trie c.loop-number.at ++ key text ∷ [])))
+          c.part_number-part.ensures c.in_ok-at.ensures.ok.facts);
     }
 
 pub returns-in_err-at : goal.returns-in_err-at
@@ -50,12 +57,18 @@ returns-in_err-at c =
     let number = c.loop-number.number in
     let text = c.as_str.result.now in
     let is : text ≡ key_text_at keys number = c.as_str.ensures ∙ c.in_ok-text.ensures in
-    let Faults : ℕ → Why → Type 0 = λ n w. (ms : List Mention) (tables : List (List Part)) → Represents old ms tables → FaultFrom ms (descent_mentions tables [] (leading_texts keys)) keys.first n w in
+    let Faults : ℕ → Why → Type 0 =
+    λ n w. (ms : List Mention) (tables : List (List Part)) → Represents old ms tables
+    → FaultFrom ms (descent_mentions tables [] (leading_texts keys)) keys.first n w in
     let p = err_from_is_err_and c.from_residual-in_err-at.result c.from_residual-in_err-at.ensures.1 in
     rw (p.1, p.2) (record {
       ok = tt;
-      define = entry_weaker _ mid (path_at mid c.loop-number.at ++ key text ∷ []) c.part_number-part.result (keys.first + number) Faults c.part_number-part.ensures
-          (λ was plain. walk_stops old mid c.loop-number.at keys number text (omega (arith, c.count-number-end.ensures.many)) is c.loop-number.invariant.walked was plain) c.in_err-at.ensures.refused;
+      define =
+          entry_weaker _ mid (path_at mid c.loop-number.at ++ key text ∷ []) c.part_number-part.result
+          (keys.first + number) Faults c.part_number-part.ensures
+          (λ was plain.
+          walk_stops old mid c.loop-number.at keys number text (omega (arith, c.count-number-end.ensures.many)) is
+          c.loop-number.invariant.walked was plain) c.in_err-at.ensures.refused;
     })
 
 pub returns : goal.returns
@@ -66,8 +79,11 @@ returns c =
     let all : c.loop-number.number ≡ length keys.texts - 1 = omega (arith, c.count-number-end.ensures.many) in
     record {
       ok = record {
-        node = subst (λ (n : ℕ). HeaderDescent old.trie new.trie c.loop-number.at (take n keys.texts)) all c.loop-number.invariant.walked;
-        facts = subst (λ (n : ℕ). HeaderAdds old new keys.first c.args.statement (λ tables. descent_mentions tables [] (take n keys.texts))) all c.loop-number.invariant.facts;
+        node = subst (λ (n : ℕ). HeaderDescent old.trie new.trie c.loop-number.at (take n keys.texts)) all
+            c.loop-number.invariant.walked;
+        facts = subst (λ (n : ℕ).
+            HeaderAdds old new keys.first c.args.statement (λ tables. descent_mentions tables [] (take n keys.texts)))
+            all c.loop-number.invariant.facts;
       };
       define = tt;
     }

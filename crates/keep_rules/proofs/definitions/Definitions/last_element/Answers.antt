@@ -11,17 +11,22 @@ use Rattle.keep_rules.proofs.definitions.Definitions.last_element.Goals as goal
 pub returns-then-not-names_tables : goal.returns-then-not-names_tables
 returns-then-not-names_tables c = record {
   some = tt;
-  none = none_plain c.args.self.now.tree.trie _ c.args.id c.requires refl (ap (λ (r : Option Role). is_tables r) (sym c.role.ensures) ∙ sym c.names_tables.ensures ∙ c.if-not-names_tables.true);
+  none = none_plain c.args.self.now.tree.trie _ c.args.id c.requires refl
+      (ap (λ (r : Option Role). is_tables r) (sym c.role.ensures) ∙ sym c.names_tables.ensures
+      ∙ c.if-not-names_tables.true);
 }
 
 pub returns : goal.returns
 returns c =
-    let tables = ap (λ (r : Option Role). is_tables r) (sym c.role.ensures) ∙ sym c.names_tables.ensures ∙ c.if-not-names_tables.false in
+    let tables =
+    ap (λ (r : Option Role). is_tables r) (sym c.role.ensures) ∙ sym c.names_tables.ensures
+    ∙ c.if-not-names_tables.false in
     let nodes = c.args.self.now.tree.trie in
     let id = c.args.id in
     record {
       some = two_some c.last_item.result _ _ (IsLastElement nodes (path_at nodes id) id)
-          (λ last (was : (0 < length (children_of nodes id)) × (last ≡ slice_index_or (children_of nodes id) (length (children_of nodes id) - 1) 0)) within. record {
+          (λ last (was : (0 < length (children_of nodes id))
+          × (last ≡ slice_index_or (children_of nodes id) (length (children_of nodes id) - 1) 0)) within. record {
             nested = c.requires;
             here = refl;
             tables = tables;
@@ -29,5 +34,7 @@ returns c =
             last = was.1;
             table = element_table nodes c.args.self.now.shaped id last c.requires tables was.0 was.1 within;
           }) c.last_item.ensures.some c.last_item.ensures.within;
-      none = if_none _ _ _ (λ none. none_empty nodes _ id c.requires refl (none (tables_listed nodes c.args.self.now.shaped id c.requires tables))) c.last_item.ensures.none;
+      none = if_none _ _ _ (λ none.
+          none_empty nodes _ id c.requires refl
+          (none (tables_listed nodes c.args.self.now.shaped id c.requires tables))) c.last_item.ensures.none;
     }

@@ -20,11 +20,18 @@ pub read_nested-requires : goal.read_nested-requires
 read_nested-requires c = record {
   readable = c.requires.readable;
   numbered = ap (λ (ids : List ℕ). 1 + length ids) (sym (one (goal.at.read_nested-requires c).In_ok-push_id));
-  next = subst (λ (ids : List ℕ). (s : NestingState) × (ts : List NestedValue) × (first : ℕ) × AreNext c.args.text.now (flat c.args.parts.now) c.args.self.now.tree.trie ids 1 1 first s ts) (one (goal.at.read_nested-requires c).In_ok-push_id) c.requires.next;
+  next = subst (λ (ids : List ℕ).
+      (s : NestingState) × (ts : List NestedValue) × (first : ℕ)
+      × AreNext c.args.text.now (flat c.args.parts.now) c.args.self.now.tree.trie ids 1 1 first s ts)
+      (one (goal.at.read_nested-requires c).In_ok-push_id) c.requires.next;
 }
 
 pub returns : goal.returns
 returns c =
     let old = c.args.self.now.tree in
-    let f = flat c.args.parts.now in
-    (c.read_nested.new.ids.items, subst (λ (ids : List ℕ). ReadsValuesOrRefuses c.args.text.now f 1 1 old ids c.read_nested.new.self.tree c.read_nested.new.ids.items c.read_nested.result) (sym (one (goal.at.returns c).In_ok-push_id)) c.read_nested.ensures)
+    let f = flat c.args.parts.now in (
+      c.read_nested.new.ids.items,
+      subst (λ (ids : List ℕ).
+          ReadsValuesOrRefuses c.args.text.now f 1 1 old ids c.read_nested.new.self.tree c.read_nested.new.ids.items
+          c.read_nested.result) (sym (one (goal.at.returns c).In_ok-push_id)) c.read_nested.ensures,
+    )

@@ -8,4 +8,5 @@ pub returns-in-None : goal.returns-in-None
 returns-in-None c = c.read_header.ensures c.args.body
 
 pub read_header-requires : goal.read_header-requires
-read_header-requires c = record { statement = c.requires.statement; rooted = c.requires.reading.2.rooted; head = c.in-None.is }
+read_header-requires c =
+    record { statement = c.requires.statement; rooted = c.requires.reading.2.rooted; head = c.in-None.is }

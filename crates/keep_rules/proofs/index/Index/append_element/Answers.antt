@@ -22,7 +22,8 @@ use Rattle.keep_rules.proofs.index.Index.append_element.Goals as goal
 pub add_element-requires-clause-joins : goal.add_element-requires-clause-joins
 add_element-requires-clause-joins c =
     subst (AreUpTo 0 c.in_ok-array.array) (sym (c.deref.ensures.value ∙ c.in_ok-push_join.ensures))
-    (tables_ascend c.self.inside.nodes c.self.invariant.0 c.pass_keys.new.joins.items c.args.statement c.args.key (map string_bytes c.in-Some.leading.now) c.in_ok-at.at c.in_ok-at.ensures
+    (tables_ascend c.self.inside.nodes c.self.invariant.0 c.pass_keys.new.joins.items c.args.statement c.args.key
+    (map string_bytes c.in-Some.leading.now) c.in_ok-at.at c.in_ok-at.ensures
     c.as_str.result.now c.in_ok-array.array c.in_ok-array.ensures c.named-tables.result)
 
 pub returns-clause-told : goal.returns-clause-told
@@ -31,12 +32,20 @@ returns-clause-told c = λ d of numbers.
     let array = c.in_ok-array.array in
     let joins = c.pass_keys.new.joins.items in
     let leading : List (List ℕ) = map string_bytes c.in-Some.leading.now in
-    let many : c.in-Some-checked_add.part ≡ c.args.key + length leading = omega (arith, length-map c.in-Some.leading.now string_bytes) in
+    let many : c.in-Some-checked_add.part ≡ c.args.key + length leading =
+    omega (arith, length-map c.in-Some.leading.now string_bytes) in
     let same : node_infos old ≡ c.args.self.now = c.self.view_is in
-    let keys : leading ++ c.as_str.result.now ∷ [] ≡ map string_bytes c.args.keys.now = all_keys c.args.keys.now c.in-Some.leading.now c.in-Some.last.now c.as_str.result.now c.in-Some.ensures.cases.0 c.as_str.ensures.value in
+    let keys : leading ++ c.as_str.result.now ∷ [] ≡ map string_bytes c.args.keys.now =
+    all_keys c.args.keys.now c.in-Some.leading.now c.in-Some.last.now c.as_str.result.now c.in-Some.ensures.cases.0
+    c.as_str.ensures.value in
     on_ok_weaker c.add_element.result (λ is.
-    element_told old joins c.args.statement c.args.key leading c.in_ok-at.at c.in_ok-at.ensures c.as_str.result.now c.in-Some-checked_add.part many d (subst (IsIndexOf d) (sym same) of) numbers
-    c.self.invariant.0 array c.in_ok-array.ensures c.named-tables.result c.named-tables.ensures.info (node_infos c.add_element.new.nodes)
-    (is ∙ ap (λ (js : List Join). with_info (with_joins old js) (path_at old.trie array ++ index (length (children_of old.trie array)) ∷ []) (unnamed_info kind.Table (origin.Element c.args.statement))) (c.deref.ensures.value ∙ c.in_ok-push_join.ensures))
+    element_told old joins c.args.statement c.args.key leading c.in_ok-at.at c.in_ok-at.ensures c.as_str.result.now
+    c.in-Some-checked_add.part many d (subst (IsIndexOf d) (sym same) of) numbers
+    c.self.invariant.0 array c.in_ok-array.ensures c.named-tables.result c.named-tables.ensures.info
+    (node_infos c.add_element.new.nodes)
+    (is ∙ ap (λ (js : List Join).
+    with_info (with_joins old js) (path_at old.trie array ++ index (length (children_of old.trie array)) ∷ [])
+    (unnamed_info kind.Table (origin.Element c.args.statement))) (c.deref.ensures.value ∙ c.in_ok-push_join.ensures))
     ∙ ap (λ (ks : List (List ℕ)). with_mentions (node_infos old) (said_next d (element_header ks))) keys
-    ∙ ap (λ (t : NodeInfos). with_mentions t (said_next d (element_header (map string_bytes c.args.keys.now)))) same) c.add_element.ensures.added
+    ∙ ap (λ (t : NodeInfos). with_mentions t (said_next d (element_header (map string_bytes c.args.keys.now)))) same)
+    c.add_element.ensures.added

@@ -28,11 +28,17 @@ returns-clause-told c = λ d of numbers.
     let old = c.self.inside.nodes in
     let leading : List (List ℕ) = map string_bytes c.in-Some.leading.now in
     let passes : PassesKeys old c.deref.result.now c.args.statement c.args.key leading c.in_ok-at.at =
-    subst (λ (js : List Join). PassesKeys old js c.args.statement c.args.key leading c.in_ok-at.at) (sym c.deref.ensures.value) c.in_ok-at.ensures in
-    let many : c.in-Some-checked_add.part ≡ c.args.key + length leading = omega (arith, length-map c.in-Some.leading.now string_bytes) in
+    subst (λ (js : List Join). PassesKeys old js c.args.statement c.args.key leading c.in_ok-at.at)
+    (sym c.deref.ensures.value) c.in_ok-at.ensures in
+    let many : c.in-Some-checked_add.part ≡ c.args.key + length leading =
+    omega (arith, length-map c.in-Some.leading.now string_bytes) in
     let same : node_infos old ≡ c.args.self.now = c.self.view_is in
-    let keys : leading ++ c.as_str.result.now ∷ [] ≡ map string_bytes c.args.keys.now = all_keys c.args.keys.now c.in-Some.leading.now c.in-Some.last.now c.as_str.result.now c.in-Some.ensures.cases.0 c.as_str.ensures.value in
+    let keys : leading ++ c.as_str.result.now ∷ [] ≡ map string_bytes c.args.keys.now =
+    all_keys c.args.keys.now c.in-Some.leading.now c.in-Some.last.now c.as_str.result.now c.in-Some.ensures.cases.0
+    c.as_str.ensures.value in
     on_ok_weaker c.add_table.result (λ is.
-    table_told old c.deref.result.now c.args.statement c.args.key leading c.in_ok-at.at passes c.as_str.result.now c.in-Some-checked_add.part many d (subst (IsIndexOf d) (sym same) of) numbers (node_infos c.add_table.new.nodes) is
+    table_told old c.deref.result.now c.args.statement c.args.key leading c.in_ok-at.at passes c.as_str.result.now
+    c.in-Some-checked_add.part many d (subst (IsIndexOf d) (sym same) of) numbers (node_infos c.add_table.new.nodes) is
     ∙ ap (λ (ks : List (List ℕ)). with_mentions (node_infos old) (said_next d (header ks))) keys
-    ∙ ap (λ (t : NodeInfos). with_mentions t (said_next d (header (map string_bytes c.args.keys.now)))) same) c.add_table.ensures.added
+    ∙ ap (λ (t : NodeInfos). with_mentions t (said_next d (header (map string_bytes c.args.keys.now)))) same)
+    c.add_table.ensures.added

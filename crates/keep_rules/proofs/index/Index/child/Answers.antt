@@ -11,4 +11,5 @@ pub returns : goal.returns
 returns c =
     let same : number_of c.map.result ≡ c.child.result = search rules in
     finds c.args.self.now (path_numbered c.args.self.now c.args.id.0 ++ key c.args.text.now ∷ []) c.map.result
-    (same ∙ child_answer c.self.inside.nodes c.args.self.now c.args.id.0 (key c.args.text.now) c.child.result record { trie = c.self.invariant.0; view = c.self.view_is; nested = c.requires } c.child.ensures)
+    (same ∙ child_answer c.self.inside.nodes c.args.self.now c.args.id.0 (key c.args.text.now) c.child.result
+    record { trie = c.self.invariant.0; view = c.self.view_is; nested = c.requires } c.child.ensures)

@@ -10,12 +10,19 @@ use Rattle.keep_rules.proofs.QueryLemmas.{count_paths}
 use Rattle.keep_rules.proofs.index.Index.insert_line.Goals as goal
 
 pub insert_key-requires : goal.insert_key-requires
-insert_key-requires c = omega (arith, c.requires, count_paths c.self.inside.nodes c.args.self.now c.self.invariant.0 c.self.view_is)
+insert_key-requires c =
+    omega (arith, c.requires, count_paths c.self.inside.nodes c.args.self.now c.self.invariant.0 c.self.view_is)
 
 pub returns-clause-inserted : goal.returns-clause-inserted
 returns-clause-inserted c =
     OnOk-map c.insert_key.result _ _ (λ is at from.
-    let there = c.first_met_from-at.ensures at (subst (λ (x : NodeInfos). IsPlaceOf (numbers_of c.args.line) x.infos at) (sym c.self.view_is) from) in
+    let there =
+    c.first_met_from-at.ensures at (subst (λ (x : NodeInfos). IsPlaceOf (numbers_of c.args.line) x.infos at)
+    (sym c.self.view_is) from) in
     is
-    ∙ ap (λ n. with_node (node_infos c.self.inside.nodes) n (numbers_of c.args.line) (path_numbered (node_infos c.self.inside.nodes) c.args.parent.0 ++ key c.args.text.now ∷ []) c.args.kind) there
-    ∙ ap (λ (x : NodeInfos). with_node x at (numbers_of c.args.line) (path_numbered x c.args.parent.0 ++ key c.args.text.now ∷ []) c.args.kind) c.self.view_is) c.insert_key.ensures.inserted
+    ∙ ap (λ n.
+    with_node (node_infos c.self.inside.nodes) n (numbers_of c.args.line)
+    (path_numbered (node_infos c.self.inside.nodes) c.args.parent.0 ++ key c.args.text.now ∷ []) c.args.kind) there
+    ∙ ap (λ (x : NodeInfos).
+    with_node x at (numbers_of c.args.line) (path_numbered x c.args.parent.0 ++ key c.args.text.now ∷ []) c.args.kind)
+    c.self.view_is) c.insert_key.ensures.inserted

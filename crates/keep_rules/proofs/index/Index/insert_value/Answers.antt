@@ -17,18 +17,26 @@ use Rattle.keep_rules.proofs.QueryLemmas.{count_paths}
 use Rattle.keep_rules.proofs.index.Index.insert_value.Goals as goal
 
 pub insert_value-requires : goal.insert_value-requires
-insert_value-requires c = omega (arith, c.requires, count_paths c.self.inside.nodes c.args.self.now c.self.invariant.0 c.self.view_is)
+insert_value-requires c =
+    omega (arith, c.requires, count_paths c.self.inside.nodes c.args.self.now c.self.invariant.0 c.self.view_is)
 
 pub returns-clause-inserted : goal.returns-clause-inserted
 returns-clause-inserted c =
     let before : NodeInfos = node_infos c.self.inside.nodes in
     let after : NodeInfos → ℕ → Totals → NodeInfos → Kind → NodeInfos = λ t at bare inside kind.
-    with_value (with_node t at (numbers_of c.args.line) (path_numbered t c.args.parent.0 ++ key c.args.text.now ∷ []) kind) at 0 bare (totals_in c.args.new) inside kind in
+    with_value (with_node t at (numbers_of c.args.line) (path_numbered t c.args.parent.0 ++ key c.args.text.now ∷ [])
+    kind) at 0 bare (totals_in c.args.new) inside kind in
     OnOk-map c.insert_value.result _ _ (λ is at from v text.
-    let there = c.first_met_from-at.ensures at (subst (λ (x : NodeInfos). IsPlaceOf (numbers_of c.args.line) x.infos at) (sym c.self.view_is) from) in
+    let there =
+    c.first_met_from-at.ensures at (subst (λ (x : NodeInfos). IsPlaceOf (numbers_of c.args.line) x.infos at)
+    (sym c.self.view_is) from) in
     is
-    ∙ ap (λ (n : ℕ). after before n (totals_in c.in-Some.bare) (node_infos c.in_ok-inside.inside) c.kind-kind.result) there
+    ∙ ap (λ (n : ℕ). after before n (totals_in c.in-Some.bare) (node_infos c.in_ok-inside.inside) c.kind-kind.result)
+    there
     ∙ ap (λ (b : Totals). after before at b (node_infos c.in_ok-inside.inside) c.kind-kind.result) c.in-Some.ensures
-    ∙ ap (λ (t : NodeInfos). after before at (one_more (totals_in c.args.old)) t c.kind-kind.result) (c.in_ok-inside.ensures v text)
+    ∙ ap (λ (t : NodeInfos). after before at (one_more (totals_in c.args.old)) t c.kind-kind.result)
+    (c.in_ok-inside.ensures v text)
     ∙ ap (after before at (one_more (totals_in c.args.old)) (nodes_in_value v)) (c.kind-kind.ensures v text)
-    ∙ ap (λ (t : NodeInfos). after t at (one_more (totals_in c.args.old)) (nodes_in_value v) (fact_kind (body_fact v.body))) c.self.view_is) c.insert_value.ensures.inserted
+    ∙ ap (λ (t : NodeInfos).
+    after t at (one_more (totals_in c.args.old)) (nodes_in_value v) (fact_kind (body_fact v.body))) c.self.view_is)
+    c.insert_value.ensures.inserted

@@ -15,16 +15,19 @@ returns-in_err-nodes c =
     let p = err_from_is_err_and c.from_residual.result c.from_residual.ensures.1 in
     rw (p.1, p.2) (record {
       ok = λ d was. tt;
-      read = λ (d : Document) (was : WasRead c.args.text.now c.args.syntax.now d) (obeys : ObeysRules (marks (mentions_in d))).
+      read = λ (d : Document) (was : WasRead c.args.text.now c.args.syntax.now d)
+          (obeys : ObeysRules (marks (mentions_in d))).
           refused_memory d c.in_err-nodes.field-0.0 (c.in_err-nodes.ensures.faults d was) obeys;
       few = tt;
-      faults = λ (d : Document) (was : WasRead c.args.text.now c.args.syntax.now d). c.in_err-nodes.ensures.faults d was;
+      faults =
+          λ (d : Document) (was : WasRead c.args.text.now c.args.syntax.now d). c.in_err-nodes.ensures.faults d was;
     })
 
 pub returns : goal.returns
 returns c = record {
   ok = c.in_ok-nodes.ensures.ok;
   read = λ d was obeys. tt;
-  few = index_few c.args.text.now c.args.syntax.now c.requires.read.0 (node_infos c.in_ok-nodes.nodes) c.requires.read.1 (c.in_ok-nodes.ensures.ok c.requires.read.0 c.requires.read.1);
+  few = index_few c.args.text.now c.args.syntax.now c.requires.read.0 (node_infos c.in_ok-nodes.nodes) c.requires.read.1
+      (c.in_ok-nodes.ensures.ok c.requires.read.0 c.requires.read.1);
   faults = λ d was. tt;
 }

@@ -11,13 +11,16 @@ use Rattle.keep_rules.proofs.QueryLemmas.{count_paths}
 use Rattle.keep_rules.proofs.index.Index.remove_value.Goals as goal
 
 pub remove_value-requires : goal.remove_value-requires
-remove_value-requires c = omega (arith, c.requires, count_paths c.self.inside.nodes c.args.self.now c.self.invariant.0 c.self.view_is)
+remove_value-requires c =
+    omega (arith, c.requires, count_paths c.self.inside.nodes c.args.self.now c.self.invariant.0 c.self.view_is)
 
 pub returns-clause-removed : goal.returns-clause-removed
 returns-clause-removed c =
     let after : NodeInfos → ℕ → Totals → Kind → NodeInfos = λ t gone bare kind.
-    without_node (with_value t c.args.node.0 gone (totals_in c.args.old) bare root_infos kind) c.args.node.0 (numbers_of c.args.line) in
+    without_node (with_value t c.args.node.0 gone (totals_in c.args.old) bare root_infos kind) c.args.node.0
+    (numbers_of c.args.line) in
     OnOk-map c.remove_value.result _ _ (λ is gone kind are.
     is gone kind (subst (λ (t : NodeInfos). AreBelow t.paths c.args.node.0 gone) (sym c.self.view_is) are)
     ∙ ap (λ (b : Totals). after (node_infos c.self.inside.nodes) gone b kind) c.in-Some.ensures
-    ∙ ap (λ (t : NodeInfos). after t gone (one_more (totals_in c.args.new)) kind) c.self.view_is) c.remove_value.ensures.removed
+    ∙ ap (λ (t : NodeInfos). after t gone (one_more (totals_in c.args.new)) kind) c.self.view_is)
+    c.remove_value.ensures.removed

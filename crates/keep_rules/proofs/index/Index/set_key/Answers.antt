@@ -10,4 +10,5 @@ set_key-requires-clause-node c =
     )
 
 pub set_key-requires-clause-fresh : goal.set_key-requires-clause-fresh
-set_key-requires-clause-fresh c = fresh_seen c.self.inside.nodes c.args.self.now c.args.id.0 c.args.text.now c.self.view_is c.requires.fresh
+set_key-requires-clause-fresh c =
+    fresh_seen c.self.inside.nodes c.args.self.now c.args.id.0 c.args.text.now c.self.view_is c.requires.fresh

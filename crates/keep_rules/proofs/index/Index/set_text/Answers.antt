@@ -13,14 +13,17 @@ use Rattle.keep_rules.proofs.QueryLemmas.{count_paths}
 use Rattle.keep_rules.proofs.index.Index.set_text.Goals as goal
 
 pub replace_below-requires : goal.replace_below-requires
-replace_below-requires c = omega (arith, c.requires, count_paths c.self.inside.nodes c.args.self.now c.self.invariant.0 c.self.view_is)
+replace_below-requires c =
+    omega (arith, c.requires, count_paths c.self.inside.nodes c.args.self.now c.self.invariant.0 c.self.view_is)
 
 pub returns-clause-set : goal.returns-clause-set
 returns-clause-set c =
     let before : NodeInfos = node_infos c.self.inside.nodes in
-    let given : NodeInfos → ℕ → NodeInfos → Kind → NodeInfos = λ t gone. with_value t c.args.node.0 gone (totals_in c.args.old) (totals_in c.args.new) in
+    let given : NodeInfos → ℕ → NodeInfos → Kind → NodeInfos =
+    λ t gone. with_value t c.args.node.0 gone (totals_in c.args.old) (totals_in c.args.new) in
     OnOk-map c.replace_below.result _ _ (λ is v text gone are.
     is gone (subst (λ (t : NodeInfos). AreBelow t.paths c.args.node.0 gone) (sym c.self.view_is) are)
     ∙ ap (λ (t : NodeInfos). given before gone t c.in_ok-inside.kind) (c.in_ok-inside.ensures.nodes v text)
     ∙ ap (given before gone (nodes_in_value v)) (c.in_ok-inside.ensures.kind v text)
-    ∙ ap (λ (t : NodeInfos). given t gone (nodes_in_value v) (fact_kind (body_fact v.body))) c.self.view_is) c.replace_below.ensures.replaced
+    ∙ ap (λ (t : NodeInfos). given t gone (nodes_in_value v) (fact_kind (body_fact v.body))) c.self.view_is)
+    c.replace_below.ensures.replaced

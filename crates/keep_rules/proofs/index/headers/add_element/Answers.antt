@@ -11,14 +11,20 @@ use Rattle.keep_rules.proofs.HeaderJoinLemmas.{are_ascending, key_added, on_err,
 use Rattle.keep_rules.proofs.index.headers.add_element.Goals as goal
 
 pub join_and_add_item-requires-clause-joins : goal.join_and_add_item-requires-clause-joins
-join_and_add_item-requires-clause-joins c = are_ascending 0 c.args.array _ c.args.joins.now c.requires.joins c.requires.node.within
+join_and_add_item-requires-clause-joins c =
+    are_ascending 0 c.args.array _ c.args.joins.now c.requires.joins c.requires.node.within
 
 pub returns-then-is_err : goal.returns-then-is_err
 returns-then-is_err c =
-    let same = on_err c.join_and_add_item.result _ (sym c.is_err.ensures.value ∙ c.if-is_err.true) c.join_and_add_item.ensures.refused in
+    let same =
+    on_err c.join_and_add_item.result _ (sym c.is_err.ensures.value ∙ c.if-is_err.true)
+    c.join_and_add_item.ensures.refused in
     record {
       added = tt;
-      tree = (subst (λ (t : TrieInfos). IsTrie t.trie) (sym same) c.requires.node.trie, ap (λ (t : TrieInfos). holds_at t.trie 0) same);
+      tree = (
+        subst (λ (t : TrieInfos). IsTrie t.trie) (sym same) c.requires.node.trie,
+        ap (λ (t : TrieInfos). holds_at t.trie 0) same,
+      );
       refused = same;
     }
 
@@ -27,8 +33,12 @@ returns c =
     let old = c.args.nodes.now in
     let new = c.join_and_add_item.new.self in
     let path = path_at old.trie c.args.array ++ index (length (children_of old.trie c.args.array)) ∷ [] in
-    let grows = on_ok c.join_and_add_item.result _ (sym c.is_err.ensures.value ∙ c.if-is_err.false) c.join_and_add_item.ensures.grows in
-    let infos = on_ok c.join_and_add_item.result _ (sym c.is_err.ensures.value ∙ c.if-is_err.false) c.join_and_add_item.ensures.infos in
+    let grows =
+    on_ok c.join_and_add_item.result _ (sym c.is_err.ensures.value ∙ c.if-is_err.false)
+    c.join_and_add_item.ensures.grows in
+    let infos =
+    on_ok c.join_and_add_item.result _ (sym c.is_err.ensures.value ∙ c.if-is_err.false)
+    c.join_and_add_item.ensures.infos in
     record {
       added = key_added old new c.args.joins.now c.args.array path None by_key c.unnamed-element.result grows infos
           ∙ ap (λ (i : NodeInfo). with_info (with_joins old c.args.joins.now) path i) c.unnamed-element.ensures.info;

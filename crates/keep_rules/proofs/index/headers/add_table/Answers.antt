@@ -12,14 +12,20 @@ use Rattle.keep_rules.proofs.HeaderJoinLemmas.{are_ascending, key_added, on_err,
 use Rattle.keep_rules.proofs.index.headers.add_table.Goals as goal
 
 pub join_and_add_key-requires-clause-joins : goal.join_and_add_key-requires-clause-joins
-join_and_add_key-requires-clause-joins c = are_ascending 0 c.args.at _ c.args.joins.now c.requires.joins c.requires.node.within
+join_and_add_key-requires-clause-joins c =
+    are_ascending 0 c.args.at _ c.args.joins.now c.requires.joins c.requires.node.within
 
 pub returns-then-is_err : goal.returns-then-is_err
 returns-then-is_err c =
-    let same = on_err c.join_and_add_key.result _ (sym c.is_err.ensures.value ∙ c.if-is_err.true) c.join_and_add_key.ensures.refused in
+    let same =
+    on_err c.join_and_add_key.result _ (sym c.is_err.ensures.value ∙ c.if-is_err.true)
+    c.join_and_add_key.ensures.refused in
     record {
       added = tt;
-      tree = (subst (λ (t : TrieInfos). IsTrie t.trie) (sym same) c.requires.node.trie, ap (λ (t : TrieInfos). holds_at t.trie 0) same);
+      tree = (
+        subst (λ (t : TrieInfos). IsTrie t.trie) (sym same) c.requires.node.trie,
+        ap (λ (t : TrieInfos). holds_at t.trie 0) same,
+      );
       refused = same;
     }
 
@@ -28,8 +34,12 @@ returns c =
     let old = c.args.nodes.now in
     let new = c.join_and_add_key.new.self in
     let path = key_path old.trie c.args.at c.args.text.now in
-    let grows = on_ok c.join_and_add_key.result _ (sym c.is_err.ensures.value ∙ c.if-is_err.false) c.join_and_add_key.ensures.grows in
-    let infos = on_ok c.join_and_add_key.result _ (sym c.is_err.ensures.value ∙ c.if-is_err.false) c.join_and_add_key.ensures.infos in
+    let grows =
+    on_ok c.join_and_add_key.result _ (sym c.is_err.ensures.value ∙ c.if-is_err.false)
+    c.join_and_add_key.ensures.grows in
+    let infos =
+    on_ok c.join_and_add_key.result _ (sym c.is_err.ensures.value ∙ c.if-is_err.false)
+    c.join_and_add_key.ensures.infos in
     record {
       added = key_added old new c.args.joins.now c.args.at path (Some Define) by_key c.named-table.result grows infos
           ∙ ap (λ (i : NodeInfo). with_info (with_joins old c.args.joins.now) path i) c.named-table.ensures.info;

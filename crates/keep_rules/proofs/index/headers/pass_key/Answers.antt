@@ -7,17 +7,25 @@ use Rattle.keep_rules.proofs.index.headers.pass_key.Goals as goal
 
 pub returns-in_default-kind : goal.returns-in_default-kind
 returns-in_default-kind c = λ first keys before numbered.
-    subst (λ (js : List Join). PassesKeys c.args.nodes.now js c.args.statement first (keys ++ c.args.text.now ∷ []) c.in-Some.child) (sym c.in_ok-push_join.ensures)
-    (through_key c.args.nodes.now c.requires.trie c.args.joins.now.items c.args.statement first keys c.args.at before c.args.text.now c.args.part numbered c.in-Some.child c.in-Some.ensures.0 c.in-Some.ensures.1
+    subst (λ (js : List Join).
+    PassesKeys c.args.nodes.now js c.args.statement first (keys ++ c.args.text.now ∷ []) c.in-Some.child)
+    (sym c.in_ok-push_join.ensures)
+    (through_key c.args.nodes.now c.requires.trie c.args.joins.now.items c.args.statement first keys c.args.at before
+    c.args.text.now c.args.part numbered c.in-Some.child c.in-Some.ensures.0 c.in-Some.ensures.1
     c.named-through.result c.named-through.ensures.info
-    (other_node c.args.nodes.now c.requires.trie c.in-Some.child c.in-Some.ensures.0 c.info.result c.info.ensures c.in_default-kind.not-Tables))
+    (other_node c.args.nodes.now c.requires.trie c.in-Some.child c.in-Some.ensures.0 c.info.result c.info.ensures
+    c.in_default-kind.not-Tables))
 
 pub returns : goal.returns
 returns c = λ first keys before numbered.
     let last = c.in-Some-last_item.last in
-    subst (λ (js : List Join). PassesKeys c.args.nodes.now js c.args.statement first (keys ++ c.args.text.now ∷ []) last)
-    (sym (c.in_ok-push_join-3.ensures ∙ ap (λ (js : List Join). js ++ record { id = last; facts = c.passed.result } ∷ []) c.in_ok-push_join-2.ensures))
-    (past_key c.args.nodes.now c.requires.trie c.args.joins.now.items c.args.statement first keys c.args.at before c.args.text.now c.args.part numbered c.in-Some.child c.in-Some.ensures.0 c.in-Some.ensures.1
+    subst (λ (js : List Join).
+    PassesKeys c.args.nodes.now js c.args.statement first (keys ++ c.args.text.now ∷ []) last)
+    (sym (c.in_ok-push_join-3.ensures
+    ∙ ap (λ (js : List Join). js ++ record { id = last; facts = c.passed.result } ∷ []) c.in_ok-push_join-2.ensures))
+    (past_key c.args.nodes.now c.requires.trie c.args.joins.now.items c.args.statement first keys c.args.at before
+    c.args.text.now c.args.part numbered c.in-Some.child c.in-Some.ensures.0 c.in-Some.ensures.1
     last c.in-Some-last_item.ensures.some.0 c.in-Some-last_item.ensures.some.1
     c.named-past.result c.passed.result c.named-past.ensures.info c.passed.ensures
-    (tables_node c.args.nodes.now c.requires.trie c.in-Some.child c.in-Some.ensures.0 c.info.result c.info.ensures c.in-Tables.is))
+    (tables_node c.args.nodes.now c.requires.trie c.in-Some.child c.in-Some.ensures.0 c.info.result c.info.ensures
+    c.in-Tables.is))

@@ -18,11 +18,14 @@ loop-i-preserved c =
     let i = c.loop-i.i in
     let before : List (List ℕ) = map string_bytes (take i keys) in
     let many : length before ≡ i = keys_so_far keys i (omega arith) in
-    subst (λ (ks : List (List ℕ)). PassesKeys c.args.nodes.now c.pass_key.new.joins.items c.args.statement c.args.key ks c.in_ok-at.at)
-    (key_more keys i c.index-keys-i.result c.as_str.result.now c.loop-i-test.true c.index-keys-i.is c.as_str.ensures.value)
+    subst (λ (ks : List (List ℕ)).
+    PassesKeys c.args.nodes.now c.pass_key.new.joins.items c.args.statement c.args.key ks c.in_ok-at.at)
+    (key_more keys i c.index-keys-i.result c.as_str.result.now c.loop-i-test.true c.index-keys-i.is
+    c.as_str.ensures.value)
     (c.in_ok-at.ensures c.args.key before c.loop-i.invariant (omega (arith, many)))
 
 pub returns : goal.returns
 returns c =
-    subst (λ (ks : List (List ℕ)). PassesKeys c.args.nodes.now c.loop-i.joins.items c.args.statement c.args.key ks c.loop-i.at)
+    subst (λ (ks : List (List ℕ)).
+    PassesKeys c.args.nodes.now c.loop-i.joins.items c.args.statement c.args.key ks c.loop-i.at)
     (ap (map string_bytes) (take_all c.loop-i.i c.args.keys.now c.loop-i-test.false)) c.loop-i.invariant

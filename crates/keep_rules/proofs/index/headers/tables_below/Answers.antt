@@ -11,10 +11,13 @@ returns c =
     let array = c.in-Some.array in
     let last = c.in-Some-last_item.last in
     let here : path_at t.trie last ≡ path_at t.trie array ++ index (length (children_of t.trie array) - 1) ∷ [] =
-    ap (path_at t.trie) (sym c.if-item-last.false) ∙ c.in-Some-item.ensures.1 ∙ ap (λ (n : ℕ). path_at t.trie array ++ index (n - 1) ∷ []) c.child_count.ensures in
+    ap (path_at t.trie) (sym c.if-item-last.false) ∙ c.in-Some-item.ensures.1
+    ∙ ap (λ (n : ℕ). path_at t.trie array ++ index (n - 1) ∷ []) c.child_count.ensures in
     record {
       within = c.in-Some.ensures.0;
       here = c.in-Some.ensures.1;
       listed = c.in-Some-last_item.ensures.listed;
-      counted = tables_are t c.requires.trie array c.in-Some.ensures.0 c.info.result c.info.ensures c.in-Tables.is last c.in-Some-last_item.ensures.some.0 c.in-Some-last_item.ensures.some.1 here;
+      counted =
+          tables_are t c.requires.trie array c.in-Some.ensures.0 c.info.result c.info.ensures c.in-Tables.is last
+          c.in-Some-last_item.ensures.some.0 c.in-Some-last_item.ensures.some.1 here;
     }

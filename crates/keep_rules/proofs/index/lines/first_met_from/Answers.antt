@@ -6,14 +6,20 @@ use Rattle.keep_rules.proofs.index.lines.first_met_from.Goals as goal
 pub loop-low-preserved-then-is_met_from : goal.loop-low-preserved-then-is_met_from
 loop-low-preserved-then-is_met_from c = (
   omega (arith, c.loop-low.invariant.0),
-  λ at from. ((c.loop-low.invariant.1 at from).0, is_from _ (numbers_of c.args.line) at _ c.info.result from c.info.ensures (sym c.is_met_from.ensures ∙ c.if-is_met_from.true)),
+  λ at from. (
+    (c.loop-low.invariant.1 at from).0,
+    is_from _ (numbers_of c.args.line) at _ c.info.result from c.info.ensures
+        (sym c.is_met_from.ensures ∙ c.if-is_met_from.true),
+  ),
 )
 
 pub loop-low-preserved : goal.loop-low-preserved
 loop-low-preserved c = (
   c.loop-low.invariant.0,
   λ at from.
-      let past = is_before _ (numbers_of c.args.line) at _ c.info.result from c.info.ensures (sym c.is_met_from.ensures ∙ c.if-is_met_from.false) in
+      let past =
+      is_before _ (numbers_of c.args.line) at _ c.info.result from c.info.ensures
+      (sym c.is_met_from.ensures ∙ c.if-is_met_from.false) in
       (omega (arith, past), (c.loop-low.invariant.1 at from).1),
 )
 

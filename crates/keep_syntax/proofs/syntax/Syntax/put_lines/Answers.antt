@@ -9,4 +9,7 @@ pub replace_parts-requires-clause-after : goal.replace_parts-requires-clause-aft
 replace_parts-requires-clause-after c = may_move_after c.requires
 
 pub returns-clause-read : goal.returns-clause-read
-returns-clause-read c = λ d m is h. reread_is c.args.self.now c.in_ok-new.new c.replace_parts.new.parts c.replace.new.dest c.replace-2.new.dest is h c.in_ok-new.ensures c.in_ok-parts.ensures.done c.replace.ensures.after c.replace-2.ensures.after
+returns-clause-read c =
+    λ d m is h.
+    reread_is c.args.self.now c.in_ok-new.new c.replace_parts.new.parts c.replace.new.dest c.replace-2.new.dest is h
+    c.in_ok-new.ensures c.in_ok-parts.ensures.done c.replace.ensures.after c.replace-2.ensures.after

@@ -10,9 +10,20 @@ use Rattle.keep_syntax.proofs.syntax.Syntax.token_count.Goals as goal
 pub returns-clause-counted : goal.returns-clause-counted
 returns-clause-counted c = λ bytes.
     let f = flat c.args.self.now.parts in
-    omega (arith, c.stored_token_count.ensures, length-append f.kinds (leaf.End ∷ []), cut_count bytes (all_kinds f) f.starts)
+    omega (
+      arith,
+      c.stored_token_count.ensures,
+      length-append f.kinds (leaf.End ∷ []),
+      cut_count bytes (all_kinds f) f.starts,
+    )
 
 pub returns-clause-few : goal.returns-clause-few
 returns-clause-few c = λ profile limit bytes read.
     let f = flat c.args.self.now.parts in
-    omega (arith, c.stored_token_count.ensures, length-append f.kinds (leaf.End ∷ []), cut_count bytes (all_kinds f) f.starts, read_few profile limit bytes c.args.self.now read)
+    omega (
+      arith,
+      c.stored_token_count.ensures,
+      length-append f.kinds (leaf.End ∷ []),
+      cut_count bytes (all_kinds f) f.starts,
+      read_few profile limit bytes c.args.self.now read,
+    )

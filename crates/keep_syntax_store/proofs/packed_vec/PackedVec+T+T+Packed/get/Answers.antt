@@ -6,7 +6,13 @@ use Rattle.keep_syntax_store.proofs.EntryLaws.{entries_length, packed_at}
 use Rattle.keep_syntax_store.proofs.packed_vec.PackedVec+T+T+Packed.get.Goals as goal
 
 pub index-requires : goal.index-requires
-index-requires g c = omega (arith, c.requires, entries_length g.T.Entry.unpacked g.T.Entry.raise c.args.self.now, c.args.self.now.packed.ok.0)
+index-requires g c =
+    omega (
+      arith,
+      c.requires,
+      entries_length g.T.Entry.unpacked g.T.Entry.raise c.args.self.now,
+      c.args.self.now.packed.ok.0,
+    )
 
 pub returns-in-Some : goal.returns-in-Some
 returns-in-Some g c =

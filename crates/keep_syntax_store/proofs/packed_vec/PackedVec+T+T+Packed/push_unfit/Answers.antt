@@ -7,6 +7,8 @@ pub returns : goal.returns
 returns g c =
     let v = c.args.self.now in
     let x = c.lowered-stored.result in
-    pushed_unfit g.T.Entry.unpacked g.T.Entry.raise v c.push_reserved.new.self.items c.push.new.self c.stand_in.result c.len-number.result c.args.entry x (omega (arith, c.len-number.ensures, v.packed.ok.0))
+    pushed_unfit g.T.Entry.unpacked g.T.Entry.raise v c.push_reserved.new.self.items c.push.new.self c.stand_in.result
+    c.len-number.result c.args.entry x (omega (arith, c.len-number.ensures, v.packed.ok.0))
     (ap (λ m. raise_by g.T.Entry.raise m x) (sym c.block_move.ensures) ∙ c.lowered-stored.ensures)
-    c.in_ok-push.ensures.before c.in_ok-push.ensures.more (c.push_reserved.ensures.items ∙ ap (λ xs. xs ++ c.stand_in.result ∷ []) c.in_ok-reserve.ensures.items)
+    c.in_ok-push.ensures.before c.in_ok-push.ensures.more
+    (c.push_reserved.ensures.items ∙ ap (λ xs. xs ++ c.stand_in.result ∷ []) c.in_ok-reserve.ensures.items)

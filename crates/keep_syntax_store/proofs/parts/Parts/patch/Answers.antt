@@ -19,7 +19,15 @@ returns c =
     record {
       kinds = c.in_ok-replaced_kinds.ensures;
       starts = c.in_ok-replaced_places.ensures;
-      statements = subst (λ (o : Option (Patch PackedStatement)). IfSome o (λ d. Gives unpacked_statement raise_statement p.statements d f.statements)) c.in-Some.is (c.in_ok-statements.ensures statements_move);
-      keys = subst (λ (o : Option (Patch PackedKeyPart)). IfSome o (λ d. Gives unpacked_key_part raise_key p.keys d f.keys)) c.in-Some-2.is (c.in_ok-keys.ensures keys_move);
-      values = subst (λ (o : Option (Patch PackedValue)). IfSome o (λ d. Gives unpacked_value raise_value p.values d f.values)) c.in-Some-3.is (c.in_ok-values.ensures values_move);
+      statements =
+          subst (λ (o : Option (Patch PackedStatement)).
+          IfSome o (λ d. Gives unpacked_statement raise_statement p.statements d f.statements)) c.in-Some.is
+          (c.in_ok-statements.ensures statements_move);
+      keys = subst (λ (o : Option (Patch PackedKeyPart)).
+          IfSome o (λ d. Gives unpacked_key_part raise_key p.keys d f.keys)) c.in-Some-2.is
+          (c.in_ok-keys.ensures keys_move);
+      values =
+          subst (λ (o : Option (Patch PackedValue)).
+          IfSome o (λ d. Gives unpacked_value raise_value p.values d f.values)) c.in-Some-3.is
+          (c.in_ok-values.ensures values_move);
     }

@@ -5,5 +5,8 @@ use Rattle.keep_syntax_store.proofs.parts.Parts.set_end.Goals as goal
 
 pub returns : goal.returns
 returns c = record {
-  change = λ prefix info back len is. ap (λ (x : List ValueInfo). record (flat c.args.self.now) { values = x }) (c.set_end.ensures.change prefix info back len is);
+  change =
+      λ prefix info back len is.
+      ap (λ (x : List ValueInfo). record (flat c.args.self.now) { values = x })
+      (c.set_end.ensures.change prefix info back len is);
 }

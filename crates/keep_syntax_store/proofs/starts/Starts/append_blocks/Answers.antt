@@ -10,7 +10,8 @@ append_block-requires-clause-ascend c =
 
 pub append_block-requires-clause-last : goal.append_block-requires-clause-last
 append_block-requires-clause-last c =
-    past_last c.args.other.now c.runs.number c.next_block-next.result.0 c.runs.left c.next_block-next.result.1 c.runs.invariant.past c.next_block-next.ensures.past (omega (arith, c.next_block-next.ensures.further))
+    past_last c.args.other.now c.runs.number c.next_block-next.result.0 c.runs.left c.next_block-next.result.1
+    c.runs.invariant.past c.next_block-next.ensures.past (omega (arith, c.next_block-next.ensures.further))
 
 pub runs-preserved : goal.runs-preserved
 runs-preserved c =
@@ -20,6 +21,9 @@ runs-preserved c =
       begun = omega (arith, so_far.begun, c.next_block-next.ensures.further);
       bounded = omega (arith, c.next_block-next.ensures.within, c.runs-test.true);
       past = c.next_block-next.ensures.past;
-      stored = stored_further (moved c.args.old c.args.new) c.args.self.now c.runs.self c.push_milestone.new.self c.args.other.now (places_left c.runs.left) c.args.from c.runs.number next
-          so_far.begun (omega (arith, c.next_block-next.ensures.further)) so_far.past.left so_far.stored (c.push_milestone.ensures ∙ c.in_ok-append_block.ensures);
+      stored =
+          stored_further (moved c.args.old c.args.new) c.args.self.now c.runs.self c.push_milestone.new.self
+          c.args.other.now (places_left c.runs.left) c.args.from c.runs.number next
+          so_far.begun (omega (arith, c.next_block-next.ensures.further)) so_far.past.left so_far.stored
+          (c.push_milestone.ensures ∙ c.in_ok-append_block.ensures);
     }

@@ -11,13 +11,32 @@ runs-init c =
     let near = c.near_place-number in
     let all = c.args.self.now in
     record {
-      counted = omega (arith, count_after c.args.place all near.result.0 near.ensures.within near.ensures.before, ap (places_before c.args.place) near.ensures.past.left);
-      bounded = omega (arith, near.ensures.within, ap length near.ensures.past.left, length-drop near.result.0 all, c.len-count.ensures);
+      counted =
+          omega (
+            arith,
+            count_after c.args.place all near.result.0 near.ensures.within near.ensures.before,
+            ap (places_before c.args.place) near.ensures.past.left,
+          );
+      bounded =
+          omega (
+            arith,
+            near.ensures.within,
+            ap length near.ensures.past.left,
+            length-drop near.result.0 all,
+            c.len-count.ensures,
+          );
     }
 
 pub overflow_add-result : goal.overflow_add-result
 overflow_add-result c =
-    omega (arith, c.runs.invariant.bounded, ap length c.in-Some.ensures.first, c.count_before.ensures, before_within c.args.place (places_left c.advance.new.self), c.len-count.type_inv)
+    omega (
+      arith,
+      c.runs.invariant.bounded,
+      ap length c.in-Some.ensures.first,
+      c.count_before.ensures,
+      before_within c.args.place (places_left c.advance.new.self),
+      c.len-count.type_inv,
+    )
 
 pub overflow_add-number-in-Some : goal.overflow_add-number-in-Some
 overflow_add-number-in-Some c =
@@ -26,7 +45,8 @@ overflow_add-number-in-Some c =
       arith,
       c.runs.invariant.bounded,
       c.len-count.type_inv,
-      run_within c.in-Some.at c.advance.new.self.at (places_left c.runs.left) (places_left c.advance.new.self) near.steps.now (places_left c.take_near-near.new.self)
+      run_within c.in-Some.at c.advance.new.self.at (places_left c.runs.left) (places_left c.advance.new.self)
+          near.steps.now (places_left c.take_near-near.new.self)
           c.in-Some.ensures.first c.take_near-near.ensures.left near.near,
     )
 
@@ -42,12 +62,14 @@ runs-preserved c =
       counted = omega (
         arith,
         c.runs.invariant.counted,
-        run_counted c.args.place at there left after near.steps.now rest c.in-Some.ensures.first c.in-Some.ensures.at c.take_near-near.ensures.left near.near
+        run_counted c.args.place at there left after near.steps.now rest c.in-Some.ensures.first c.in-Some.ensures.at
+            c.take_near-near.ensures.left near.near
             (omega (arith, c.if-place-at.false)) (omega (arith, c.if-place-at-2.false, near.leads)),
       );
       bounded = omega (
         arith,
         c.runs.invariant.bounded,
-        run_within at there left after near.steps.now rest c.in-Some.ensures.first c.take_near-near.ensures.left near.near,
+        run_within at there left after near.steps.now rest c.in-Some.ensures.first c.take_near-near.ensures.left
+            near.near,
       );
     }

@@ -8,4 +8,5 @@ pub places-init : goal.places-init
 places-init c =
     let near = c.near_place in
     first_after_number c.args.place c.args.high c.args.self.now near.result.0 near.ensures.before
-    ∙ ap (first_from c.args.place c.args.high) (sym near.ensures.past.left ∙ sym (ap places_left c.into_iter-at-iterator.ensures.into_iter_gives))
+    ∙ ap (first_from c.args.place c.args.high)
+    (sym near.ensures.past.left ∙ sym (ap places_left c.into_iter-at-iterator.ensures.into_iter_gives))

@@ -5,4 +5,9 @@ use Rattle.keep_syntax_store.proofs.starts.Starts.len.Goals as goal
 pub returns : goal.returns
 returns c =
     let s = c.self.inside in
-    omega (arith, c.len.ensures, places_all 0 s.steps.items s.far.items c.self.invariant.stored.matched, ap length c.self.view_is)
+    omega (
+      arith,
+      c.len.ensures,
+      places_all 0 s.steps.items s.far.items c.self.invariant.stored.matched,
+      ap length c.self.view_is,
+    )

@@ -6,18 +6,24 @@ use Rattle.keep_syntax_store.proofs.MilestoneLaws.{milestones_stay}
 use Rattle.keep_syntax_store.proofs.starts.Starts.push.Goals as goal
 
 -- one place more is stored
-more : (c : goal.After-self-1) → IsMore c.self.inside.steps.items c.self.inside.far.items c.push.new.self.items c.self.inside.far.items c.args.at
+more : (c : goal.After-self-1)
+    → IsMore c.self.inside.steps.items c.self.inside.far.items c.push.new.self.items c.self.inside.far.items c.args.at
 more c =
     let old = c.self.inside in
     let near : c.args.at - old.last < FAR = omega (arith, c.if-at-last-2.false) in
-    near_more old.steps.items old.far.items c.push.new.self.items old.far.items old.last (c.args.at - old.last) c.args.at c.self.invariant.stored (λ is. omega (arith, near, is)) (omega (arith, c.if-at-last.false)) c.in_ok-push.ensures.items refl
+    near_more old.steps.items old.far.items c.push.new.self.items old.far.items old.last (c.args.at - old.last)
+    c.args.at c.self.invariant.stored (λ is. omega (arith, near, is)) (omega (arith, c.if-at-last.false))
+    c.in_ok-push.ensures.items refl
 
 pub invariant_of-self-2 : goal.invariant_of-self-2
 invariant_of-self-2 c =
     let old = c.self.inside in
     record {
-      stored = stored_more old.steps.items old.far.items c.push.new.self.items old.far.items old.last c.args.at c.self.invariant.stored (more c) (omega (arith, c.if-at-last.false)) (omega (arith, c.ranges.at.fits));
-      known = milestones_stay old.steps.items old.far.items ((c.args.at - old.last) ∷ []) [] c.push.new.self.items old.far.items old.milestones.items old.milestones.items c.self.invariant.stored.matched
+      stored =
+          stored_more old.steps.items old.far.items c.push.new.self.items old.far.items old.last c.args.at
+          c.self.invariant.stored (more c) (omega (arith, c.if-at-last.false)) (omega (arith, c.ranges.at.fits));
+      known = milestones_stay old.steps.items old.far.items ((c.args.at - old.last) ∷ []) [] c.push.new.self.items
+          old.far.items old.milestones.items old.milestones.items c.self.invariant.stored.matched
           c.in_ok-push.ensures.items (sym (append-nil old.far.items)) refl c.self.invariant.known;
     }
 

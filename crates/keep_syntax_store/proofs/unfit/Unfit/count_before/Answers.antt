@@ -13,5 +13,7 @@ returns g c =
     let end = c.self.inside.end in
     let h : Ascend 0 us end = subst (λ xs. Ascend 0 xs end) (sym c.as_slice.ensures.value) c.self.invariant in
     let parted = IsPartitionedBy-ltb (λ u. u.number) us n (ascend_order 0 us end h) in
-    let point = IsPartitionPoint-from_clause (λ u. ltb u.number n) us i c.partition_point.ensures.partitioned parted (λ a r q k. search rules) in
+    let point =
+    IsPartitionPoint-from_clause (λ u. ltb u.number n) us i c.partition_point.ensures.partitioned parted
+    (λ a r q k. search rules) in
     subst (λ xs. CountsBefore n xs i) (c.as_slice.ensures.value ∙ c.self.view_is) point

@@ -10,7 +10,8 @@ use Rattle.keep_syntax_store.proofs.RaiseLaws.{comma_written, comma_raised}
 use Rattle.keep_syntax_store.proofs.values.PackedVec+ValueInfo+PackedValue.set_comma.Goals as goal
 
 pub index_mut-value-requires : goal.index_mut-value-requires
-index_mut-value-requires c = omega (arith, c.requires, entries_length unpacked_value raise_value c.args.self.now, c.args.self.now.packed.ok.0)
+index_mut-value-requires c =
+    omega (arith, c.requires, entries_length unpacked_value raise_value c.args.self.now, c.args.self.now.packed.ok.0)
 
 pub returns-in-Some : goal.returns-in-Some
 returns-in-Some c = record {
@@ -19,12 +20,16 @@ returns-in-Some c = record {
       let v = c.in-Some.value in
       let n = c.args.number in
       let m = move_of vs.moves.items n in
-      let below : n < length vs.packed.items = omega (arith, c.requires, entries_length unpacked_value raise_value vs) in
-      let placed : raise_by raise_place m c.lowered-after.result ≡ c.args.at = ap (λ k. raise_by raise_place k c.lowered-after.result) (sym c.block_move.ensures) ∙ c.lowered-after.ensures in
+      let below : n < length vs.packed.items =
+      omega (arith, c.requires, entries_length unpacked_value raise_value vs) in
+      let placed : raise_by raise_place m c.lowered-after.result ≡ c.args.at =
+      ap (λ k. raise_by raise_place k c.lowered-after.result) (sym c.block_move.ensures) ∙ c.lowered-after.ensures in
       set_unfit unpacked_value raise_value vs c.set.new.self n (with_comma c.lowered-after.result v) c.set.ensures
       ∙ set_seam vs prefix info back n len is _
       ∙ ap (λ (w : ValueInfo). prefix ++ (w ∷ back)) (comma_raised m v c.lowered-after.result c.args.at placed)
-      ∙ ap (λ (w : ValueInfo). prefix ++ (with_comma c.args.at w ∷ back)) (value_seam vs prefix info back n len is _ (unfit_at unpacked_value raise_value vs n v below (sym c.find.ensures ∙ c.in-Some.is)));
+      ∙ ap (λ (w : ValueInfo). prefix ++ (with_comma c.args.at w ∷ back))
+      (value_seam vs prefix info back n len is _
+      (unfit_at unpacked_value raise_value vs n v below (sym c.find.ensures ∙ c.in-Some.is)));
 }
 
 pub returns-in_default : goal.returns-in_default
@@ -34,11 +39,15 @@ returns-in_default c = record {
       let s = c.index_mut-value.result.now in
       let n = c.args.number in
       let m = move_of vs.moves.items n in
-      let below : n < length vs.packed.items = omega (arith, c.requires, entries_length unpacked_value raise_value vs) in
+      let below : n < length vs.packed.items =
+      omega (arith, c.requires, entries_length unpacked_value raise_value vs) in
       let none : found n vs.unfit ≡ None = sym c.find.ensures ∙ c.in_default.is in
-      let placed : raise_by raise_place m c.lowered-after.result ≡ c.args.at = ap (λ k. raise_by raise_place k c.lowered-after.result) (sym c.block_move.ensures) ∙ c.lowered-after.ensures in
+      let placed : raise_by raise_place m c.lowered-after.result ≡ c.args.at =
+      ap (λ k. raise_by raise_place k c.lowered-after.result) (sym c.block_move.ensures) ∙ c.lowered-after.ensures in
       set_packed unpacked_value raise_value vs n _ none
       ∙ set_seam vs prefix info back n len is _
       ∙ ap (λ (v : ValueInfo). prefix ++ (v ∷ back)) (comma_written m s c.lowered-after.result c.args.at placed)
-      ∙ ap (λ (v : ValueInfo). prefix ++ (with_comma c.args.at v ∷ back)) (value_seam vs prefix info back n len is _ (packed_at unpacked_value raise_value vs n s below none c.index_mut-value.ensures.value));
+      ∙ ap (λ (v : ValueInfo). prefix ++ (with_comma c.args.at v ∷ back))
+      (value_seam vs prefix info back n len is _
+      (packed_at unpacked_value raise_value vs n s below none c.index_mut-value.ensures.value));
 }
