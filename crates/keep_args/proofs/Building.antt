@@ -1,4 +1,7 @@
--- The program's command, as it is built row by row and word by word.
+-- The program's command, as it is built row by row and word by word, and the row of the table that a name finds.
+--
+-- Theorems: `word_added`: with the rule of its next word, a subcommand has one word more; `row_added`: with one more
+-- subcommand, the command has one row more; `words_met`: the row of an edit has the words of its operation.
 use Rattle.std.proofs.Common.{◌≡◌, ◌∙◌, ◌+◌, ◌<◌, ℕ, zero, suc, Bool, true, false, refl, sym, ap, subst, arith, List}
 use Rattle.std.proofs.Common.{[], ◌∷◌, ◌++◌, map, length, take, drop, get_or, inl, inr, min, Bor, Option, None, Some}
 use Rattle.std.proofs.Common.{unwrap_or}

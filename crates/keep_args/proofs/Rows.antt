@@ -1,4 +1,7 @@
--- What the getters read, by rows.
+-- What the getters read, by rows: a subcommand with its rows, and the word of an argument.
+--
+-- Theorems: `rows_met`: the name and the rows, each read alone, are those of one subcommand; `word_met`: the first
+-- value of an argument, or an empty one, is its word in the rows.
 use Rattle.std.proofs.Common.{◌≡◌, ◌∙◌, List, [], Option, Some, None, option_map, unwrap_or, sym, ap, ap₂}
 use Rattle.std.specs.Prelude.{Box}
 use Rattle.clap.specs.Walk.{Row, Text, rows_of}

@@ -1,4 +1,7 @@
--- What the calls answer, where a part of it is passed up.
+-- A call that comes to a text answers by it: the buffer begins with the text, or the text has no room there.
+--
+-- Theorems: `written`: where the text comes first in the buffer, this is an answer with status 0; `without_room`: where
+-- the buffer is shorter than the text and is as it was, this is one with status 3.
 use Rattle.std.proofs.Common.{◌≡◌, ◌++◌, ◌<◌, ℕ, List, refl, subst, inl, inr, length, drop, Global, String}
 use Rattle.std.specs.Prelude.{Result, Ok, string_bytes}
 use Rattle.keep_edit.specs.Reading.{ProfiledText}

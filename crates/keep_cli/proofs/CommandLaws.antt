@@ -1,4 +1,7 @@
 -- What is answered where a command is made of one edit, or a fault is passed up.
+--
+-- Theorems: `one_edit`: what holds of each list of this edit alone holds of the command that applies it; `passed_up`: a
+-- fault is passed up as the call has it; `word_passed`: a word that can't be read is passed up as it is.
 use Rattle.std.proofs.Common.{◌≡◌, ◌∙◌, ◌⊎◌, ℕ, List, ◌∷◌, [], map, length, get_or, string_bytes, ap, inl, inr, subst}
 use Rattle.std.proofs.Common.{sym, arith, String, Vec, Global}
 use Rattle.std.specs.Prelude.{Result, Ok, Err, MatchResult, IsErrAnd}

@@ -1,4 +1,7 @@
 -- The words of an operation, and the edit that it makes of them.
+--
+-- Theorems: `words_are`: the first word, or the first and the second, are all words of the operation; `strict_edit`:
+-- the edit that it makes by `Strict` gives no value but of that grammar.
 use Rattle.std.proofs.Common.{◌≡◌, ◌≤◌, ℕ, List, [], ◌∷◌, length, refl, sym, subst, arith, unwrap_or}
 use Rattle.std.specs.Prelude.{slice_get}
 use Rattle.keep_types.specs.declared.leaf.Profile.TheVariants.{Strict}

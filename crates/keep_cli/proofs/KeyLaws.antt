@@ -1,4 +1,7 @@
 -- The keys of a path, taken one by one.
+--
+-- Theorems: `one_more`: where the steps so far are keys and a key follows, they are keys with it; `no_index`: a path of
+-- keys has a key at each place; `no_keys`: a text whose only path has an index is that of no keys.
 use Rattle.std.proofs.Common.{◌≡◌, ◌∙◌, ◌+◌, ◌<◌, ℕ, zero, suc, List, [], ◌∷◌, ◌++◌, map, length, take, get_or, Option}
 use Rattle.std.proofs.Common.{Some, None, refl, ap, arith, subst, sym, Vec, Global, String}
 use Rattle.std.specs.Prelude.{slice_get}

@@ -1,4 +1,15 @@
 -- The edits of a script, element by element.
+--
+-- The elements are read in order. While each states an edit, the edits so far are those of the elements so far
+-- (`entries_after`), and as many (`many_after`). An element that states none is the first such one, since those before
+-- it state theirs (`first_fault`). So its fault is that of the whole script, unless memory runs out (`stops`). The
+-- words of an element are the texts at `path` and at the key of the second word, if its op has one (`texts_ok`). All
+-- this is about a tree of the script's text in Strict, and what holds of the tree holds of the text (`script_stated`).
+-- A script for the profile Strict has values of Strict alone (`strict_script`), since each of its edits has
+-- (`strict_edit`).
+--
+-- Theorems: `script_stated`: the text is a script with these edits, or the fault says why it is none; `stops`: the
+-- fault is that of the first element that states no edit; `strict_script`: the values of a script for Strict.
 use Rattle.std.proofs.Common.{◌≡◌, ◌+◌, ◌∙◌, ◌⊎◌, ℕ, suc, List, [], ◌∷◌, ◌++◌, length, Option, None, Some, ◌<◌, codes}
 use Rattle.std.proofs.Common.{string_bytes, refl, sym, ap, subst, inl, inr, arith, Vec, Global}
 use Rattle.std.specs.Prelude.{Result, Ok, Err, IfOk, IsErrAnd, MatchResult}

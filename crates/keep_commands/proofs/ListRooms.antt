@@ -1,4 +1,8 @@
 -- Lines that are composed twice: first to find the longest, and then in the room that was taken.
+--
+-- Theorems: `fit_all`: once no further line is left, each fits the room that was found; `line_added`: the path of an
+-- entry, and what comes after it, are its line; `no_lack`: with room for the line, there is room for what comes after
+-- the path.
 use Rattle.std.proofs.Common.{◌≡◌, ◌++◌, ◌+◌, ◌<◌, ◌≤◌, ℕ, List, [], ◌∷◌, length, take, sym, ap, subst, ◌∙◌, ◌⊎◌}
 use Rattle.std.proofs.Common.{append_assoc, refl, length-append, arith, append-nil, Option, Some, None, inl, inr, true}
 use Rattle.std.proofs.Common.{false, rules}

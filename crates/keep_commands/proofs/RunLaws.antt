@@ -1,4 +1,7 @@
 -- What a run comes to, by the bytes that were read and the answer to them.
+--
+-- Theorems: `answer_stops`: where the answer is a fault and nothing is written, the run stops with it;
+-- `answer_written`: else the bytes of the answer are written, or a prefix of them.
 use Rattle.std.proofs.Common.{◌≡◌, ◌⊎◌, ℕ, Bool, List, take, Option, inl, inr, sym, subst, arith}
 use Rattle.std.specs.Prelude.{Result, Ok, Err, MatchResult, IsErrAnd}
 use Rattle.std.specs.Io.KnownBytes.{Appends, Keeps}

@@ -1,4 +1,8 @@
 -- Bytes that are written one piece after another.
+--
+-- Theorems: `third_written`: two pieces are written, and then a third one or a prefix of it, and so is the whole;
+-- `second_stops`: where writing stops in the second piece, it stops so in the whole; `stops_up`: a fault of writing is
+-- passed up as it is.
 use Rattle.std.proofs.Common.{◌≡◌, ◌+◌, ℕ, Bool, List, ◌++◌, take, length, length-append, arith, subst, sym, Option}
 use Rattle.std.proofs.Math.Seq.{take-append-add}
 use Rattle.std.proofs.lemmas.List.{take-append-le}

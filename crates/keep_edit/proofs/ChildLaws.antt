@@ -1,4 +1,7 @@
 -- How many nodes are one step below a path, asked of the index.
+--
+-- Theorems: `all_children`: where the index finds a node, it counts all that are one step below; `no_children`: where
+-- it finds none, there is no count.
 use Rattle.std.proofs.Common.{◌≡◌, ℕ, true, false, List, length, refl, sym, ap, ap₂, ◌∙◌, Option, Some, None}
 use Rattle.keep_syntax.specs.declared.syntax.Syntax.{Syntax}
 use Rattle.keep_syntax.specs.Tree.{Document}

@@ -1,4 +1,7 @@
 -- How many tokens and nodes a document has.
+--
+-- Theorems: `counts_are`: the numbers that syntax and index have are those of the document; `counts_few`: each is at
+-- most one more than the text has bytes.
 use Rattle.std.proofs.Common.{◌≡◌, ◌≤◌, ◌+◌, ℕ, length, ◌∙◌, ap, arith}
 use Rattle.std.proofs.lemmas.List.{length-map}
 use Rattle.keep_syntax.specs.declared.syntax.Syntax.{Syntax}

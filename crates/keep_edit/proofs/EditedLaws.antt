@@ -1,4 +1,6 @@
--- What an edit answers, by its plan: the document after it, or that text alone.
+-- What an edit answers, by its plan: the document after it, that text alone, or what is written.
+--
+-- Theorems: `done_of`: the document after it; `report_of`: the text alone; `written_of`: what is written.
 use Rattle.std.proofs.Common.{◌≡◌, List, ℕ, sym, subst, refl, Option, Some, None, Result, Ok, Err, String, Global}
 use Rattle.std.specs.Prelude.{MatchResult, string_bytes}
 use Rattle.keep_syntax.specs.Tree.{Document}

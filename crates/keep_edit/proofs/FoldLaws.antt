@@ -1,9 +1,11 @@
 -- Edits that are made one after another: the fold of those before a number, and one more.
 --
 -- The definitions fold over a list of edits as they are stated; the code makes those that it is given, in order. So the
--- list that is
--- given states the edits one by one, and the fold up to a number goes on by one edit: it is made, or the list stops
--- there.
+-- list that is given states the edits one by one, and the fold up to a number goes on by one edit: it is made, or the
+-- list stops there.
+--
+-- Theorems: `one_made`: if the edits before a number are made and its own is, then those up to it are; `one_stopped`:
+-- if its own is refused, or memory runs out, the list stops there.
 use Rattle.std.proofs.Common.{◌≡◌, ◌∙◌, ◌+◌, ◌-◌, ◌<◌, ◌++◌, ℕ, zero, suc, true, List, [], ◌∷◌, length, take, get_or}
 use Rattle.std.proofs.Common.{Option, Some, None, refl, sym, ap, subst, inl, inr, arith, length-take}
 use Rattle.std.proofs.Math.Nat.{add-zero}

@@ -1,4 +1,6 @@
 -- The value of a line, by its number in the syntax: its bytes alone are its text.
+--
+-- Theorem: `line_value_read`.
 use Rattle.std.proofs.Common.{◌≡◌, ℕ, List, sym, ap, subst, ◌∙◌, arith, Some, slice_get, true}
 use Rattle.std.specs.Prelude.{OnOk, Result, Ok, Err, is_ok}
 use Rattle.keep_types.specs.declared.leaf.Profile.{Profile}

@@ -1,9 +1,11 @@
 -- The entries of a document: node by node, each with its path and what is there.
 --
 -- The definitions list the entries of the nodes but the root in the order of first meeting, and the index answers node
--- by node by
--- its number. So the entry of a number is that of the next node, and a list that has the first of them has all in the
--- end.
+-- by node by its number. So the entry of a number is that of the next node, and a list that has the first of them has
+-- all in the end.
+--
+-- Theorems: `entries_all`: a list that has the entries of all nodes is that of the definitions; `entry_added`: the path
+-- and the kind that are answered for a number are those of its entry.
 use Rattle.std.proofs.Common.{◌≡◌, ℕ, ◌+◌, ◌<◌, ◌≤◌, List, [], ◌∷◌, ◌++◌, length, length-drop, map, take, drop, get_or}
 use Rattle.std.proofs.Common.{refl, sym, ap, subst, ◌∙◌, arith, false, true, Option, Some, None, String, Global}
 use Rattle.std.specs.Prelude.{slice_get, IfSome, IsErr, OnOk, Result, Ok, Err}

@@ -1,5 +1,7 @@
--- An edit that is written into a text: where its bytes begin and end there, and that the old bytes bring back the old
--- text.
+-- An edit that is written into a text: its bytes begin there at a boundary of characters, the old bytes bring back the
+-- old text, and the splice is that of the place.
+--
+-- Theorems: `starts_there`: where the bytes begin; `is_back`: the old text is brought back; `splice_is`: the splice.
 use Rattle.std.proofs.Common.{◌≡◌, ℕ, ◌+◌, ◌-◌, ◌≤◌, List, ◌++◌, length, take, drop, refl, sym, ap, ap₂, subst, ◌∙◌}
 use Rattle.std.proofs.Common.{arith, append_assoc, IsUtf8, IsCharBoundary}
 use Rattle.std.specs.Prelude.{String, string_bytes, slice_range}

@@ -1,4 +1,7 @@
 -- What is at a path: its kind, and the text of its value.
+--
+-- Theorems: `its_kind`: the kind that is stated of a node is the one at its path; `got`: the bytes of the value that is
+-- there are its text; `not_got`: the fault where there is no value.
 use Rattle.std.proofs.Common.{◌≡◌, ℕ, Bool, true, false, List, refl, sym, ap, subst, ◌∙◌, Option, Some, None, Result}
 use Rattle.std.proofs.Common.{Ok, Err}
 use Rattle.keep_types.specs.declared.leaf.Profile.{Profile}

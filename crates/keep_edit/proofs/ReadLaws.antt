@@ -1,4 +1,7 @@
 -- Reading a document: what is known of it then, and why it is refused.
+--
+-- Theorems: `read_once`: the syntax is that of the one tree that the text has; `holds`: what is known of a document
+-- that is read; `not_utf8`: bytes that are not in UTF-8 are refused.
 use Rattle.std.proofs.Common.{◌≡◌, ℕ, List, Err, ap, refl, sym, subst, ◌∙◌, inl, inr}
 use Rattle.std.specs.Prelude.{IsUtf8}
 use Rattle.std.specs.Str.{IsValidUpTo}

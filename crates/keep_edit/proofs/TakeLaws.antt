@@ -1,8 +1,11 @@
 -- The syntax of the text that an edit gives, by the touched lines alone.
 --
 -- The law of the touched lines gives a document m of the new lines that can replace the touched ones (`can`). With
--- these replaced
--- the document is the one after the edit, so the syntax that is reread for it is that of the new text (`reread_is`).
+-- these replaced the document is the one after the edit, so the syntax that is reread for it is that of the new text
+-- (`reread_is`).
+--
+-- Theorems: `is_reread`: what is reread is the syntax of the new text; `holds_after`: with an index of the new
+-- document, text, syntax and index are of one tree.
 use Rattle.std.proofs.Common.{◌≡◌, ◌∙◌, ℕ, ◌-◌, ◌≤◌, ◌⊎◌, List, length, sym, ap, subst, arith, IsUtf8, Option, Some}
 use Rattle.std.proofs.Common.{None}
 use Rattle.std.specs.Prelude.{IfSome, OnOk, Result, Ok, Err, slice_range}

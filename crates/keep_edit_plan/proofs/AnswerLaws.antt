@@ -1,4 +1,7 @@
 -- What a document answers is known of its one tree.
+--
+-- Theorems: `seen`: what is known of a document is known of the text that it is seen as; `tree_is`: a text has one
+-- tree; `stated_is`: the index states what that tree has.
 use Rattle.std.proofs.Common.{◌≡◌, ℕ, List, ◌∙◌, ap, subst}
 use Rattle.keep_types.specs.declared.leaf.Profile.{Profile}
 use Rattle.keep_syntax.specs.declared.syntax.Syntax.{Syntax}

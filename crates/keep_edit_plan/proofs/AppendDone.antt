@@ -1,4 +1,15 @@
 -- Appending a header: when it is refused, and where it is written.
+--
+-- A header is refused for the conflict that `conflict_from` finds as it goes along the keys: `table_met` and
+-- `element_met` say so of the two kinds of header, in a document that obeys the rules (`met`). The definitions put a
+-- header at the end of the text (`append_place`). The text of its tokens is that of the encoded keys with dots between
+-- them (`keys_written`), in brackets (`header_written`). So what is written at the end is what `header_at_end` makes of
+-- the text, the document's newline and the header (`placed`). The code has bytes that equal that text and that newline,
+-- and so it writes the same (`written_as`, `given_as`). An append that is not refused is lawful, since its keys are
+-- UTF-8 (`keys_utf8`).
+--
+-- Theorems: `refused_as`: when an append is refused; `done_there`: where it is written if it is not; `law_of`: it is
+-- lawful then.
 use Rattle.std.proofs.Common.{◌≡◌, ℕ, true, false, ◌==◌, List, [], ◌∷◌, ◌++◌, length, map, refl, sym, ap, ◌∙◌, arith}
 use Rattle.std.proofs.Common.{None, Ok}
 use Rattle.std.specs.Prelude.{String, string_bytes, codes, IsUtf8}

@@ -1,4 +1,7 @@
--- Appending headers: what is written, and the law that comes after it.
+-- Appending headers: the last byte says if the text ends in a newline, and the keys are written one by one.
+--
+-- Theorems: `by_last`: the last byte; `one_key_more`: the keys so far, and the next one; `all_written`: in the end all
+-- keys are written.
 use Rattle.std.proofs.Common.{◌≡◌, ℕ, suc, Bool, ◌+◌, ◌-◌, ◌<◌, ◌≤◌, false, ◌==◌, List, [], ◌∷◌, ◌++◌, length, take}
 use Rattle.std.proofs.Common.{slice_get, refl, sym, ap, ◌∙◌, append_assoc, arith, Option, Some, None}
 use Rattle.std.specs.Prelude.{String, string_bytes, codes, slice_index_or}

@@ -1,6 +1,13 @@
 -- Where `insert` writes in brackets, by the spot that is found for it.
 --
--- Theorems: `item_placed`, `braces_placed`.
+-- A spot in brackets names a value by its number, and the place there is before the value, after it, or in its empty
+-- brackets. Once the value of the number is found, the spot has a place (`at_number`). That this is the edit's place is
+-- what laws of keep_edit_spec say. Of an item it is `item_law`: no keys are written, since no step of the path is left
+-- (`no_keys`). Of a keyval in an inline table it is `inline_placed`: the braces are empty (`empty_placed`), or it comes
+-- after their last keyval (`last_placed`). Of a keyval in a table that dots continue to, in braces, it is
+-- `dots_placed`: it comes after the keyval that continues to it last, with the keys from the base on (`dotted_placed`).
+--
+-- Theorems: `item_placed`: an item of an array; `braces_placed`: a keyval in braces.
 use Rattle.std.proofs.Common.{◌≡◌, ℕ, suc, true, List, [], ◌∷◌, ◌++◌, length, drop, take, slice_get, refl, sym, ap}
 use Rattle.std.proofs.Common.{subst, ◌∙◌, Some, None, inl, inr}
 use Rattle.std.specs.Prelude.{IsUtf8, ⊤}

@@ -1,4 +1,8 @@
 -- The plan of an edit: from where it is done, from its law, and from what it changes of the index.
+--
+-- Theorems: `planned`: a plan for the span and the bytes that replace it is one of the edit; `of_plan`: what is written
+-- is of an edit of the document, and so is the change of the index; `editable`: a document that was read is one of
+-- which the laws speak.
 use Rattle.std.proofs.Common.{◌≡◌, ℕ, List, ◌++◌, take, drop, length, sym, ap, ap₂, subst, ◌∙◌, arith, Option, Some}
 use Rattle.std.proofs.Common.{None, Result, Ok, Err, refl}
 use Rattle.std.specs.Prelude.{IsUtf8, IfOk, IfSome, is_some, string_bytes, true}

@@ -1,4 +1,6 @@
 -- What holds of the edit of a value's text holds of the edit that is given.
+--
+-- Theorem: `by_value`.
 use Rattle.std.proofs.Common.{◌≡◌, ℕ, List, sym, subst}
 use Rattle.keep_syntax.specs.Tree.{Value}
 use Rattle.keep_path.specs.Path.{Part}

@@ -1,4 +1,15 @@
 -- The refusals of an insert, in their order, and where it goes if none holds.
+--
+-- A refusal is the first of some tests that holds. Which tests there are depends on whether the path names an item of
+-- an array: those of an item are in `item_refusal`, those of a keyval in `keyval_refusal`. With the answers of the
+-- tests that need no value, either only the tests of the value are left, or the fault is known whatever the value is.
+-- An item has a number up to the count of items (`item_aimed`) or a larger one (`item_unaimed`), and the holder, the
+-- last node on the way to the path, is its array (`item_of`). Of a keyval, the path names a node already
+-- (`exists_there`), or an index is left in it past the holder (`no_index_there`), or the holder is a table
+-- (`keyval_aimed`) or is none (`keyval_unaimed`).
+--
+-- Theorems: `item_aimed`: where an item goes, and that its value alone can be refused; `keyval_aimed`: the same of a
+-- keyval.
 use Rattle.std.proofs.Common.{◌≡◌, ℕ, suc, ◌-◌, ◌<◌, Bool, true, false, not, ◌&&◌, List, [], ◌∷◌, length, take, drop}
 use Rattle.std.proofs.Common.{refl, sym, ap, subst, ◌∙◌, arith, Option, Some, None, Ok, Err, inl, inr}
 use Rattle.std.specs.Prelude.{nat_lt}

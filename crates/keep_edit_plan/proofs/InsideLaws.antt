@@ -1,12 +1,10 @@
 -- An edit inside the value of a line changes of all that the index tells the nodes in that value, and the numbers of
--- what
--- comes after it.
+-- what comes after it.
 --
 -- The law of such edits gives the document with another value at the path of the line's key, through which the edit's
 -- path goes (`nested_value`). The code finds the first prefix of the path that has a value: the prefix that is the
--- key's
--- path has one (`line_value_number`), and no shorter one has (`first_is_line_value`). What is known of the nodes of the
--- new document follows as where `set` puts another value (`value_gives_nodes`, `value_is_nested`).
+-- key's path has one (`line_value_number`), and no shorter one has (`first_is_line_value`). What is known of the nodes
+-- of the new document follows as where `set` puts another value (`value_gives_nodes`, `value_is_nested`).
 --
 -- Theorems: `none_yet`, `none_here` and `inside_changed`; `inside_by_law`: an edit that is such an act is one inside.
 use Rattle.std.proofs.Common.{◌≡◌, ℕ, ◌+◌, ◌<◌, List, ◌++◌, length, take, drop, slice_get, refl, sym, ap, subst, ◌∙◌}

@@ -1,10 +1,13 @@
 -- `rename` puts a key in place of another: of all that the index tells the paths at and under one node change.
 --
--- The law of the edit says so of all that is numbered (`nodes_renamed`). So at a changed path the same is told as at
--- the old one
--- (`told_there`), and the list of what is told of the nodes is the same but for the paths (`told_moved`). The nodes are
--- nested as
--- before (`nested_moved`).
+-- The law of the edit says so of all that is numbered (`nodes_renamed`): it is the same, at changed paths. What is
+-- known of a node depends on its mentions, but not on their paths (`info_moved`). Different paths stay different, so a
+-- changed path has the mentions that the old one had (`there_moved`), and what is known there is what was known at the
+-- old one (`told_there`). So what is known of all nodes, as a list, is the same but for the paths (`told_moved`). The
+-- nodes are nested as before (`nested_moved`). No node has the new path yet (`no_number`), so the key can be changed in
+-- the index.
+--
+-- Theorem: `key_changed`.
 use Rattle.std.proofs.Common.{◌≡◌, ℕ, ◌+◌, Bool, Bor, true, false, cond, ◌||◌, List, [], ◌∷◌, map, refl, sym, ap, ap₂}
 use Rattle.std.proofs.Common.{subst, ◌∙◌, Option, Some, None, IsUtf8}
 use Rattle.std.specs.List.{list_any, count_by}

@@ -1,4 +1,7 @@
 -- The steps of a path that an insert writes are keys.
+--
+-- Theorems: `base_keys`: where no step after a prefix is an index, none is from the base on from which dots lead to the
+-- prefix; `keys_utf8`: the keys of a path are in UTF-8.
 use Rattle.std.proofs.Common.{◌≡◌, ℕ, zero, suc, ◌+◌, ◌-◌, ◌<◌, ◌≤◌, Bool, true, false, ◌||◌, List, [], ◌∷◌, ◌++◌}
 use Rattle.std.proofs.Common.{length, take, drop, slice_get, refl, sym, ap, ◌∙◌, arith, Some}
 use Rattle.std.specs.Prelude.{IsUtf8}

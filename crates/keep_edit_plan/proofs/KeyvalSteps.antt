@@ -1,4 +1,8 @@
 -- Step by step: the indexes of a path, and the last keyval of braces.
+--
+-- Theorems: `index_here`: there is an index from a step on exactly if the step is one or a later one is;
+-- `no_index_left`: past the last step there is none; `keyval_own`: a keyval of the braces themselves is the last so
+-- far.
 use Rattle.std.proofs.Common.{◌≡◌, ℕ, zero, suc, ◌≤◌, ◌<◌, ◌==◌, Bool, true, false, ◌||◌, List, [], ◌∷◌, length, drop}
 use Rattle.std.proofs.Common.{slice_get, refl, sym, ap, ◌∙◌, arith, Option, Some, None}
 use Rattle.std.specs.Prelude.{nat_lt, if◌then◌else◌}

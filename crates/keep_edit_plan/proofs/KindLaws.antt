@@ -1,8 +1,13 @@
 -- `set` puts a scalar in place of a value below which no node is: of all that the index tells one kind changes.
 --
--- The law of the edit says so of each node by its path (`kind_set`). Here it is said of the list of what is told of the
--- nodes
--- (`told_again`), and the nodes are nested as before (`nested_again`).
+-- The law of the edit says so of each node by its path (`kind_set`): the one at the path has another kind, and all
+-- others are as before. It needs that nothing is in the new value, as nothing is in a scalar (`no_entries`), and that
+-- no node is below the path, since none is counted in the index (`nothing_below`). For the list of the nodes this means
+-- that one entry has another kind, and all else stays, since a path has one number in it (`distinct`, `told_infos`,
+-- `told_again`). The nodes are nested as before, since their paths, their roles and the headers of elements are
+-- (`nested_again`).
+--
+-- Theorem: `kind_changed`.
 use Rattle.std.proofs.Common.{◌≡◌, ◌≢◌, ℕ, ◌-◌, ◌<◌, ◌≤◌, false, List, [], ◌∷◌, ◌++◌, length, get_or, map, refl, sym}
 use Rattle.std.proofs.Common.{ap, ap₂, subst, ◌∙◌, arith, inl, inr, Option, Some, None, slice_get, set}
 use Rattle.std.specs.Prelude.{fold, AllPairs}

@@ -1,8 +1,7 @@
 -- An insert of one key at the end of a body gives the index one node more: that of the line.
 --
 -- A document with one line more has it after the statements that are counted for its numbers. So its node comes where
--- the
--- facts say that the first node is met after the line (`line_added`), and the nodes are nested as the headers say.
+-- the facts say that the first node is met after the line (`line_added`), and the nodes are nested as the headers say.
 -- The law of the edit says that the new document is such a one, if nothing is in the value.
 --
 -- Theorem: `line_changed`.

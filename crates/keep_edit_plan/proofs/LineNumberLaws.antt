@@ -2,8 +2,7 @@
 -- before it.
 --
 -- They are counted along the statements (`count_from`), and the syntax has them at the next statement, or, of values,
--- at
--- the next that has one, since a header has no value (`content_next`). After the last statement they are all.
+-- at the next that has one, since a header has no value (`content_next`). After the last statement they are all.
 --
 -- Theorem: `numbers_counted`.
 use Rattle.std.proofs.Common.{◌≡◌, ℕ, zero, suc, ◌+◌, ◌≤◌, ◌<◌, List, [], ◌∷◌, ◌++◌, length, map, take, drop, slice_get}

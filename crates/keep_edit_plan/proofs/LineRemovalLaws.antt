@@ -4,8 +4,7 @@
 -- The law of the edit says that the old document has one line more, after the statements that are counted for its
 -- numbers (`line_of_value`, `line_numbers`). So its node is the one that is met after those that they tell of, and a
 -- path has one number (`line_less`). The nodes that are left are nested as the headers say, since none of them was
--- below
--- the line's (`nested_less`).
+-- below the line's (`nested_less`).
 --
 -- Theorem: `line_removed`.
 use Rattle.std.proofs.Common.{◌≡◌, ℕ, ◌<◌, ◌≤◌, false, List, [], length, get_or, map, sym, ap, subst, ◌∙◌, arith, None}

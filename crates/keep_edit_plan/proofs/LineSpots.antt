@@ -1,7 +1,6 @@
 -- Where lines are put in, the place of `insert` is that of the spot, and it lies between characters. What the code
--- requires of the
--- spot holds: its header is one of the statements, its keyval's line has an end, and the steps that are written are
--- keys.
+-- requires of the spot holds: its header is one of the statements, its keyval's line has an end, and the steps that are
+-- written are keys.
 --
 -- Theorems: `body_ready`, `line_ready`, `section_ready`.
 use Rattle.std.proofs.Common.{◌≡◌, ℕ, ◌<◌, ◌≤◌, true, false, List, ◌∷◌, length, take, drop, slice_get, refl, sym, ap}

@@ -1,14 +1,10 @@
 -- An insert of one key at the end of a body, with anything in its value, gives the index the node of the line, and
--- below it
--- those in the value.
+-- below it those in the value.
 --
 -- The law of the edit gives a document between the old and the new one, which has the line with nothing in its value.
--- What is
--- known of its nodes is known of any document with a line more (`line_added`), and from it to the new one there is
--- another
--- value (`value_gives_nodes`). The line's node has the number under which it was put (`number_at`), and no node is
--- below it,
--- since below a path without a node there is none (`nothing_gone`).
+-- What is known of its nodes is known of any document with a line more (`line_added`), and from it to the new one there
+-- is another value (`value_gives_nodes`). The line's node has the number under which it was put (`number_at`), and no
+-- node is below it, since below a path without a node there is none (`nothing_gone`).
 --
 -- Theorem: `line_value_added`.
 use Rattle.std.proofs.Common.{◌≡◌, ℕ, zero, suc, ◌+◌, ◌-◌, Bor, List, [], ◌++◌, length, get_or, take, slice_get, refl}

@@ -1,11 +1,9 @@
 -- A remove of a keyval's line, of one key part, takes from the index the nodes in its value, and then that of the line.
 --
 -- The law of the edit gives a document between the old and the new one, which has the line with nothing in its value.
--- From the
--- old one to it there is another value, in which there are no nodes (`value_gives_nodes`), so the line's node keeps its
--- number
--- (`number_kept`), and no node is below it (`empty_has_no_child`). From it to the new one there is a line less
--- (`line_less`).
+-- From the old one to it there is another value, in which there are no nodes (`value_gives_nodes`), so the line's node
+-- keeps its number (`number_kept`), and no node is below it (`empty_has_no_child`). From it to the new one there is a
+-- line less (`line_less`).
 --
 -- Theorem: `line_value_removed`.
 use Rattle.std.proofs.Common.{◌≡◌, ℕ, suc, ◌+◌, List, [], ◌++◌, length, get_or, take, drop, map, refl, sym, ap, ap₂}

@@ -1,8 +1,13 @@
 -- A change of the nodes' paths where steps stay steps: the nodes are nested as before (`nested_moved`).
 --
--- A node of the new document is one of the old (`old_node`), and so is the one that is one step above it (`step_back`).
--- What
--- is asked of it is answered as before.
+-- A node of the new document is one of the old, at its new path (`old_node`). One step above a new path is the new path
+-- of what was one step above (`step_back`). So what is asked of a new path is asked of an old one, whose answer is
+-- known. Below a path without a node there is none, one step after another (`closed_moved`). A node of a key that a
+-- further header of an element may name has elements, since a step by a key was one by a key (`key_step`) and the roles
+-- are the same (`roles_moved`, `listed_moved`). The last node below an array of tables is the element that a header
+-- enters: the nodes below it are the old ones in the same order (`children_moved`, `entered_nested`).
+--
+-- Theorem: `nested_moved`.
 use Rattle.std.proofs.Common.{◌≡◌, ℕ, ◌-◌, ◌<◌, true, List, [], ◌∷◌, ◌++◌, length, get_or, map, refl, sym, ap, subst}
 use Rattle.std.proofs.Common.{◌∙◌, append_assoc, arith, length-append, Option, Some, None, slice_get}
 use Rattle.std.specs.List.{filter_map, list_all}

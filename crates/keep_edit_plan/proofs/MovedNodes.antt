@@ -1,8 +1,15 @@
 -- A change of the nodes' paths where steps stay steps: the nodes are in the same order (`paths_moved`).
 --
--- Paths that fit are told apart by their new ones. So each node keeps its number (`number_moved`), the nodes one step
--- below
--- it are those that were (`children_moved`), and a header enters the same node (`entered_moved`).
+-- The change `f` gives each path a new one. What is asked of it is `KeepsSteps`: of the paths that fit `P`, different
+-- ones stay different; a path one step longer becomes one that is again one step longer, and an index at the end stays.
+-- So two paths that fit are the same exactly if their new ones are (`same_moved`). Nodes, their numbers and their
+-- children are found by such comparisons alone, and these answer as before: by induction over the mentions the nodes
+-- have the same order, and by induction over the nodes each has the same number, and the same nodes are one step below
+-- it (`child_moved`). As many elements are at a path as before (`elements_moved`), so a header enters the same node
+-- (`entered_moved`).
+--
+-- Theorems: `paths_moved`: the new nodes are the old ones, each moved; `number_moved`: a node has the same number;
+-- `children_moved`: the nodes one step below a node are the old ones, each moved.
 use Rattle.std.proofs.Common.{◌≡◌, ℕ, zero, suc, ◌+◌, ◌-◌, ◌<◌, Bool, true, false, cond, not, ◌||◌, List, [], ◌∷◌, ◌++◌}
 use Rattle.std.proofs.Common.{length, get_or, map, filter, refl, sym, ap, ap₂, subst, ◌∙◌, arith, Option, Some, None}
 use Rattle.std.proofs.Common.{slice_get}

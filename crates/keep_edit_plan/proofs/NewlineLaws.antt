@@ -1,4 +1,6 @@
--- The newline of a document is that of its first token that is one.
+-- The newline of a document is its first token that is one, or a line feed if none is.
+--
+-- Theorems: `newline_is`; `newline_here` and `newline_later`: the same token by token.
 use Rattle.std.proofs.Common.{◌≡◌, ℕ, ◌+◌, List, [], ◌∷◌, length, refl, sym, ap, Option, Some, None}
 use Rattle.std.specs.Prelude.{codes}
 use Rattle.keep_types.specs.declared.leaf.Leaf.{Leaf}

@@ -1,4 +1,7 @@
--- The node of a path: its number, what is known of it, and whether there is one.
+-- A path has a number exactly where it names a node. What is known of the node is found by that number
+-- (`info_of_number`), and its kind is that of its mentions.
+--
+-- Theorems: `a_node` and `no_node`: whether there is a node; `kind_stated`: its kind.
 use Rattle.std.proofs.Common.{◌≡◌, ℕ, Bool, true, false, ◌||◌, List, [], ◌∷◌, ◌++◌, map, slice_get, refl, sym, ap, ◌∙◌}
 use Rattle.std.proofs.Common.{subst, inl, inr, Some, None}
 use Rattle.std.specs.Prelude.{fold, if◌then◌else◌}

@@ -1,4 +1,6 @@
 -- One text has one tree.
+--
+-- Theorem: `one_tree`.
 use Rattle.std.proofs.Common.{◌≡◌, sym, ◌∙◌}
 use Rattle.keep_syntax.specs.Tree.{Document}
 use Rattle.keep_syntax.proofs.Shared.{one_document}

@@ -1,4 +1,6 @@
 -- A body continues over a keyval, and ends before a header and after the last statement.
+--
+-- Theorems: `body_next`: over a keyval; `body_on`: before a statement of another kind; `body_done`: after the last.
 use Rattle.std.proofs.Common.{◌≡◌, ℕ, zero, suc, ◌-◌, ◌≤◌, List, [], ◌∷◌, length, take, drop, slice_get, refl, sym, ap}
 use Rattle.std.proofs.Common.{◌∙◌, arith, Some}
 use Rattle.keep_types.specs.declared.syntax.Statement.{Statement}

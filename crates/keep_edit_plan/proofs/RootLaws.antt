@@ -1,4 +1,6 @@
--- Nothing is said of the root.
+-- No mention of a document is at the root.
+--
+-- Theorem: `root_unsaid`.
 use Rattle.std.proofs.Common.{◌≡◌, ℕ, ◌-◌, ◌==◌, Bool, true, false, cond, List, [], ◌∷◌, ◌++◌, map, refl, sym, subst}
 use Rattle.std.proofs.Common.{None, Some}
 use Rattle.keep_syntax.specs.Tree.{Content, blank, keyval, header, element, Line, Document}

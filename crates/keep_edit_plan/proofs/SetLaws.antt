@@ -1,4 +1,14 @@
 -- Setting a value: when it is refused, and what the new text is.
+--
+-- What is known once the value at the path is found is one record, `IsSetting`: its number, its place in the text
+-- (`value_there`), and that no more brackets are open round it than the limit allows (`few_open`). A path with a
+-- value's number names a node with a value (`valued`, `node_of_value`), so of the four reasons to refuse two are left
+-- (`refusal_is`): the depth round the old value and that of the new one, added up, pass the limit (`too_deep_at`), or
+-- the profile's grammar has no such value. `deep_done` and `foreign_done` are the answers there. If neither holds
+-- (`MaySet`), the new value's text replaces the old one's (`place_is`), and the law of the edit is `set_lawful`.
+--
+-- Theorems: `setting`: what is known of the value that is found; `done_at`: the edit is not refused, and where it is
+-- done; `set_law`: the law of the edit.
 use Rattle.std.proofs.Common.{◌≡◌, ℕ, suc, ◌+◌, ◌<◌, ◌≤◌, Bool, true, false, cond, List, [], ◌∷◌, map, refl, sym, ap}
 use Rattle.std.proofs.Common.{subst, ◌∙◌, arith, Option, Some, None, Ok, Err, slice_get}
 use Rattle.std.specs.Prelude.{not, ◌||◌, nat_lt, filter}

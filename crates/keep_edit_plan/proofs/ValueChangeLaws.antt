@@ -1,10 +1,8 @@
 -- `set` puts another value in the place of one with a key: of all that the index tells, the nodes in the value change,
--- and the
--- numbers of what comes after it.
+-- and the numbers of what comes after it.
 --
 -- The law of the edit gives the document with another value (`value_set`); of such a document what is known of the
--- nodes is
--- known (`value_gives_nodes`), and how they are nested (`value_is_nested`).
+-- nodes is known (`value_gives_nodes`), and how they are nested (`value_is_nested`).
 --
 -- Theorem: `value_changed`.
 use Rattle.std.proofs.Common.{◌≡◌, ℕ, suc, ◌-◌, Bor, List, [], ◌∷◌, length, sym, ap, subst, ◌∙◌, arith, Option, Some}

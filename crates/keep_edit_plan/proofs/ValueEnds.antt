@@ -1,4 +1,15 @@
 -- The text of a value begins and ends in ASCII, so that a document may be cut before and after it.
+--
+-- An array, an inline table and a string are each between two bytes of ASCII (`in_brackets`, `between_marks`); where
+-- three quotation marks or apostrophes end a string, the last is that byte (`after_three`). Any other scalar is one run
+-- of bytes of a word, or a date, a space and one more run (`run_ends`, `two_runs_end`), and each byte of a word is
+-- ASCII (`low_word`). `scalar_ends` goes through the kinds of scalars. Nothing is nested in a scalar
+-- (`nothing_nested`), so the text of such a value is that of its token. The first and last byte of a part of a text are
+-- bytes of the whole text (`part_byte`), and before or after an ASCII byte a text may be cut
+-- (`IsCharBoundary-before_ascii` and its like).
+--
+-- Theorems: `value_ends`: the value begins and ends in ASCII; `starts_between` and `ends_between`: the text may be cut
+-- before and after such a part.
 use Rattle.std.proofs.Common.{◌≡◌, ℕ, zero, suc, ◌+◌, ◌-◌, ◌<◌, true, false, ◌&&◌, ◌==◌, List, [], ◌∷◌, ◌++◌, length}
 use Rattle.std.proofs.Common.{get_or, take, drop, Some, None, refl, sym, ap, ◌∙◌, subst, inl, inr, arith, add-zero}
 use Rattle.std.proofs.Common.{get_or-drop, append_assoc}

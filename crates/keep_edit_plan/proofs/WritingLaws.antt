@@ -1,4 +1,7 @@
--- How the keys of a path are written, step by step, and that this is how an edit writes them.
+-- The keys of a path, written step by step, and the value after them are the text that an edit puts in.
+--
+-- Theorems: `step_preserved`: after each step, what is written and what is left are the same whole; `path_written`: at
+-- the end nothing is left; `keyed_written`: the value after its keys.
 use Rattle.std.proofs.Common.{◌≡◌, ℕ, zero, suc, ◌<◌, ◌≤◌, Bool, true, false, List, [], ◌∷◌, ◌++◌, length, take, drop}
 use Rattle.std.proofs.Common.{slice_get, map, refl, sym, ap, ◌∙◌, append_assoc, arith, Some, None}
 use Rattle.std.specs.Prelude.{codes}

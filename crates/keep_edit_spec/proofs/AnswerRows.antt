@@ -1,4 +1,13 @@
 -- What is known of small documents, and what comes of lists of edits, computed from the texts.
+--
+-- A row has a question and the answer that is wanted (`Row`): the text of a value or what a string means, or why there
+-- is none; how many tokens and nodes there are; the paths of the nodes with their kinds, or the lines in which they are
+-- listed; or what a list of edits makes of the text, else the first edit that is refused. `stated` puts what the
+-- definitions give in the place of the answer. `StatesEdits` reads the text as a document and says that its rows stay
+-- the same by that; a text that can't be read makes it false. Each proof is by computing, so there is no induction and
+-- no lemma.
+--
+-- Each row is a theorem of its own.
 use Rattle.std.proofs.Common.{◌≡◌, ℕ, List, [], ◌∷◌, length, map, refl}
 use Rattle.std.specs.Prelude.{codes, Result, Ok, Err}
 use Rattle.keep_types.specs.declared.leaf.Profile.TheVariants.{Strict}

@@ -1,4 +1,15 @@
 -- The laws of the edits, as they are promised.
+--
+-- Other files prove of each edit that it makes a change, and all that the law says of the change: that it is valid,
+-- obeys the rules, and has the text and the tree that it should (`IsSetWhole`). Here this becomes a statement about the
+-- document after the edit (`edited_from`), with a bound of its depth and of its text's length: `lawful` does it once
+-- for all edits. Both edits that append add a line without a value, so they share `append_lawful`. `insert` has three
+-- cases by where the value comes (`inserted`): an item of an array (`insert_item`), on lines (`insert_whole`), or in
+-- braces (`insert_braces`). That a change replaces its place in the text, and nothing else, holds whether the edit is
+-- refused or not (`changed_put`).
+--
+-- Theorems: `change_put`: a change replaces its place in the text; `set_lawful`, and its like for each other edit: the
+-- law of an edit that is not refused; `growth_bounded`: by how much the text grows.
 use Rattle.std.proofs.Common.{◌≡◌, ℕ, ◌+◌, ◌≤◌, Bool, true, false, List, [], length, refl, sym, ap, subst, ◌∙◌, arith}
 use Rattle.std.proofs.Common.{Option, Some, None}
 use Rattle.keep_types.specs.declared.leaf.Profile.{Profile}

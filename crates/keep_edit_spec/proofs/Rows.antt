@@ -4,6 +4,8 @@
 -- that is wanted (`Row`). `computed` reads the text and applies the definitions to the document; `stated` is what the
 -- row says. That they are equal is computed for each group of rows (`AllHold`), so there is no induction and no lemma.
 -- Each edit has groups of its own, for what it does and for what it refuses.
+--
+-- Each group of rows is a theorem of its own.
 use Rattle.std.proofs.Common.{◌≡◌, ℕ, List, [], ◌∷◌, ◌++◌, length, map, refl, Option, Some, None}
 use Rattle.std.specs.Prelude.{codes, Result, Ok, Err}
 use Rattle.keep_types.specs.declared.leaf.Profile.{Profile}
@@ -76,8 +78,7 @@ outcome profile s e new =
     }
 
 -- Nothing is refused, the rules hold, the facts come from where they are said to come from, start..end of the old text
--- gives
--- way to so many bytes, and reading the new text gives the new document.
+-- gives way to so many bytes, and reading the new text gives the new document.
 abbrev wanted : Document → Edit → List ℕ → ℕ → ℕ → ℕ → Outcome
 wanted s e new start end added =
     let s' : Document = edited_document s e in

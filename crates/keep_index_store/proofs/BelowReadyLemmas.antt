@@ -1,9 +1,8 @@
 -- Where nodes are stored as they have to be, those below one can give place to those of another tree.
 --
 -- The children of a node are nodes that are there, and so is the parent of each node but the root, which a parent link
--- of
--- the root itself has to say. The last of the nodes that go and the node after them are no items of one array: the one
--- is below the node that stays, or is that node, which is a child by key.
+-- of the root itself has to say. The last of the nodes that go and the node after them are no items of one array: the
+-- one is below the node that stays, or is that node, which is a child by key.
 --
 -- Theorem: `can_replace`.
 use Rattle.std.proofs.Common.{◌≡◌, ℕ, suc, ◌+◌, ◌<◌, ◌≤◌, ◌^◌, List, length, get_or, sym, ◌∙◌, ap, arith, ◌⊎◌, inl, inr}

@@ -3,9 +3,10 @@
 -- A node that is not below that one, or the one itself, is read where the shift leads (`parent_old`, `number_old`), and
 -- a node of the other tree as many places after that one (`parent_new`, `number_new`). The one has the children of the
 -- other tree's root, so the children of each node are those of a node of the other tree (`children_inside`), or those
--- of
--- a node beside the ones that go (`children_beside`). Each number is of a node of the one kind or of the other
+-- of a node beside the ones that go (`children_beside`). Each number is of a node of the one kind or of the other
 -- (`sort`).
+--
+-- Theorems: `sort`: which node has a number; `children_inside` and `children_beside`: which children it has.
 use Rattle.std.proofs.Common.{◌≡◌, ℕ, suc, ◌+◌, ◌-◌, ◌<◌, ◌≤◌, List, ◌++◌, length, get_or, set, take, drop, map, cond}
 use Rattle.std.proofs.Common.{Bool}
 use Rattle.std.proofs.Common.{refl, sym, ◌∙◌, ap, arith, length-append, inl, inr, ◌⊎◌}

@@ -1,4 +1,7 @@
 -- Where the facts of two nodes are joined with more, the tree of steps stays, and so does all but the facts of the two.
+--
+-- Theorems: `both_trie`: the tree of steps stays; `both_infos`: the facts of the two are joined, and all others stay;
+-- `both_stored`: the nodes still store their children.
 use Rattle.std.proofs.Common.{◌≡◌, ℕ, ◌<◌, List, length, set, refl, sym, ◌∙◌, ap, arith}
 use Rattle.std.proofs.lemmas.List.{get_or-map, length-set}
 use Rattle.keep_types.specs.declared.node.NodeInfo.{NodeInfo}

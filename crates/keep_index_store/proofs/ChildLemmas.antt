@@ -1,4 +1,8 @@
--- The child of a node by a step, and the last step of a node's path.
+-- The child of a node by a step is the node whose path is longer by the step; the step to a child is its key, or else
+-- its number among the children.
+--
+-- Theorems: `child_met`: the child by a step is the node of the longer path, or no node has that path; `child_only`:
+-- the node of the longer path is the child by the step; `key_step`: the step to a child that has a key is the key.
 use Rattle.std.proofs.Common.{◌≡◌, ◌≢◌, ℕ, suc, zero, ◌<◌, List, [], ◌∷◌, ◌++◌, length, get_or, refl, sym, ◌∙◌, ap}
 use Rattle.std.proofs.Common.{subst, arith, Option, Some, None}
 use Rattle.std.specs.Prelude.{Contains, slice_get}

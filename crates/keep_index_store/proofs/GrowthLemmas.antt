@@ -1,4 +1,14 @@
 -- One more node, and another state of a node.
+--
+-- Paths and children are read of the links after the root's (`link`: a parent and a step). A node that is pushed has
+-- its parent's path with its own step (`paths_pushed`), and is a child of its parent alone (`children_pushed`). That
+-- path is new and the parent an earlier node, so the list is a tree again (`trie_pushed`). A node that takes another
+-- state has the link that it had, so all links (`links_preserved`), all paths (`paths_preserved`) and the tree
+-- (`trie_preserved`) stay. Two lists that agree but for the link of the root (`IsAlike`) have the same paths
+-- (`paths_alike`); where the one is a tree, so is the other (`trie_alike`), and where the one has a node more than
+-- before, so has the other (`grows_alike`).
+--
+-- Theorems: `grows_pushed`: one more node; `restates_set`: another state; `trie_alike`: another link of the root.
 use Rattle.std.proofs.Common.{◌≡◌, ◌≢◌, ℕ, suc, ◌+◌, ◌-◌, ◌<◌, List, [], ◌∷◌, ◌++◌, length, get_or, set, drop, map}
 use Rattle.std.proofs.Common.{refl, sym, ◌∙◌, ap, subst, arith, length-append, cond, inl, inr, Option, Some}
 use Rattle.std.specs.Prelude.{fold, ◌==◌, Contains, AllPairs}

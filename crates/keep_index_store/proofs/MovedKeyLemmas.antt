@@ -1,4 +1,7 @@
 -- The entries of a map from keys to children, where the last one takes an earlier place, and under other numbers.
+--
+-- Theorems: `moved_index`: moving the last entry to a place gives the list with it there; `values_more`: one step of a
+-- loop that gives each entry another number; `keys_moved`: entries with their new numbers are the moved children.
 use Rattle.std.proofs.Common.{◌≡◌, ℕ, zero, suc, ◌+◌, ◌-◌, ◌<◌, List, [], ◌∷◌, ◌++◌, length, get_or, set, take, drop}
 use Rattle.std.proofs.Common.{map, refl, sym, ◌∙◌, ap, arith, Some}
 use Rattle.std.specs.Prelude.{slice_get}

@@ -1,4 +1,7 @@
 -- The packed parent links under other numbers, and with the last one at another place.
+--
+-- Theorems: `links_more`: one step of a loop that gives each link other numbers; `links_moved`: the links with other
+-- numbers, the last at its place; `last_fit`: where all links are small, these fit into 32 bits each.
 use Rattle.std.proofs.Common.{◌≡◌, ℕ, ◌+◌, ◌-◌, ◌<◌, ◌≤◌, ◌^◌, All, List, [], ◌∷◌, ◌++◌, length, get_or, set, take}
 use Rattle.std.proofs.Common.{drop}
 use Rattle.std.proofs.Common.{map, refl, sym, ◌∙◌, ap, subst, arith, cond, true, false, length-append}

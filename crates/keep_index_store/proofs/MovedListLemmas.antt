@@ -1,10 +1,11 @@
 -- A list whose last element is moved to an earlier place, and the numbers of its elements then.
 --
 -- An element before the place keeps its number, the last one has the place's, and each other the next (`moved_number`).
--- So what
--- is at a number then is what was at the number that leads there, and a loop that changes each element where it is may
--- be read
--- off element by element.
+-- So what is at a number then is what was at the number that leads there, and a loop that changes each element where it
+-- is may be read off element by element.
+--
+-- Theorems: `from`: which element is at a place then; `read_moved`: where an element is then; `partly_count`: in such a
+-- loop the length stays.
 use Rattle.std.proofs.Common.{◌≡◌, ℕ, suc, ◌+◌, ◌-◌, ◌<◌, ◌≤◌, List, [], ◌∷◌, ◌++◌, length, get_or, take, drop, map}
 use Rattle.std.proofs.Common.{refl, sym, ◌∙◌, ap, arith, length-append, inl, inr, cond, Bool}
 use Rattle.std.specs.Prelude.{◌≢◌, AllPairs}

@@ -1,10 +1,8 @@
 -- The stored nodes, where the last one takes the number of an earlier one.
 --
 -- Each node is read where it then is, with the numbers of its parent and of its children changed alike (`reads`). So
--- the
--- steps stay, and the tree of steps is the old one with its last node moved (`alike`), of which MovedTrieLemmas knows
--- all.
--- The children of the last node's parent have to be stored in the order that they then have (`IsReady`).
+-- the steps stay, and the tree of steps is the old one with its last node moved (`alike`), of which MovedTrieLemmas
+-- knows all. The children of the last node's parent have to be stored in the order that they then have (`IsReady`).
 --
 -- Theorems: `stored_moved`, `moves_last` and `infos_moved`.
 use Rattle.std.proofs.Common.{◌≡◌, ℕ, zero, suc, ◌-◌, ◌<◌, List, [], ◌∷◌, length, get_or, map, refl, sym, ◌∙◌, ap}

@@ -1,9 +1,11 @@
 -- The nodes and their parent links, which are stored apart, with the last node at another place.
 --
 -- The nodes are moved and renumbered in one list, and the links in another. Row by row these are the nodes of before
--- with the
--- numbers that they have then. Links whose numbers fit into 32 bits with one more are all packed, so each is changed
--- where it is.
+-- with the numbers that they have then (`rows_moved`). Where the numbers of all nodes fit into 32 bits with one more,
+-- so do those of all links (`links_small`).
+--
+-- Theorems: `all_moved`: row by row these are the moved nodes; `can_place`: the last node can go to that place;
+-- `links_small`: where the numbers of all nodes fit with one more, so do those of all links.
 use Rattle.std.proofs.Common.{◌≡◌, ℕ, ◌-◌, ◌<◌, ◌≤◌, List, [], ◌∷◌, length, get_or, set, map, refl, sym, ◌∙◌, ap, subst}
 use Rattle.std.proofs.Common.{arith, Some}
 use Rattle.std.specs.Prelude.{All, slice_get}

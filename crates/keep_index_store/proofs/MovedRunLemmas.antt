@@ -1,4 +1,6 @@
 -- A run of nodes under other numbers: each number grows by one, or none does.
+--
+-- Theorems: `run_grows`: from `at` on, each number grows by one; `run_stays`: before `at`, none does.
 use Rattle.std.proofs.Common.{◌≡◌, ℕ, zero, suc, ◌+◌, ◌-◌, ◌<◌, ◌≤◌, List, ◌∷◌, length, map, refl, sym, ◌∙◌, ap, subst}
 use Rattle.std.proofs.Common.{arith, inl, inr}
 use Rattle.std.specs.Prelude.{All}

@@ -1,4 +1,6 @@
--- What a tree says of its last node, for the nodes that it stores.
+-- Where the last node can take an earlier number by the tree of steps, it can by the stored nodes too.
+--
+-- Theorem: `is_last`.
 use Rattle.std.proofs.Common.{◌≡◌, ℕ, ◌+◌, ◌-◌, ◌<◌, ◌≤◌, List, [], ◌∷◌, ◌++◌, length, get_or, refl, sym, ◌∙◌, ap}
 use Rattle.std.proofs.Common.{arith, length-append, inl, inr}
 use Rattle.std.proofs.lemmas.List.{get_or_append_left, get_or-append_right, get_or-map}

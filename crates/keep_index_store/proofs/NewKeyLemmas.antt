@@ -1,4 +1,7 @@
 -- A tree of steps with another step at one node: the paths at and below it are moved, and all else stays.
+--
+-- Theorems: `paths_moved`: the paths are moved; `children_stay`: each node has the same children; `trie_renamed`: where
+-- no node has the new path yet, the nodes are a tree of steps again.
 use Rattle.std.proofs.Common.{◌≡◌, ◌≢◌, ℕ, zero, suc, ◌<◌, List, [], ◌∷◌, ◌++◌, length, get_or, map, sym, ◌∙◌, ap}
 use Rattle.std.proofs.Common.{subst, arith, inl, inr}
 use Rattle.std.specs.Prelude.{Contains, AllPairs}

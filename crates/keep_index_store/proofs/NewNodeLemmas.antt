@@ -1,4 +1,7 @@
--- What one node more changes in the tree of steps.
+-- One node more in the tree of steps is the last child of its parent and has no children, and all else stays.
+--
+-- Theorems: `children_here`: it is the last child of its parent; `children_other`: other nodes have the children that
+-- they had; `path_last`: it has the path that it is to have.
 use Rattle.std.proofs.Common.{◌≡◌, ℕ, ◌+◌, ◌<◌, true, false, cond, List, [], ◌∷◌, ◌++◌, length, get_or, refl, sym, ◌∙◌}
 use Rattle.std.proofs.Common.{ap, arith, length-append, Option, None}
 use Rattle.std.specs.Prelude.{◌==◌}

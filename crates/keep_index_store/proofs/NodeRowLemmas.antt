@@ -1,4 +1,7 @@
 -- Reading and changing nodes whose parent links are stored in a separate vector.
+--
+-- Theorems: `count_seen`: there are as many nodes as are stored; `children_read`: a stored node has the children of the
+-- node; `children_set`: once it is stored with other children, the node has those.
 use Rattle.std.proofs.Common.{◌≡◌, ℕ, zero, suc, ◌<◌, List, [], ◌∷◌, ◌++◌, length, get_or, set, take, refl, sym, ◌∙◌}
 use Rattle.std.proofs.Common.{ap, arith, Some}
 use Rattle.std.specs.Prelude.{slice_get}

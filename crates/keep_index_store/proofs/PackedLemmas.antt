@@ -1,4 +1,7 @@
 -- Joining facts in place gives the joined facts.
+--
+-- Theorems: `joined_in_place`: the form that is written in place holds the joined facts; `info_joined`: as callers see
+-- them, the joined facts are the facts of both, joined.
 use Rattle.std.proofs.Common.{◌≡◌, ℕ, ◌+◌, ◌-◌, ◌^◌, Bool, true, false, cond, ◌&&◌, ◌==◌, Option, Some, None, refl}
 use Rattle.std.proofs.Common.{arith}
 use Rattle.std.proofs.lemmas.Bool.Decides.{nat_tests}

@@ -1,4 +1,6 @@
 -- The children of a node, under the numbers that they have once a node is gone.
+--
+-- Theorems: `keys_earlier`: of children by key; `items_earlier`: of items and elements.
 use Rattle.std.proofs.Common.{◌≡◌, ℕ, List, map, sym, ◌∙◌, ap}
 use Rattle.keep_path.specs.NodeInfos.{earlier_number}
 use Rattle.keep_index_store.specs.Children.{ChildList, Keyed, Listed}

@@ -1,4 +1,7 @@
 -- The packed parent links without one of them, and under other numbers.
+--
+-- Theorems: `packed_seen`: where all links fit into 32 bits, all are packed; `links_removed`: the packed links are then
+-- all but the one, with the other numbers; `left_fit`: these fit into 32 bits.
 use Rattle.std.proofs.Common.{◌≡◌, ℕ, suc, ◌<◌, ◌^◌, All, List, [], length, take, drop, map}
 use Rattle.std.proofs.Common.{sym, ◌∙◌, ap, subst, arith, cond, true, false, length-append}
 use Rattle.std.specs.Prelude.{◌==◌}

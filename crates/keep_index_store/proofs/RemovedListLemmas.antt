@@ -1,7 +1,14 @@
 -- A list without one element, and the numbers of the others then.
 --
--- An element before that place keeps its number, and each after it has the number before its own (`earlier_number`). So
--- what is at a number then is what was at the number to which `later_number` leads, and no number leads to the place.
+-- An element before that place has the same number then, and each after it has the number before its own
+-- (`earlier_number`). So what is at a number then is what was at the number to which `later_number` leads
+-- (`read_removed`), and no number leads to the place (`has_later`). For any other element the two lead back and forth
+-- (`has_earlier`, `earlier_later`), so each is found at its new number (`read_earlier`). It is the same to change each
+-- element before or after (`map-removed`). Putting an element in and taking it out again, or the other way round,
+-- changes nothing (`removed_back`, `inserted_back`).
+--
+-- Theorems: `read_removed`: what is at a number then; `read_earlier`: where each other element is then; `map-removed`:
+-- each element is changed before or after.
 use Rattle.std.proofs.Common.{◌≡◌, ℕ, suc, ◌+◌, ◌-◌, ◌<◌, ◌≤◌, List, [], ◌∷◌, ◌++◌, length, get_or, take, drop, map}
 use Rattle.std.proofs.Common.{refl, sym, ◌∙◌, ap, arith, length-append, inl, inr, cond, Bool}
 use Rattle.std.specs.Prelude.{◌≢◌, AllPairs}

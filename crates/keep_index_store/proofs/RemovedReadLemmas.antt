@@ -3,6 +3,9 @@
 -- The numbers of its parent and of its children are as they are then (`reads`). Among the children of the parent of the
 -- one that goes, the key and the number of each later sibling both come one place before (`children_own`,
 -- `number_near`).
+--
+-- Theorems: `children_own`: the children of the parent then; `number_near`: the number of a sibling then; `leaves`:
+-- what changes in no node is as before, without the node that goes.
 use Rattle.std.proofs.Common.{◌≡◌, ℕ, ◌+◌, ◌<◌, cond, List, length, get_or, set, map, refl, sym, ◌∙◌, ap}
 use Rattle.std.proofs.Common.{arith, inl, inr}
 use Rattle.std.specs.List.{remove}

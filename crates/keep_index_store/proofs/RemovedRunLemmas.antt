@@ -1,4 +1,6 @@
 -- A run of nodes once a node that is none of them is gone: each number is less by one, or none is.
+--
+-- Theorem: `run_earlier`.
 use Rattle.std.proofs.Common.{◌≡◌, ◌≢◌, ℕ, zero, suc, ◌-◌, ◌<◌, ◌≤◌, List, ◌∷◌, length, map}
 use Rattle.std.proofs.Common.{refl, sym, ◌∙◌, ap, subst, arith, inl, inr}
 use Rattle.std.specs.Prelude.{All}

@@ -2,6 +2,9 @@
 --
 -- First the children of all nodes beside have their numbers moved, then those of the other tree's nodes; then its root
 -- takes the facts of the node, and all of them its place.
+--
+-- Theorems: `rest_moved`: the children of the nodes from a number on have their numbers moved, after those of the nodes
+-- before an earlier one; `nodes_replaced`: the nodes with those of the other tree in place are the ones to be stored.
 use Rattle.std.proofs.Common.{◌≡◌, ℕ, suc, ◌+◌, ◌-◌, ◌<◌, ◌≤◌, List, ◌∷◌, ◌++◌, length, get_or, set, take, drop, map}
 use Rattle.std.proofs.Common.{sym, ◌∙◌, ap, arith, length-append}
 use Rattle.std.proofs.lemmas.List.{drop-map, drop-set-lt, get_or-map, get_or_default, length-drop, length-map, take-map}

@@ -1,4 +1,7 @@
 -- Consecutive numbers: how many they are, each of them, and one more of them.
+--
+-- Theorems: `length-consecutive`: how many they are; `get_or-consecutive`: each of them by its place;
+-- `consecutive-push`: one more comes at the end.
 use Rattle.std.proofs.Common.{◌≡◌, ◌∙◌, ℕ, zero, suc, ◌+◌, ◌<◌, ◌≤◌, [], ◌∷◌, ◌++◌, length, get_or, refl, ap, arith}
 use Rattle.std.proofs.Common.{Some, None}
 use Rattle.std.specs.Prelude.{slice_get}

@@ -1,4 +1,6 @@
 -- Where as many nodes come as go, each number stays as it is.
+--
+-- Theorems: `nodes_same`: of the children of nodes; `links_same`: of the parents in the links.
 use Rattle.std.proofs.Common.{◌≡◌, ℕ, List, [], ◌∷◌, map, refl, ◌∙◌, ap, arith, inl, inr}
 use Rattle.std.proofs.lemmas.Bool.{cases_lt}
 use Rattle.keep_index_store.specs.declared.links.ParentLink.{ParentLink}

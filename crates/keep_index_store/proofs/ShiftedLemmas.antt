@@ -1,4 +1,7 @@
 -- The numbers of nodes, where all from one on are moved: one number, a run of them, and those of a node's children.
+--
+-- Theorems: `shifted_low`: a number before that one stays; `shifted_high`: one from there on is moved; `run_shifted`: a
+-- run that is on one side is moved as its first number is.
 use Rattle.std.proofs.Common.{◌≡◌, ℕ, zero, suc, ◌+◌, ◌-◌, ◌<◌, ◌≤◌, ◌^◌, List, ◌∷◌, length, map, Bool, cond}
 use Rattle.std.proofs.Common.{refl, sym, ◌∙◌, ap, subst, arith, inl, inr, get_or}
 use Rattle.std.specs.Prelude.{◌⊎◌, All}

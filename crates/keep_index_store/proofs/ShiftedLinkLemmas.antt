@@ -1,4 +1,7 @@
 -- The parent links, where the numbers of parents are moved, and some links give place to others.
+--
+-- Theorems: `links_replaced`: the links with moved parents, where a run of them then gives place to the others, are
+-- `replaced_links`; `replaced_fit`: these fit into 32 bits.
 use Rattle.std.proofs.Common.{◌≡◌, ℕ, suc, ◌+◌, ◌<◌, All, List, ◌∷◌, ◌++◌, length, get_or, set, take, drop, map}
 use Rattle.std.proofs.Common.{sym, ◌∙◌, ap, subst, arith}
 use Rattle.std.proofs.lemmas.List.{drop-map, get_or-map, length-map, map-set}

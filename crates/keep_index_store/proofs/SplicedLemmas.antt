@@ -1,4 +1,7 @@
--- Lists where a run of elements gives place to another.
+-- A run of elements gives place to another in steps: as many elements first, then more old ones go or a new one comes.
+--
+-- Theorems: `spliced_then_removed`: more of the old elements go; `spliced_then_inserted`: one more comes;
+-- `map-spliced`: a function on each element of such a list.
 use Rattle.std.proofs.Common.{◌≡◌, ℕ, ◌+◌, ◌-◌, ◌<◌, ◌≤◌, List, [], ◌∷◌, ◌++◌, length, map, set, take, drop}
 use Rattle.std.proofs.Common.{refl, sym, ap, ◌∙◌, arith, append_assoc}
 use Rattle.std.proofs.lemmas.List.{append-nil, drop-drop, drop-map, drop_all, length-append, length-drop, map-append}

@@ -1,4 +1,14 @@
 -- What the stored nodes answer and become, by the tree of steps that contracts see.
+--
+-- Contracts see the tree that the stored nodes represent (`tree_of`). It has as many nodes (`count`), so each number of
+-- a node in it is that of a stored node (`low`). What is stored there is what the tree has: the parent, the role and
+-- the children (`parent_seen`, `role_seen`, `holds_seen`, `kids_seen`). A child by a step is the node of the longer
+-- path, or there is none (`key_seen`, `item_seen`). A node's own step is read at its parent (`part_seen`): it is its
+-- key there (`own_key`), or else its number (`own_number`). A key whose path no node has is not among the children
+-- (`fresh_key`), and no node has the path of the next item (`next_fresh`).
+--
+-- Theorems: `low`: a node of the tree is stored; `holds_seen`: what children it may have; `kids_seen`: which children
+-- it has.
 use Rattle.std.proofs.Common.{◌≡◌, ◌≢◌, ℕ, ◌-◌, ◌<◌, ◌≤◌, List, [], ◌∷◌, ◌++◌, length, get_or, refl, sym, ◌∙◌, ap}
 use Rattle.std.proofs.Common.{subst, arith, Option, Some, None}
 use Rattle.std.specs.Prelude.{Contains, OnErr, OnOk, Result, Ok, Err, slice_get}

@@ -1,8 +1,7 @@
 -- The table that a line's keyval is in: it is a node, and no array of tables.
 --
 -- Its path is the root's, or a header opens it (`body_said`). An array of tables is named by a `[[..]]`
--- (`tables_said`), and
--- the rules do not let one path be both (`unlike`).
+-- (`tables_said`), and the rules do not let one path be both (`unlike`).
 --
 -- Theorems: `tables_are_nodes`, `body_is_node` and `body_has_no_element`.
 use Rattle.std.proofs.Common.{◌≡◌, ℕ, ◌<◌, ◌≤◌, true, false, ◌||◌, List, [], ◌∷◌, ◌++◌, length, get_or, map, refl, sym}

@@ -1,4 +1,8 @@
--- The numbers: they are counts, and without them is what is said.
+-- Without its numbers, the list of numbered mentions of a document is that of its mentions, and the paths of its nodes
+-- are the root's and those that are mentioned.
+--
+-- Theorems: `mentions-numbered_in`: the list without numbers; `paths-nodes_in`: the paths of the nodes, in the order in
+-- which they are first met; `mentions_in-statements`: the mentions line by line are those of the statements.
 use Rattle.std.proofs.Common.{◌≡◌, false, List, [], ◌∷◌, ◌++◌, map, refl, sym, ap, ◌∙◌, Option, Some, None}
 use Rattle.std.specs.List.{filter_map, cons_option}
 use Rattle.std.proofs.lemmas.List.{append-nil, map-append}

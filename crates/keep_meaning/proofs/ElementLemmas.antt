@@ -3,10 +3,8 @@
 -- An element is there if its number is less than the count of `[[..]]` lines with the path before it (`is_reached`). A
 -- `[[..]]` line begins the first one that is not there yet, a header passes one that is there, and no other statement
 -- changes what is there: `IsSound` says this, with what names the items and elements, the arrays of tables and the
--- table
--- that further keyvals are in, of any statement and of several. So no element is begun twice, and one that is passed
--- was
--- begun before.
+-- table that further keyvals are in, of any statement and of several. So no element is begun twice, and one that is
+-- passed was begun before.
 --
 -- Theorems: `sound_statements` and `sound_from`.
 use Rattle.std.proofs.Common.{◌≡◌, ℕ, ◌+◌, ◌-◌, ◌<◌, ◌≤◌, Bool, true, false, cond, ◌||◌, List, [], ◌∷◌, ◌++◌, map, refl}

@@ -1,4 +1,7 @@
 -- What one more mention changes in what is known of its node.
+--
+-- Theorems: `marks-more`: how many key parts name it; `last_number-more`: the last number of a sort is that of the
+-- mention, if it is of the sort; `first_number-more`: the first number of a sort stays, if there is one.
 use Rattle.std.proofs.Common.{◌≡◌, ℕ, ◌+◌, Bool, true, false, cond, ◌||◌, List, [], ◌∷◌, ◌++◌, refl, Option, Some, None}
 use Rattle.std.specs.List.{list_any}
 use Rattle.std.proofs.lemmas.List.Sums.{fold-append}

@@ -1,4 +1,7 @@
 -- The computed first fault is the first faulty mark.
+--
+-- Theorems: `first_fault_after-states`: so it is, and where there is no fault, the marks obey the rules; `not_both`:
+-- marks with a first faulty one do not obey them.
 use Rattle.std.proofs.Common.{ℕ, ◌≡◌, ◌<◌, ◌+◌, Bool, true, false, not, ◌&&◌, List, [], ◌∷◌, ◌++◌, length, get_or, refl}
 use Rattle.std.proofs.Common.{sym, ap, ◌∙◌, subst, inl, inr, arith, length-append, Option, Some, None}
 use Rattle.std.specs.List.{list_any}

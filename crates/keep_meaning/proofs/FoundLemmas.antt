@@ -1,10 +1,9 @@
 -- What the facts about one node state, by what is said of it before a line and after it.
 --
--- A path that key parts name has the number of the first one, by which it is said before the line or not
--- (`marked_low`, `marked_high`). Any other path is that of an item or an element, and its facts have the number of the
--- last mention. That will do too if, once one is said before the line, none is said after it (`bare_low`), and if else
--- one
--- is said after it (`bare_high`). MetLineLemmas shows that this is so.
+-- A path that key parts name has the number of the first one, by which it is said before the line or not (`marked_low`,
+-- `marked_high`). Any other path is that of an item or an element, and its facts have the number of the last mention.
+-- That will do too if, once one is said before the line, none is said after it (`bare_low`), and if else one is said
+-- after it (`bare_high`). MetLineLemmas shows that this is so.
 --
 -- Theorems: these four, and `allowed`: of two key parts of one path, the earlier allows the later.
 use Rattle.std.proofs.Common.{◌≡◌, ℕ, suc, ◌+◌, ◌<◌, ◌≤◌, Bool, true, false, cond, ◌||◌, List, [], ◌∷◌, ◌++◌, length}

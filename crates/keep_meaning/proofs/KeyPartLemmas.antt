@@ -1,4 +1,7 @@
 -- The key parts of a key, where it is in the text, mean the keys that the key means.
+--
+-- Theorems: `keys_mention`: they do so among other key parts; `IsPart`: what is a part of a list, at a place;
+-- `part_taken`: it is what is taken from there.
 use Rattle.std.proofs.Common.{◌≡◌, ℕ, suc, ◌+◌, ◌-◌, ◌≤◌, List, [], ◌∷◌, ◌++◌, length, map, take, drop, refl, sym, ◌∙◌}
 use Rattle.std.proofs.Common.{ap, subst, arith, append_assoc, take_at, drop_at}
 use Rattle.std.specs.List.{flat_map}
@@ -130,5 +133,3 @@ keys_mention bytes parts at first k text among =
 pub keys_within : (parts : List KeyPart) (at first : ℕ) (k : Key) → IsPart parts first (key_parts at k)
     → first + key_count k ≤ length parts
 keys_within parts at first k among = omega (arith, part_ends parts first (key_parts at k) among, length-key_parts at k)
-
--- ---- the keys of headers

@@ -1,4 +1,6 @@
--- A key part without escapes means what is between its marks.
+-- A quoted key part without escapes means what is between its quotes.
+--
+-- Theorems: `basic_plain`: of a basic string without a backslash; `literal_plain`: of a literal string.
 use Rattle.std.proofs.Common.{◌≡◌, ℕ, ◌-◌, Bool, false, ◌==◌, IsTrue, List, [], ◌∷◌, ◌++◌, length, take, drop, refl}
 use Rattle.std.proofs.Common.{sym, ap, ◌∙◌, subst, arith}
 use Rattle.std.specs.List.{slice_range, list_any}

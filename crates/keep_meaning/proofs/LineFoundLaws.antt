@@ -1,8 +1,10 @@
 -- Where the line's node is among the nodes is found by the facts about the others (`line_is_found`).
 --
 -- The nodes that are met before the line come first, in their order (`same_node`), and no further one has the path of
--- one
--- of these (`new_node`). So by a node's number its path is said before the line or not, and its facts state the same.
+-- one of these (`new_node`). So by a node's number its path is said before the line or not, and its facts state the
+-- same.
+--
+-- Theorem: `line_is_found`.
 use Rattle.std.proofs.Common.{◌≡◌, ℕ, ◌<◌, ◌≤◌, ◌↔◌, Bool, true, false, cond, ◌||◌, List, [], ◌∷◌, ◌++◌, length, get_or}
 use Rattle.std.proofs.Common.{map, refl, sym, ap, subst, ◌∙◌, ◌⊎◌, inl, inr, arith}
 use Rattle.std.specs.Prelude.{fold}

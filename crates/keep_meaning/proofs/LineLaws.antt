@@ -1,5 +1,14 @@
 -- One line more in a document gives one node more (`line_adds_node`), and without it the nodes are those that were
 -- (`line_takes_node`).
+--
+-- What the line says is one mention (`said_there`), between what is said before it and what is said after it, whose
+-- numbers are then greater by one (`numbered_new`). The numbers before the line are lower than its own, and those after
+-- it are not (`before_lower`, `after_higher`). So where the path is new, `node_more` gives the nodes of before with the
+-- line's node, which comes after those that are met before the line (`met_before_line`). Taking that node out gives
+-- back the nodes of before (`node_back`): what was put into a list is taken out of it again (`removed_again`), and each
+-- number is what it was (`infos_back`).
+--
+-- Theorems: `line_adds_node`: the nodes with the line; `line_takes_node`: the nodes without it.
 use Rattle.std.proofs.Common.{◌≡◌, ℕ, suc, ◌+◌, ◌≤◌, Bool, true, false, cond, List, [], ◌∷◌, ◌++◌, length, map, sym, ap}
 use Rattle.std.proofs.Common.{ap₂, subst, ◌∙◌, arith, append_assoc}
 use Rattle.std.specs.Prelude.{fold, take, drop}

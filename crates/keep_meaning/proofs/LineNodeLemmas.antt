@@ -1,10 +1,11 @@
 -- One line more: what is known of the nodes is what was known, with the line's node (`node_more`).
 --
 -- What the line says is one mention, of a new path, between what is said before it and after it. So the path is met
--- after
--- those before, and the others in the order that they had (`paths_put`). Of another node the same is said, and each
--- number
--- that the facts have of it is that of before, or greater by one, as it is lower than the line's or not (`info_later`).
+-- after those before, and the others in the order that they had (`paths_put`). Of another node the same is said, and
+-- each number that the facts have of it is that of before, or greater by one, as it is lower than the line's or not
+-- (`info_later`).
+--
+-- Theorem: `node_more`.
 use Rattle.std.proofs.Common.{◌≡◌, ℕ, suc, ◌<◌, ◌≤◌, Bool, true, false, cond, List, [], ◌∷◌, ◌++◌, length, map, filter}
 use Rattle.std.proofs.Common.{refl, sym, ap, ap₂, ◌∙◌, append_assoc, Option, Some, None}
 use Rattle.std.specs.Prelude.{◌||◌, ◌+◌, drop, fold, take}

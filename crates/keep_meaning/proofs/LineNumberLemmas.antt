@@ -1,8 +1,15 @@
 -- The numbers of what is said before and after a line: they are lower than the line's (`lower_from`), or not
 -- (`higher_from`), and one more line with one key part makes those after it greater by one (`numbered_later`).
 --
--- That a number of a value is lower needs that each key part from which a keyval continues is followed by the keyval's
--- value (`AreValued`).
+-- A number is a count of what comes before, and the line's numbers count all that comes before the line. So what is
+-- itself counted there has a lower number (`lower_mentions`): a statement, a value, a key part. A key part from which a
+-- keyval continues has the number of the keyval's value. That this number is lower needs that each such key part is
+-- followed by the value (`AreValued`), as in every statement of a document (`valued_statements`). From the line on, no
+-- count is less than the line's (`higher_after`). Counts that begin greater by one stay so (`later_after`), and so do
+-- the numbers that are counted from there (`later_mentions`).
+--
+-- Theorems: `lower_from`: the numbers before a line; `higher_from`: those from there on; `numbered_later`: those after
+-- one more line.
 use Rattle.std.proofs.Common.{◌≡◌, ℕ, suc, ◌+◌, ◌<◌, ◌≤◌, Bool, true, false, List, [], ◌∷◌, ◌++◌, length, map, refl}
 use Rattle.std.proofs.Common.{sym, ap, ap₂, ◌∙◌, arith, Option, Some, None}
 use Rattle.std.specs.Prelude.{⊤, ◌==◌, ◌||◌, if◌then◌else◌}

@@ -1,4 +1,7 @@
 -- Where the lines of a text, and what is in them, are spelled.
+--
+-- Theorems: `lines_spelled`: all lines, from the place of the first one; `next_spelled`: those after the first one;
+-- `content_spelled`: the content of a line.
 use Rattle.std.proofs.Common.{◌≡◌, ℕ, ◌+◌, List, [], ◌∷◌, ◌++◌, length, sym, subst, arith, append_assoc}
 use Rattle.std.specs.List.{flat_map}
 use Rattle.keep_types.specs.declared.leaf.Leaf.TheVariants as leaf

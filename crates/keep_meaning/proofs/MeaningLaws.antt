@@ -1,4 +1,7 @@
--- What a string means by its pieces is what is computed from its text byte by byte; and how many nodes there are.
+-- What a string means by its pieces is what is computed from its text byte by byte, and a text has at most one node
+-- more than it has bytes.
+--
+-- Theorems: `string_value_is_meaning`: what a string means; `nodes_are_few`: how many nodes there are.
 use Rattle.std.proofs.Common.{◌≡◌, ℕ, List, length, refl, sym, ap, subst, ◌∙◌, arith}
 use Rattle.std.specs.Prelude.{IsTrue}
 use Rattle.keep_types.specs.declared.leaf.Leaf.{Leaf}

@@ -1,4 +1,6 @@
--- A path is among the nodes' if it is the root's, or is mentioned.
+-- A path is among those of the nodes exactly if it is the root's or is mentioned.
+--
+-- Theorem: `node_met`.
 use Rattle.std.proofs.Common.{◌≡◌, Bool, true, false, ◌||◌, List, [], ◌∷◌, ◌++◌, map, refl, sym, ap, ◌∙◌, subst}
 use Rattle.std.specs.Prelude.{fold, if◌then◌else◌}
 use Rattle.std.specs.List.{list_any}

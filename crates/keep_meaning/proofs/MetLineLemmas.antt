@@ -2,9 +2,8 @@
 --
 -- What is said of an item or an element before the line, and what is said after it, are not both of the kind that its
 -- facts have a number of (`apart`): the key parts that name it would not be allowed beside one another, and no element
--- is
--- begun twice. What is first said after the line begins the element, or is the item (`some_more`), since only what was
--- begun is passed.
+-- is begun twice. What is first said after the line begins the element, or is the item (`some_more`), since only what
+-- was begun is passed.
 --
 -- Theorems: `met_before` and `met_after`.
 use Rattle.std.proofs.Common.{◌≡◌, Bool, true, false, ◌||◌, List, [], ◌∷◌, ◌++◌, map, refl, sym, ap, ap₂, subst, ◌∙◌}

@@ -4,8 +4,7 @@
 -- The path of an item is that of a keyval and numbers after it, so without its last numbers (`base`) it is the keyval's
 -- path, which a key part states. Inside a value this is an induction over the entries: an item is in one of them, or
 -- below no key (`IsInside`); the key above the value then names it (`named_value`). A path fits if its last step is a
--- key
--- where a key part says something of it, and else a number (`Fits`).
+-- key where a key part says something of it, and else a number (`Fits`).
 --
 -- Theorems: `fits_line` and `named_line`.
 use Rattle.std.proofs.Common.{◌≡◌, ℕ, ◌+◌, Bool, true, false, ◌||◌, List, [], ◌∷◌, ◌++◌, map, refl, sym, ap, subst, ◌∙◌}

@@ -1,9 +1,11 @@
--- Another value in the place of one gives the nodes of the new one in the place of those in the old one, which stand
+-- Another value in the place of one gives the nodes of the new one in the place of those in the old one, which are met
 -- together (`value_gives_nodes`).
 --
 -- With either value the nodes are those met before it, its own, those in it, and those met after it. Of a node beside
 -- the value the same is said, with other numbers after the value (`elsewhere_info`); of its own node, what the value
 -- says of itself (`old_here`, `new_here`); of a node in it, what the value alone says there (`inside_info`).
+--
+-- Theorem: `value_gives_nodes`.
 use Rattle.std.proofs.Common.{◌≡◌, ◌≢◌, ℕ, zero, suc, ◌+◌, ◌-◌, ◌<◌, ◌≤◌, true, false, List, [], ◌∷◌, ◌++◌, length, map}
 use Rattle.std.proofs.Common.{refl, sym, ap, ap₂, subst, ◌∙◌, ◌⊎◌, inl, inr, arith, append-nil, append_assoc, Some}
 use Rattle.std.specs.Prelude.{take, drop, get_or, slice_set}

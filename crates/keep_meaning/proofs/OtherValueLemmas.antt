@@ -1,11 +1,15 @@
 -- Another value in the place of one: which paths there are with either (`paths_are`), and what is said at each (`here`,
 -- `elsewhere`, `inside`).
 --
--- A value is told of by one run of mentions: its own, and then those in it, at longer paths. What is said before the
--- run and after it is said of other paths. So the paths of a run are met together, right after the value's own, and
--- those met after it are the same with either run (`further`). The paths in a run, and their numbers, are those of
--- the value alone, with the value's path before each (`run_moved`). The facts about a node go by what is said of it,
--- in its order: with other numbers for that they have these numbers, and nothing else changes (`info_moved`).
+-- A value has one run of mentions: its own, and then those in it, at longer paths. What is said before the run and
+-- after it is said of other paths. So the paths of a run are met together, right after the value's own, and those met
+-- after it are the same with either run (`further`). What is said in a run is what the value alone says, with the
+-- value's path before each path and with the numbers that it has there (`run_moved`). The facts about a node go by what
+-- is said of it, in its order: with other numbers for that they have these numbers, and nothing else changes
+-- (`info_moved`).
+--
+-- Theorems: `paths_are`: the paths with a value; `inside`: below its path is said what the value alone says;
+-- `info_moved`: with other numbers nothing else changes in the facts.
 use Rattle.std.proofs.Common.{◌≡◌, ℕ, suc, ◌+◌, ◌-◌, ◌<◌, ◌≤◌, Bool, true, false, cond, ◌||◌, List, [], ◌∷◌, ◌++◌, map}
 use Rattle.std.proofs.Common.{refl, sym, ap, ap₂, ◌∙◌, arith, append-nil, append_assoc, Option, Some, None}
 use Rattle.std.specs.Prelude.{fold, if◌then◌else◌}

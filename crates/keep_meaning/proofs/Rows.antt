@@ -5,6 +5,8 @@
 -- what is known of each (`infos_in`), where their values and first key parts are (`spans_in`), or the children of one
 -- (`children`). There is no induction and no lemma. A change of a definition that shows on one of these documents makes
 -- a row fail.
+--
+-- Each row is a theorem of its own.
 use Rattle.std.proofs.Common.{◌≡◌, ℕ, Bool, true, false, List, [], ◌∷◌, length, refl, Option, Some, None}
 use Rattle.std.specs.Prelude.{codes, map, take, slice_get}
 use Rattle.keep_types.specs.declared.leaf.Leaf.{Leaf}

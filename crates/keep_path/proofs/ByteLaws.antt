@@ -1,4 +1,6 @@
 -- Each element of a text in UTF-8 is a byte.
+--
+-- Theorem: `text_bytes`.
 use Rattle.std.proofs.Common.{◌≡◌, ℕ, zero, suc, ◌<◌, true, ltb, List, [], ◌∷◌, ◌++◌, get_or, arith, subst, Fits, w8}
 use Rattle.std.proofs.Common.{inl, inr}
 use Rattle.std.proofs.lemmas.Bool.{cases_Bool, ltb-true, and_parts}

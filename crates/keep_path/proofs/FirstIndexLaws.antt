@@ -1,4 +1,7 @@
 -- The keys of a path text are passed one by one, up to its first index.
+--
+-- Theorems: `next_key_passed`: one key more, after a dot; `index_there`: before the end of a path's text, where no dot
+-- follows, the first index begins; `all_keys`: at the end of the text there are only keys.
 use Rattle.std.proofs.Common.{◌≡◌, ℕ, suc, ◌+◌, ◌<◌, ◌≤◌, true, List, [], ◌∷◌, ◌++◌, length, take, drop, refl, sym, ap}
 use Rattle.std.proofs.Common.{◌∙◌, subst, arith, Option, Some, None, length-drop, drop-cons, add-one, add-zero}
 use Rattle.std.specs.Prelude.{slice_index, IsUtf8, IsCharBoundary}

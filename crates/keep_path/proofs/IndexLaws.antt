@@ -1,4 +1,15 @@
 -- The digits that close with a bracket are an index's text, and each index's text is found so.
+--
+-- The digits are all those at the start of the text (`prefix_len`, `run_digits`). Where they pass the test `closes`,
+-- they are at most nine, a bracket comes after them, and the first is a zero only if it is the only one
+-- (`closes_parts`). So where they are parsed as a number, this is less than a billion, and its `decimal` is these
+-- digits again (`index_found`). The other way, where a text begins with an index and its bracket, the digits at its
+-- start are those of the index, and they pass the test (`index_prefix`). So where the test or the parsing fails, the
+-- text begins with no index (`not_closed`, `not_parsed`), and no text begins with two (`index_one`). After the bracket
+-- the text may be cut (`bracket_cut`).
+--
+-- Theorems: `index_found`: where the digits close and are parsed, the text begins with that index; `not_closed` and
+-- `not_parsed`: where they do not close, or are not parsed, it begins with none.
 use Rattle.std.proofs.Common.{◌≡◌, ℕ, zero, suc, ◌+◌, ◌^◌, ◌<◌, ◌≤◌, true, false, List, [], ◌∷◌, ◌++◌, length, take}
 use Rattle.std.proofs.Common.{drop, get_or, refl, sym, ap, ◌∙◌, subst, arith, append_assoc, Result, Ok, Err, inl, inr}
 use Rattle.std.proofs.Common.{eq-zero-or-pos, one-add, drop-cons, add-one, length-take, length-append}

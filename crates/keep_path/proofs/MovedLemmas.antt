@@ -1,4 +1,7 @@
 -- What is left of a path after a prefix of it, the paths that are moved, and a path's last step.
+--
+-- Theorems: `moved_pushed`: a longer path moves with the one above it; `moved_one`: two paths that are moved to one are
+-- one, if neither was at or below the new place; `last_pushed`: the step that is added to a path is its last.
 use Rattle.std.proofs.Common.{◌≡◌, ℕ, Bool, true, false, List, [], ◌∷◌, ◌++◌, refl, sym, ◌∙◌, ap, append-nil}
 use Rattle.std.proofs.Common.{append_assoc, Option, Some, None}
 use Rattle.keep_path.specs.Path.{Part, key, same_part, last_part, without_last, beside, strip, moved_path}

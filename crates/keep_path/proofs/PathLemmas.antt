@@ -1,4 +1,6 @@
--- The tests of paths decide.
+-- Two paths are equal exactly if `same_path` is true of them, and two parts exactly if `same_part` is.
+--
+-- Theorems: `path_decides`: of paths; `part_decides`: of parts.
 use Rattle.std.proofs.Common.{◌≡◌, List, refl, ap}
 use Rattle.std.specs.Bool.{Decides}
 use Rattle.std.proofs.lemmas.Bool.Decides.{Decides-eqb}

@@ -1,4 +1,6 @@
--- What a path is written as tells the path.
+-- What a path is written as is a text of that path, if it begins with no index and its indexes are small.
+--
+-- Theorems: `encoded_stated`: what it is written as; `steps_are_utf8`: the keys of steps are UTF-8.
 use Rattle.std.proofs.Common.{◌≡◌, ℕ, true, List, [], ◌∷◌, map, get_or, refl, Fits, w8, string_bytes, inl, inr}
 use Rattle.std.proofs.lemmas.Bool.{cases_Bool}
 use Rattle.std.specs.List.{flat_map}

@@ -1,4 +1,7 @@
--- What the readers of key parts and steps find at the start of a text.
+-- What the readers find at the start of a text is a step of its path, and where they find nothing no step begins.
+--
+-- Theorems: `dot_step`: a dot and the key that is read after it are a step; `bracket_step`: so are a bracket and an
+-- index; `one_read`: the path that is read to the end of the text is its only one.
 use Rattle.std.proofs.Common.{◌≡◌, ℕ, ◌+◌, ◌<◌, ◌≤◌, List, [], ◌∷◌, ◌++◌, length, take, drop, refl, sym, ap, ◌∙◌, subst}
 use Rattle.std.proofs.Common.{arith, add-one}
 use Rattle.std.specs.Prelude.{IsUtf8, IsCharBoundary, slice_index}

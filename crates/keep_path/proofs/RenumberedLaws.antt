@@ -1,4 +1,6 @@
--- The facts about all nodes have the numbers that they had, where a line comes and then goes again (`infos_back`).
+-- The facts about all nodes have the numbers that they had, where a line comes and then goes again.
+--
+-- Theorem: `infos_back`.
 use Rattle.std.proofs.Common.{◌≡◌, ℕ, suc, ◌-◌, Bool, cond, List, [], ◌∷◌, map, refl, ap, ap₂, ◌∙◌, arith, inl, inr}
 use Rattle.std.proofs.Common.{Option, Some, None}
 use Rattle.std.specs.Option.{option_map}

@@ -1,12 +1,9 @@
 -- A path's text stops where no step can be read: no longer prefix is a path's text.
 --
 -- Of the key parts that begin a text, each that is the longest of its kind is the one that the scan finds: so none is
--- longer.
--- A longer prefix of the text goes on with steps after a key part, and then its key part is the one that was found,
--- since no
--- step begins with a byte of bare keys. So while steps are read, each longer prefix that is a path's text goes on with
--- steps
--- after what was read (`PathGoesOn`); and where no step begins, there is none.
+-- longer. A longer prefix of the text goes on with steps after a key part, and then its key part is the one that was
+-- found, since no step begins with a byte of bare keys. So while steps are read, each longer prefix that is a path's
+-- text goes on with steps after what was read (`PathGoesOn`); and where no step begins, there is none.
 --
 -- Theorems: `stops_first`, `stops_at`.
 use Rattle.std.proofs.Common.{◌≡◌, ℕ, zero, suc, ◌+◌, ◌-◌, ◌<◌, ◌≤◌, true, List, [], ◌∷◌, ◌++◌, length, take, drop}

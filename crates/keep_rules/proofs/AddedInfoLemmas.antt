@@ -1,4 +1,7 @@
 -- The facts that one operation adds: to a new node, and to one that is there.
+--
+-- Theorems: `added_at_new`: the facts of a new node come last; `added_at_existing`: facts join those of a node that is
+-- there; `with_mentions-paths`: the paths after some mentions.
 use Rattle.std.proofs.Common.{◌≡◌, ◌≢◌, ℕ, suc, ◌+◌, ◌<◌, Bool, true, false, cond, not, ◌||◌, List, [], ◌∷◌, ◌++◌}
 use Rattle.std.proofs.Common.{length, get_or, set, refl, sym, ◌∙◌, ap, subst, arith, Option, Some, None}
 use Rattle.std.specs.Prelude.{Contains, AllPairs, nat_lt}

@@ -1,4 +1,7 @@
 -- A text that was added to can be cut back to what it was.
+--
+-- Theorems: `grown`: its first bytes are the old text; `grown_then`: they are after two steps; `old_ends`: the old text
+-- ends where a character does.
 use Rattle.std.proofs.Common.{◌≡◌, ℕ, ◌≤◌, List, ◌++◌, length, take, sym, ap, ◌∙◌, subst, arith, length-take}
 use Rattle.std.specs.Prelude.{IsUtf8}
 use Rattle.std.proofs.Math.Seq.{take-length, take-append_seam}

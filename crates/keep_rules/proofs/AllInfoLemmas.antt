@@ -8,8 +8,7 @@
 -- node yet (`ValuesAreNew`).
 --
 -- Theorems: `all_infos`: the facts of all nodes; `values_new_in`: those of a document; `values_new_of`: all nodes, of
--- any
--- mentions.
+-- any mentions.
 use Rattle.std.proofs.Common.{◌≡◌, ◌≢◌, ℕ, ◌<◌, ◌≤◌, Bool, true, false, cond, ◌||◌, ◌⊎◌, List, [], ◌∷◌, ◌++◌, length}
 use Rattle.std.proofs.Common.{get_or, set, map, refl, sym, ap, subst, ◌∙◌, arith, inl, inr, Some, None}
 use Rattle.std.specs.Prelude.{◌^◌, Contains, AllPairs}

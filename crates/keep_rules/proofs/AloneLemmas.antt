@@ -1,4 +1,16 @@
--- A value alone.
+-- A value alone obeys the rules once it is read, and its nodes are those of the definitions; else its first faulty key
+-- part is refused.
+--
+-- The tree is at first its root alone, which represents the value itself (`root_nesting`). The flat list has the values
+-- inside it in their order (`alone_matches`), so these are the next to be read (`alone_next`). Once they are read, the
+-- nodes represent all mentions in the value, so these obey the rules (`alone_obeys`). The facts are then those of the
+-- mentions one after another, and no value is given to a path that is there, so they are the facts that the definitions
+-- have (`alone_nodes`, by `values_new_of`). Where a key part breaks the rules, it is the first faulty one
+-- (`alone_breaks`); so it is one of the value's key parts (`alone_within`), and the refusal is that of the definitions
+-- (`alone_refused`).
+--
+-- Theorems: `alone_obeys`: a value that was read obeys the rules; `alone_nodes`: the nodes are those in the value;
+-- `alone_refused`: a refusal is of the first faulty key part, or memory ran out.
 use Rattle.std.proofs.Common.{◌≡◌, ℕ, zero, suc, ◌+◌, ◌<◌, ◌^◌, List, [], ◌∷◌, ◌++◌, length, map, get_or, slice_get}
 use Rattle.std.proofs.Common.{refl, sym, ◌∙◌, ap, subst, arith, Some, None}
 use Rattle.std.specs.List.{AllZip}

@@ -1,4 +1,16 @@
 -- Statements and values by their keys: the leading ones, and the last.
+--
+-- A key is read in two parts: a descent along its leading texts, and then what its last text defines. Here the lemmas
+-- about the two parts give those about the whole key, whose texts are both (`texts_split`); its last key part has the
+-- number of the first and as many more as there are leading texts (`length-leading_texts`). For a `header` there are
+-- four: a leading key part is refused (`header_walk_stops`), the last one is (`header_stops`), all are read
+-- (`header_read`), and their facts are added (`header_all_added`). So it is for an `element_header` (`element_read` and
+-- the like) and for a value with a key (`keyed_stops` and the like, with `value_given` for the nodes). What follows
+-- from a refused key part holds of the fault, and where memory ran out there is nothing to prove (`meets_weaker`,
+-- `stops_weaker`).
+--
+-- Theorems: `header_read`: the nodes after a header; `header_stops`: its last key part, if refused, is the first faulty
+-- one; `header_all_added`: the facts that it adds.
 use Rattle.std.proofs.Common.{◌≡◌, ℕ, ◌+◌, ◌-◌, ◌<◌, List, [], ◌∷◌, ◌++◌, length, sym, subst}
 use Rattle.keep_syntax.specs.declared.fault.Why.{Why}
 use Rattle.keep_syntax.specs.declared.fault.Why.TheVariants.{DefinedTwice, NotAnArray, DuplicateKey}

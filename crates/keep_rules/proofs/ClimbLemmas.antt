@@ -1,4 +1,7 @@
 -- The nodes from one up to the root, and the last step of each one's path.
+--
+-- Theorems: `ancestors_left`: without the last of them, the others are the nodes up to that one; `step_last`: the path
+-- of a node is that of its parent and its own step; `root_alone`: the root's path alone is empty.
 use Rattle.std.proofs.Common.{◌≡◌, ◌≢◌, ℕ, ◌<◌, List, [], ◌∷◌, ◌++◌, length, get_or, refl, sym, ◌∙◌, ap, subst, arith}
 use Rattle.std.proofs.lemmas.List.{get_or-map}
 use Rattle.keep_path.specs.Path.{Part, index}

@@ -1,4 +1,7 @@
 -- The key parts of the values of entries follow one another.
+--
+-- Theorems: `first_keys`: they do so, from a number of key parts on; `nested_count`: how many values the entries have;
+-- `match_nested`: in the list of all values, those from a number on are these values.
 use Rattle.std.proofs.Common.{◌≡◌, ℕ, suc, ◌+◌, ◌<◌, List, [], ◌∷◌, ◌++◌, length, take, drop, slice_get, refl, sym, ◌∙◌}
 use Rattle.std.proofs.Common.{ap, subst, arith, length-append, Option, Some, None}
 use Rattle.std.specs.List.{AllZip}

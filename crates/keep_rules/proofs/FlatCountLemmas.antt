@@ -1,4 +1,6 @@
 -- The numbers of a document's statements in one list are what is counted before each.
+--
+-- Theorem: `document_counts`: the statements, key parts and values that are counted before a statement.
 use Rattle.std.proofs.Common.{◌≡◌, ℕ, zero, suc, ◌+◌, List, [], ◌∷◌, ◌++◌, length, map, take, slice_get, refl, sym, ◌∙◌}
 use Rattle.std.proofs.Common.{subst, arith, Option, Some, None}
 use Rattle.std.specs.List.{filter_map, cons_option}

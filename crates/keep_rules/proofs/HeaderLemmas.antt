@@ -1,4 +1,14 @@
 -- Reading a header of the flat list as the statement that it is.
+--
+-- The code reads a header by its kind and its key, as the statement `head_of` of the two; any kind but `Element` is
+-- read as `[..]` (`head_other`). Each statement of the definitions that the one of the flat list matches is this one,
+-- as it has no value and a keyval has one (`mentions_head`). So what reading `head_of` does to the nodes and the facts
+-- is what reading the statement does (`head_is_read`), and its fault is the statement's fault (`head_break`). A header
+-- gives no values (`head_none`), so none is given to a path that is there (`no_values`). That the keys can be read
+-- comes from the match too (`statement_keys`).
+--
+-- Theorems: `head_read`: where the header was read, the statement was; `head_breaks`: where it is refused, the
+-- statement breaks the rules.
 use Rattle.std.proofs.Common.{◌≡◌, ℕ, Bool, true, false, List, [], ◌∷◌, ◌++◌, refl, sym, ◌∙◌, ap, subst, Some, None, Ok}
 use Rattle.std.proofs.Common.{Err, if◌then◌else◌, ◌==◌}
 use Rattle.std.specs.Prelude.{IfErr, IfOk, Result}

@@ -1,4 +1,14 @@
 -- The texts of a key, and the walks of headers and keyvals along them.
+--
+-- The texts of a key are those of its key parts in the flat list (`keys_at`), as many as these are (`length-keys_in`):
+-- the leading ones and the last (`texts_split`). The code goes along the leading ones in their order: the first ones
+-- are `take i k.texts`, and one more comes after these (`leading_more`). So the descent of a header or of a keyval goes
+-- on (`walked_more`, `dotted_more`), with the facts that the next key part adds (`walked_added`, `dotted_added`). Where
+-- the next one is refused, the leading texts are those before it, its own, and those after it (`leading_split`); so it
+-- is the first faulty key part of them all (`walk_stops`, `dots_stop`).
+--
+-- Theorems: `length-keys_in`: a key has as many texts as key parts; `walked_more`: a header goes down one more key;
+-- `walk_stops`: it is refused there.
 use Rattle.std.proofs.Common.{◌≡◌, ℕ, zero, suc, ◌+◌, ◌-◌, ◌<◌, ◌≤◌, List, [], ◌∷◌, ◌++◌, length, get_or, take, drop}
 use Rattle.std.proofs.Common.{refl, sym, ◌∙◌, ap, subst, arith, Some}
 use Rattle.std.specs.Prelude.{slice_get}

@@ -350,5 +350,3 @@ keyed_added old mid new from at id ks x first number k holds gone leading marked
     (sym (keyed_mentions_are (path_of_value s o) ks x f
     ∙ ap (λ p. dotted_mentions p ks ++ record { path = (p ++ map key ks) ++ key x ∷ []; kind = value f } ∷ [])
     (sym here))) all
-
--- ---- headers give no values

@@ -1,4 +1,7 @@
--- A key is its leading parts and its last part.
+-- The path of a key, and what it mentions, follow from its leading parts and its last part.
+--
+-- Theorems: `header_prefixes-split`: a header mentions on its way what its leading keys mention; `header_path-split`:
+-- the path of a header; `keyed-split`: what a keyval mentions.
 use Rattle.std.proofs.Common.{◌≡◌, ℕ, true, false, cond, List, [], ◌∷◌, ◌++◌, length, map, refl, sym, ◌∙◌, ap, arith}
 use Rattle.std.proofs.Common.{length-append}
 use Rattle.std.specs.Prelude.{◌==◌}

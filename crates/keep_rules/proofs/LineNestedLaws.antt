@@ -2,11 +2,9 @@
 -- `line_leaves_nested`).
 --
 -- The paths are those of before, and the line's path in one place, so a node's number is that of before, or greater by
--- one
--- (`number_more`). What is said of any other path is the same, and so are the `[[..]]` lines. The line's node is in the
--- table that its header opens, which is a node and no array of tables; so it is below a node, and is not the last
--- element
--- that a header may enter.
+-- one (`number_more`). What is said of any other path is the same, and so are the `[[..]]` lines. The line's node is in
+-- the table that its header opens, which is a node and no array of tables; so it is below a node, and is not the last
+-- element that a header may enter.
 --
 -- Theorems: `line_is_nested` and `line_leaves_nested`.
 use Rattle.std.proofs.Common.{◌≡◌, ℕ, ◌-◌, ◌<◌, Bool, true, false, cond, List, [], ◌∷◌, ◌++◌, length, get_or, map, refl}

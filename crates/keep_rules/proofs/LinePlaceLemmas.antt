@@ -1,4 +1,6 @@
 -- The place of a line's node among the others is how many come before the first that is not met before the line.
+--
+-- Theorems: `place_is`: the place; `is_from` and `is_before`: on which side of it a node is.
 use Rattle.std.proofs.Common.{◌≡◌, ℕ, zero, suc, ◌+◌, ◌<◌, ◌≤◌, Bool, true, false, List, [], ◌∷◌, get_or, refl, sym, ap}
 use Rattle.std.proofs.Common.{◌∙◌, inl, inr, arith, Some}
 use Rattle.std.specs.Prelude.{slice_get}

@@ -1,4 +1,15 @@
 -- Numbers of paths, and the paths one step below, in a tree of steps.
+--
+-- The number of a path is the place of the first path that is the same. In a tree of steps no two nodes have one path
+-- (`one_node`), so the path of a node has that node's number (`number_some`), and a path of no node has none
+-- (`number_none`); `number_is` and `none_there` go the other way. Below a path of no node there is none
+-- (`none_longer`). A path is one step below another exactly if it is that path and one step more (`child_push`), so a
+-- node is one step below another exactly if it is a child of it (`is_child_there`). Thus the paths one step below a
+-- node are those of its children, in order (`below_from`, `children_are`): as many (`count_is`), and each with its
+-- child's number (`nth_is`).
+--
+-- Theorems: `number_some`: the path of a node has its number; `number_is`: the number of a path is that of a node with
+-- this path; `nth_is`: the n-th path one step below has the number of the n-th child.
 use Rattle.std.proofs.Common.{◌≡◌, ℕ, suc, zero, ◌+◌, ◌-◌, ◌<◌, ◌≤◌, Bool, true, false, cond, List, [], ◌∷◌, ◌++◌}
 use Rattle.std.proofs.Common.{length, get_or, drop, map, refl, sym, ◌∙◌, ap, arith, Some, None}
 use Rattle.std.specs.Prelude.{◌==◌, ◌&&◌, Contains, position, filter, slice_get}

@@ -1,4 +1,8 @@
 -- The facts from mentions, part by part, and those from one mention.
+--
+-- Theorems: `with_mentions-append`: the facts from two lists of mentions; `values_new-append`: the values of both are
+-- new if those of one are, and then those of the other; `through_info`, and its like for each other kind: the facts
+-- from one mention.
 use Rattle.std.proofs.Common.{◌≡◌, List, [], ◌∷◌, ◌++◌, ℕ, refl}
 use Rattle.keep_types.specs.declared.node.Kind.TheVariants as kind
 use Rattle.keep_types.specs.declared.node.Origin.TheVariants as origin

@@ -1,4 +1,7 @@
 -- The nodes of a document are nested as its headers say.
+--
+-- Theorems: `nested_represents`: they are nested so; `enters`: a header past an array of tables enters its last
+-- element.
 use Rattle.std.proofs.Common.{◌≡◌, ℕ, zero, suc, ◌-◌, ◌<◌, Bool, true, false, cond, List, [], ◌∷◌, ◌++◌, length, get_or}
 use Rattle.std.proofs.Common.{refl, sym, ◌∙◌, ap, subst, arith, Option, Some, None}
 use Rattle.std.specs.Prelude.{◌==◌, slice_get, IsSome}

@@ -1,4 +1,14 @@
 -- Nested values, read one after another.
+--
+-- What reading a list of nested values does is one record, `NestedRead`: the nodes represent their mentions too, the
+-- facts of these are added one after another, and no value is given to a path that is there. Reading none changes
+-- nothing (`nested_read_none`). Reading one list and then another is reading both (`nested_read_then`): the mentions of
+-- the second are numbered from where those of the first end (`numbered_parts`), as many values later as the first has
+-- (`all_nested_valued`), and the paths that are there then are those that the first met (`with_mentions-paths`). One
+-- value, whose key parts `nested_marks` counts, is read in two ways: as an item (`nested_read_item`, by `item_taken`
+-- and `item_represents`), or as a value with a key (`nested_read_keyed`, by `keyed_taken` and `keyed_represents`).
+--
+-- Theorems: `nested_read_then`: one list after another; `nested_read_item` and `nested_read_keyed`: one value.
 use Rattle.std.proofs.Common.{◌≡◌, ℕ, ◌+◌, ◌<◌, List, [], ◌∷◌, ◌++◌, length, map, get_or, refl, sym, ◌∙◌, ap, subst}
 use Rattle.std.proofs.Common.{arith, if◌then◌else◌, inl, inr}
 use Rattle.std.proofs.lemmas.List.{append_assoc, append-nil}

@@ -1,4 +1,15 @@
 -- One value more: what it does to the nodes of the values so far.
+--
+-- Each value so far has a node (`AreValueNodes`), of which the nesting state says the path, what children it may have
+-- and, of an array, how many. The node of the new value is made after all of these (`IsMade`), so it is none of them,
+-- and it has what the next state says of it (`new_path`, `new_holding`, `new_entries`). The others stay as they are,
+-- but for the owner: if it is an array, it has one item more (`nested_taken`). An item has the number of items so far
+-- as its index (`item_taken`); a value with a key has the path of its owner with its keys (`keyed_taken`, by
+-- `keys_path`). So the nodes represent the mentions of the new value too: of an item one (`item_represents`), of a
+-- value with a key those along its leading keys and its own (`keyed_represents`, by `keyed_mentions_are`).
+--
+-- Theorems: `item_taken` and `keyed_taken`: these are again the nodes of the values so far, with the new one;
+-- `keyed_mentions_are`: the mentions of a value with a key.
 use Rattle.std.proofs.Common.{◌≡◌, ℕ, ◌+◌, ◌<◌, List, [], ◌∷◌, ◌++◌, length, get_or, map, refl, sym, ◌∙◌, ap, subst}
 use Rattle.std.proofs.Common.{arith, length-append, inl, inr}
 use Rattle.std.proofs.lemmas.List.{append_assoc, map-append, get_or_append_left, get_or_push}

@@ -1,4 +1,7 @@
--- What holds of a value inside an Option or a Result, by what follows from it.
+-- Where something holds of an Option or a Result, so does what follows from it.
+--
+-- Theorems: `on_either`: what follows from Ok, and from an error, holds; `both_ok` and `two_ok`: what follows from two
+-- things where the result is Ok.
 use Rattle.std.proofs.Common.{Option, Some, None, Ok, Err}
 use Rattle.std.specs.Prelude.{IfOk, OnOk, OnErr, IfSome, IfNone, Result}
 

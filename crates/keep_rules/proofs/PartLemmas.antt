@@ -1,4 +1,6 @@
--- How many key parts a text can have.
+-- The stored key parts are at most 2 ^ 64 - 1, so a machine word counts them.
+--
+-- Theorem: `few_keys`.
 use Rattle.std.proofs.Common.{◌≤◌, ◌-◌, ◌^◌, length, arith}
 use Rattle.keep_syntax_store.specs.declared.parts.Parts.{Parts}
 use Rattle.keep_syntax_store.specs.Blocks.{raise_key}

@@ -1,5 +1,7 @@
--- How much room the text of a node's path takes: the nodes up to the root are as many as it has steps, and the text of
--- an ancestor's path is no longer.
+-- How much room the text of a node's path takes: a path has one step more than that of the node's parent, and the text
+-- of an ancestor's path is no longer.
+--
+-- Theorems: `step_more`: the steps of a path; `ancestor_text`: the text of an ancestor's path.
 use Rattle.std.proofs.Common.{◌≡◌, ◌∙◌, ℕ, ◌+◌, ◌<◌, ◌≤◌, List, [], ◌∷◌, ◌++◌, length, length-append, ap, arith}
 use Rattle.std.specs.Prelude.{Result, Ok, Err, OnErr}
 use Rattle.keep_path.specs.PathText.{encoded_path}

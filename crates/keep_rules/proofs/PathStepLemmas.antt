@@ -1,4 +1,7 @@
 -- A node's path as it is written: the text of its parent's path, and the node's own step after it.
+--
+-- Theorems: `encoded_more`: the text of any path with one step more; `key_added` and `index_added`: a text that ends in
+-- the parent's path ends in the node's once the step is added, which is a key or an index.
 use Rattle.std.proofs.Common.{◌≡◌, ◌≢◌, ℕ, ◌+◌, ◌<◌, List, [], ◌∷◌, ◌++◌, length, length-append, refl, sym, ◌∙◌, ap}
 use Rattle.std.proofs.Common.{append_assoc, append-nil, inl, inr}
 use Rattle.std.specs.Prelude.{◌==◌, if◌then◌else◌}

@@ -1,4 +1,7 @@
--- One element more in a list: what a test finds of the others is as before (`number_put`, `filter_put`).
+-- One element more in a list, which does not pass a test: what the test finds of the others is as before.
+--
+-- Theorems: `number_put`: the first that passes is the same, with a later number if it comes after the new one;
+-- `filter_put`: those that pass are the same.
 use Rattle.std.proofs.Common.{◌≡◌, ℕ, zero, suc, ◌+◌, ◌<◌, Bool, true, false, cond, not, List, [], ◌∷◌, ◌++◌, length}
 use Rattle.std.proofs.Common.{get_or, refl, sym, ap, ◌∙◌, inl, inr, arith, Option, Some, None}
 use Rattle.std.specs.Prelude.{filter, nat_lt, position, slice_get}

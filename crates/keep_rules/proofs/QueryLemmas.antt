@@ -1,4 +1,15 @@
 -- The answers of the stored nodes, by the paths of the nodes and the facts about them.
+--
+-- What is stored answers by its tree of steps; what is asked is about the paths of all nodes and the facts about them.
+-- Both are the same by `node_infos` (`IsNode`, `IsSeen`), and with `LookupLemmas` each answer is the one asked for: the
+-- child by a step is the node of the path with this step more (`child_answer`), and the children are as many and in the
+-- same order (`count_answer`, `nth_answer`). A search along a path goes from the root (`at_root`) to the node of the
+-- steps so far (`at_next`); where a step leads to no node, no longer path has one (`at_none`), and after all steps the
+-- node is that of the path (`at_end`). Setting a kind changes the one as the other (`kind_set`), and what setting a key
+-- asks of the one holds of the other (`ends_seen`, `fresh_seen`).
+--
+-- Theorems: `count_paths`: there are as many paths as stored nodes; `child_answer`: the child by a step; `at_end`: the
+-- node to which all steps lead.
 use Rattle.std.proofs.Common.{◌≡◌, ℕ, suc, ◌+◌, ◌<◌, ◌≤◌, true, false, if◌then◌else◌, List, [], ◌∷◌, ◌++◌, length, set}
 use Rattle.std.proofs.Common.{take, drop, take-take, refl, sym, ◌∙◌, ap, arith, Option, Some, None}
 use Rattle.std.specs.Prelude.{Contains, IfSome, IsNone, slice_get, nat_lt, min}

@@ -1,4 +1,6 @@
 -- What obeys the rules is refused only where memory runs out.
+--
+-- Theorems: `refused_memory`: a document; `value_refused_memory`: a value alone.
 use Rattle.std.proofs.Common.{◌≡◌, ℕ, refl}
 use Rattle.keep_syntax.specs.declared.fault.ReadFault.{ReadFault}
 use Rattle.keep_syntax.specs.declared.fault.ReadFault.TheVariants.{Utf8, Syntax, TooDeep, Define, Memory}

@@ -1,4 +1,6 @@
--- The root alone, and the places of faults.
+-- The root alone represents an empty list of mentions, and the fault with a number is at the place of its key part.
+--
+-- Theorems: `rooted_represents`: the root; `fault_placed`: the fault.
 use Rattle.std.proofs.Common.{ℕ, ◌<◌, List, [], ◌∷◌, length, refl, sym, ap, subst, arith, length-append}
 use Rattle.keep_syntax.specs.declared.fault.ReadFault.{ReadFault}
 use Rattle.keep_syntax.specs.declared.fault.ReadFault.TheVariants as faults

@@ -1,4 +1,6 @@
--- Where a node is in the text, by the numbers that the facts about it have.
+-- Where the value of a node is in the text, by the number that the node's origin has.
+--
+-- Theorem: `value_placed_at`.
 use Rattle.std.proofs.Common.{◌≡◌, ℕ, List, [], map, get_or, refl, sym, ◌∙◌, ap, arith, Option, Some, None}
 use Rattle.std.specs.Prelude.{slice_get}
 use Rattle.std.specs.Option.{option_map, option_and_then}

@@ -1,4 +1,7 @@
 -- The values of a document fit what they are in: items arrays, and what has a key inline tables and bodies.
+--
+-- Theorems: `keyval_suits`: the values of a keyval in a body; `value_suits`: those in a value alone; `nested_suit`:
+-- those of entries that fit.
 use Rattle.std.proofs.Common.{◌≡◌, ℕ, suc, ◌+◌, ◌<◌, List, [], ◌∷◌, ◌++◌, length, refl, sym, ◌∙◌, ap, subst, arith}
 use Rattle.std.proofs.Common.{Option, Some, None}
 use Rattle.keep_types.specs.declared.leaf.Profile.{Profile}

@@ -1,10 +1,8 @@
 -- What is stored of lines comes after all that is counted before them, and ends with them: so it is held wherever the
--- text's
--- end is.
+-- text's end is.
 --
 -- Each place of an entry is where leaves begin or end that are in the line's. So it is between the line's start and its
--- end,
--- by the widths of the leaves before it; and each number counts on from what comes before the line.
+-- end, by the widths of the leaves before it; and each number counts on from what comes before the line.
 --
 -- Theorem: `after_lines_hold`: all entries after replaced lines come after them, and lie in the text.
 use Rattle.std.proofs.Common.{◌≡◌, ℕ, ◌+◌, ◌≤◌, Bool, true, false, List, [], ◌∷◌, ◌++◌, length, drop, refl, sym, ap}

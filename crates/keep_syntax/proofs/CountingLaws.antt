@@ -4,8 +4,7 @@
 -- it. Both ascend, so the count is the length of what is stored of the lines before (`starts_before`, `lines_begin`, by
 -- induction). How many key parts and values come before is read off the first statement and the first keyval from there
 -- on (`HeadLaws`). A document's lists are those of the lines before, joined with those of the rest (`flat_before`), and
--- of
--- such lists the counts are found (`counts_join` of keep_syntax_store).
+-- of such lists the counts are found (`counts_join` of keep_syntax_store).
 --
 -- Theorem: `counts_found`: the counts that the code finds are those of the lines before the place.
 use Rattle.std.proofs.Common.{◌≡◌, ℕ, suc, ◌+◌, ◌<◌, ◌≤◌, List, [], ◌∷◌, ◌++◌, length, refl, sym, ap, subst, ◌∙◌, arith}

@@ -1,4 +1,7 @@
 -- The tokens that stored kinds and starts cut out of a text, one by one, and as the leaves of a tree.
+--
+-- Theorems: `cut_next`: the token with a number, and those after it; `cut_placed`: the tokens are the leaves of a tree
+-- with their places; `start_forward`: the tokens begin in order.
 use Rattle.std.proofs.Common.{◌≡◌, ℕ, zero, suc, ◌+◌, ◌-◌, ◌≤◌, List, [], ◌∷◌, ◌++◌, length, get_or, take, drop}
 use Rattle.std.proofs.Common.{slice_get, slice_range, Some, None, refl, sym, ap, ◌∙◌, arith, append_assoc, take_at}
 use Rattle.std.proofs.Common.{drop_at}

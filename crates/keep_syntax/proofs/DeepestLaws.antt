@@ -1,4 +1,6 @@
--- The most brackets that are open in the values inside a value are its depth.
+-- The most brackets that are open in a value and in those inside it are its depth.
+--
+-- Theorems: `deepest_alone`: a value alone; `deepest_iteration`: the most in a list of values, with one more.
 use Rattle.std.proofs.Common.{◌≡◌, ℕ, zero, suc, ◌+◌, max, Bool, false, IsTrue, cond, List, [], ◌∷◌, ◌++◌, take}
 use Rattle.std.proofs.Common.{slice_get, Some, None, refl, ap, ◌∙◌, subst, arith, add-one}
 use Rattle.std.specs.List.{AllByRecursion}

@@ -1,4 +1,6 @@
 -- No value has more brackets open than the limit, itself counted.
+--
+-- Theorems: `values_within`: in a document; `value_values_within`: in a value alone.
 use Rattle.std.proofs.Common.{◌≡◌, ℕ, suc, ◌+◌, ◌≤◌, Bool, cond, List, [], ◌∷◌, ◌++◌, None, refl, sym, ap, subst, arith}
 use Rattle.std.specs.List.{AllByRecursion}
 use Rattle.keep_types.specs.declared.leaf.Profile.{Profile}

@@ -1,4 +1,15 @@
 -- What parts add to what is stored: one after the other, and a change of what was stored.
+--
+-- `Grows` says three things of parts between two places: their text is as long as the places are apart, their leaves,
+-- statements, key parts and values are at the ends of the stored lists (`add_at`), and each leaf begins at the start of
+-- a character. Where leaves begin is counted from the place of the first, and the leaves of a second part begin where
+-- those of the first end, so the two lists of starts are one (`starts-append`, `width-append`). So to add one part and
+-- then another is to add both (`add_add`), and growths join. One token, one key part or one value is a growth of its
+-- own (`grows_token`, `grows_key`, `grows_value`). A value that is changed later is found by its number: the first that
+-- was added has as its number how many values there were before.
+--
+-- Theorems: `grows_then`: what one part and then another add is what both add; `grows_changed`: the first value that
+-- was added is changed; `width-append`: the widths of leaves add up.
 use Rattle.std.proofs.Common.{◌≡◌, ℕ, ◌+◌, List, [], ◌∷◌, ◌++◌, length, refl, sym, ap, ◌∙◌, subst, append_assoc, arith}
 use Rattle.std.proofs.Common.{IsCharBoundary}
 use Rattle.std.specs.List.{AllByRecursion}

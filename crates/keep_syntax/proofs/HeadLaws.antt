@@ -1,4 +1,6 @@
 -- How many key parts and values come before lines shows in the first statement, and the first keyval, among them.
+--
+-- Theorems: `head_is`: the key parts; `values_from`: the values.
 use Rattle.std.proofs.Common.{◌≡◌, ℕ, ◌+◌, ◌≤◌, List, [], ◌∷◌, ◌++◌, length, refl, ap, ◌∙◌, arith, Option, Some, None}
 use Rattle.keep_types.specs.declared.syntax.Statement.{Statement}
 use Rattle.keep_types.specs.declared.syntax.KeyPart.{KeyPart}

@@ -1,4 +1,7 @@
 -- The tokens of a document part its text, and there may be one more than bytes.
+--
+-- Theorems: `tokens_part`: the tokens part the text; `tokens_few`: there is at most one more than bytes;
+-- `tokens_reach`: a text of any length can have as many.
 use Rattle.std.proofs.Common.{◌≡◌, ℕ, zero, suc, ◌+◌, List, [], ◌∷◌, ◌++◌, length, refl, sym, ap, ◌∙◌, subst, arith}
 use Rattle.std.proofs.Common.{append_assoc, inl, None, false}
 use Rattle.std.specs.List.{AllByRecursion}

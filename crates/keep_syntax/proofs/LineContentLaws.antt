@@ -1,4 +1,14 @@
 -- What the code stores of the content of a line: a keyval or a header.
+--
+-- The first two bytes decide which content it is, so there the reading function `content_at` is that of a keyval, of a
+-- header or of the header of an element (`keyval_content`, `header_content`, `element_content`). A fault of a part is
+-- the content's fault (`keyval_fails_name`, `keyval_fails_value`, `header_fails`, `element_fails`), and so is a missing
+-- bracket (`header_bad`, `element_bad`). Where all parts are read, their growths are joined (`grows_then`) into that of
+-- the content (`content_taken`). The code subtracts two counts to know how many key parts the content has. The
+-- difference is how many the key has, since the list of key parts grew by those (`length-key`, `name_grown`,
+-- `key_grown`).
+--
+-- Theorems: `keyval_is`, `header_is` and `element_is`: a content that is read, what is stored of it, and its head.
 use Rattle.std.proofs.Common.{◌≡◌, ℕ, suc, ◌+◌, ◌-◌, false, ◌==◌, ◌&&◌, List, [], ◌∷◌, ◌++◌, length, get_or}
 use Rattle.std.proofs.Common.{get_or-drop, drop, Some, None, Ok, refl, sym, ap, ◌∙◌, arith, append_assoc}
 use Rattle.std.proofs.lemmas.List.{append-nil}

@@ -1,14 +1,11 @@
 -- How a line ends, and what the code stores of a line with its end.
 --
 -- After its content a line has a comment, and then a newline, unless the text ends (`EndRead`). With what comes before
--- it
--- that is the line (`LineRead`): one without a statement (`blank_line`), or one with a statement (`stated_line`), which
--- is
--- stored once the end is known.
+-- it that is the line (`LineRead`): one without a statement (`blank_line`), or one with a statement (`stated_line`),
+-- which is stored once the end is known.
 --
 -- Theorems: `blank_line`, `stated_line`: the line is read, and what it has is stored; `content_fails` and
--- `stated_fails` for
--- faults.
+-- `stated_fails` for faults.
 use Rattle.std.proofs.Common.{◌≡◌, ℕ, ◌<◌, true, List, [], ◌∷◌, length, get_or, drop, Option, Some, None, Result, Ok}
 use Rattle.std.proofs.Common.{Err, refl, sym, ap, ◌∙◌, subst, arith, unwrap_or}
 use Rattle.std.proofs.lemmas.List.{append-nil, length-drop}

@@ -1,4 +1,7 @@
--- How the lists of lines and of key parts grow by one.
+-- How a list over lines grows by one line, and what is counted after lines.
+--
+-- Theorems: `over-last`: the list with the last line; `after_lines-at`: the place after lines;
+-- `after_lines-statements`, and its like for key parts and values: how many there are up to there.
 use Rattle.std.proofs.Common.{◌≡◌, ℕ, ◌+◌, List, [], ◌∷◌, ◌++◌, length, refl, sym, ap, ◌∙◌, arith, append_assoc}
 use Rattle.std.specs.List.{flat_map}
 use Rattle.std.proofs.lemmas.List.{append-nil, length-append}
@@ -6,8 +9,6 @@ use Rattle.keep_syntax.specs.Tree.{Content, blank, keyval, header, element, Line
 use Rattle.keep_syntax.specs.Numbered.{width, Count, line_parts, line_values, line_statements, content_statements}
 use Rattle.keep_syntax.specs.Numbered.{next_line, over_lines, after_lines}
 use Rattle.keep_syntax.proofs.GrowthLaws.{width-append}
-
--- ---- key parts
 
 -- ---- lines
 

@@ -1,4 +1,7 @@
 -- Where lines begin that are looked up by a place, and which lines come before it.
+--
+-- Theorems: `line_step`: a place after the first line is looked up among the lines after it; `next_high`: the next line
+-- begins at or after the place; `before_step`: a line that begins before the place comes before it.
 use Rattle.std.proofs.Common.{◌≡◌, ℕ, ◌+◌, ◌<◌, ◌≤◌, Bool, true, false, List, [], ◌∷◌, refl, sym, ◌∙◌, arith, le-leb}
 use Rattle.std.proofs.Common.{lt-ltb, le-ltb, leb-true}
 use Rattle.std.specs.Prelude.{⊤, ltb, leb, if◌then◌else◌}

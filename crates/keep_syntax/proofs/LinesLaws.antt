@@ -1,4 +1,7 @@
 -- A list over lines from one count on is the list over them from another, moved.
+--
+-- Theorems: `moved_over`: any such list; `moved_statements`, and its like for key parts and values: one of them;
+-- `over-prefix`: the list over some lines and then over the others.
 use Rattle.std.proofs.Common.{◌≡◌, ℕ, ◌+◌, List, [], ◌∷◌, ◌++◌, map, refl, sym, ap, ◌∙◌, append_assoc}
 use Rattle.keep_syntax.specs.Tree.{Line, Ended, ended_leaves}
 use Rattle.keep_syntax.specs.Numbered.{width, Count, line_statements, line_parts, line_values, next_line, over_lines}

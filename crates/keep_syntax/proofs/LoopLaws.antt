@@ -1,4 +1,15 @@
 -- Loops of reading: the count of iterations can be forgotten, and what holds of each iteration holds of the loop.
+--
+-- A `loop` is `repeat` with one more iteration than there are bytes. Each iteration that continues takes a byte
+-- (`Shortens`), so every count above the number of bytes gives the same, by induction over the count (`repeat_same`).
+-- Hence a loop is its first iteration and, where that continues, the loop from there (`loop_step`); there is a lemma
+-- for an iteration that continues, is the last, or fails (`loop_on`, `loop_ready`, `loop_err`). What holds of the loop
+-- is found by the same induction, from the last iteration back (`repeat_holds`), also where the loop fails at a bracket
+-- that is one too many (`repeat_deep`). With a larger limit each result is the same, unless the smaller limit was
+-- passed (`Same`); this goes through steps, tests and loops (`same_bind`, `same_cond`, `same_repeat`).
+--
+-- Theorems: `loop_on`: the loop goes on with what an iteration that continues leaves; `repeat_holds`: what holds of
+-- each iteration holds of the loop; `same_repeat`: a loop with a larger limit.
 use Rattle.std.proofs.Common.{◌≡◌, ℕ, zero, suc, ◌<◌, Bool, true, false, cond, List, length, Result, Ok, Err, refl, ap}
 use Rattle.std.proofs.Common.{◌∙◌, subst, inl, inr, arith, ◌⊎◌}
 use Rattle.keep_syntax.specs.Reading.{Fault, Bad, Deep, Read, ◌>>=◌, Iteration, continues, ready, onward, repeat, loop}

@@ -1,4 +1,7 @@
 -- Tokens, key parts and values of entries, one after the other, and how many there are.
+--
+-- Theorems: `values-join`, and its like for tokens and key parts: those of entries, and of more after them;
+-- `length-values`, and its like for key parts: how many there are; `entries_end-at`: where the entries end.
 use Rattle.std.proofs.Common.{◌≡◌, ℕ, suc, ◌+◌, List, [], ◌∷◌, ◌++◌, length, Option, Some, None, refl, sym, ap, ◌∙◌}
 use Rattle.std.proofs.Common.{append_assoc, arith}
 use Rattle.std.proofs.lemmas.List.{length-append}

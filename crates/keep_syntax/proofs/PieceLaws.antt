@@ -1,4 +1,7 @@
 -- What is stored of a document, in pieces: that of the lines before others, that of those, and that of the lines after.
+--
+-- Theorems: `lines_replaced`: what is stored where some lines are new; `flat_pieces`: that of a document is that of its
+-- byte order mark and its lines; `lines_prefix`: that of lines is that of the first of them and of the others.
 use Rattle.std.proofs.Common.{◌≡◌, ℕ, ◌+◌, Bool, false, List, [], ◌++◌, refl, sym, ap, ◌∙◌, arith, append_assoc}
 use Rattle.std.specs.List.{flat_map}
 use Rattle.std.proofs.lemmas.List.{append-nil}

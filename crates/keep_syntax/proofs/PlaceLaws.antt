@@ -1,4 +1,7 @@
--- Tokens are one after the other, and their texts joined are the text.
+-- The texts of a document's tokens, joined, are its text; and there are as many token places as tokens.
+--
+-- Theorems: `tokens_text`: all tokens of a document joined are its text; `tokens_placed`: there are as many tokens
+-- without their texts as with them.
 use Rattle.std.proofs.Common.{◌≡◌, ℕ, suc, ◌+◌, List, [], ◌∷◌, ◌++◌, length, refl, ap}
 use Rattle.std.specs.List.{flat_map}
 use Rattle.keep_syntax.specs.Tree.{Written, Document, text_of, leaves, text}

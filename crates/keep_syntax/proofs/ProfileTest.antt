@@ -1,4 +1,6 @@
--- The test of a value's profile takes exactly the values of that profile's grammar.
+-- Of the values of Wide's grammar, the test of a value's profile takes exactly those of that profile's grammar.
+--
+-- Theorem: `profile_tested`.
 use Rattle.std.proofs.Common.{◌≡◌, true, Result, Ok, Err, refl, sym, ap, subst, arith}
 use Rattle.std.specs.Prelude.{is_ok}
 use Rattle.keep_types.specs.declared.leaf.Profile.{Profile}

@@ -1,4 +1,6 @@
 -- The places of tokens from one place on are those from another, moved.
+--
+-- Theorem: `starts_move`.
 use Rattle.std.proofs.Common.{◌≡◌, ℕ, ◌+◌, List, [], ◌∷◌, length, map, refl, ap, ◌∙◌, arith}
 use Rattle.keep_syntax.specs.Tree.{Written}
 use Rattle.keep_syntax.specs.Growth.{starts}

@@ -1,4 +1,6 @@
 -- The definitions on a worked row: a = [1, {b = 2}]
+--
+-- Each row is a theorem of its own.
 use Rattle.std.proofs.Common.{◌≡◌, ℕ, false, [], ◌∷◌, map, Some, None, refl}
 use Rattle.std.specs.Prelude.{codes}
 use Rattle.keep_types.specs.declared.leaf.Leaf.TheVariants as leaf

@@ -1,4 +1,6 @@
 -- A syntax in which the same is stored is that of the same document and the same text.
+--
+-- Theorems: `same_syntax`: it is the syntax of the same document; `same_text`: its parts are those of the same text.
 use Rattle.std.proofs.Common.{ℕ, ◌+◌, ◌≤◌, List, sym, ap, subst, ◌∙◌, IsCharBoundary}
 use Rattle.keep_syntax.specs.declared.syntax.Syntax.{Syntax}
 use Rattle.keep_syntax.specs.Tree.{Document, text}

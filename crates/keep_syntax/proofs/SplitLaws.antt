@@ -1,4 +1,14 @@
 -- The lines of a document in three parts: those before the lines that a span touches, these, and those after.
+--
+-- The touched lines go from the last line start at or before the span's start (`line_of`) to the first at or after its
+-- end, or to the end of the text (`next_of`). Two inductions over the lines find the parts: each line that ends at or
+-- before the span's start is in the first part (`split`); from the next line on, each that begins before the span's end
+-- is touched, and the others come after (`rest`). Each of these lines ends with a newline, so it has a byte
+-- (`have_bytes`). Hence the starts of lines ascend strictly, and `lines_before` and `lines_from` cut the lines at these
+-- two places. That the touched lines end at `next_of` is known only where this is before the end of the text; else no
+-- ended line comes after.
+--
+-- Theorems: `document_split`: the three parts of the lines of a document; `text_length`: how long its text is.
 use Rattle.std.proofs.Common.{◌≡◌, ℕ, ◌+◌, ◌<◌, ◌≤◌, Bool, true, false, List, [], ◌∷◌, ◌++◌, length, refl, sym, ap}
 use Rattle.std.proofs.Common.{subst, ◌∙◌, arith, le-leb, leb-true, leb-false}
 use Rattle.std.specs.Prelude.{leb}

@@ -1,4 +1,8 @@
--- One iteration of each loop of reading, for the code: on after a part, or ready, or refused.
+-- One iteration of the loop that reads lines, for the code: it goes on after a line and its newline, is ready after the
+-- last line, or fails.
+--
+-- Theorems: `lines_newline`: after a line and its newline, the lines of the rest are read; `lines_last`: after the last
+-- line the loop is ready; `lines_err`: where an iteration fails, so does the loop.
 use Rattle.std.proofs.Common.{◌≡◌, ℕ, List, [], ◌∷◌, ◌++◌, drop, Some, Ok, Err, refl}
 use Rattle.keep_types.specs.declared.leaf.Profile.{Profile}
 use Rattle.keep_types.specs.declared.leaf.Leaf.TheVariants as leaf

@@ -1,10 +1,11 @@
 -- Reading stops at the bracket that is too deep.
 --
 -- The bracket is looked for among the leaves, part by part. A part that comes before it is read whole, since it opens
--- no more
--- than the limit; a gap or a key cannot have the bracket, since it opens none. So the part that has it is a value, and
--- then an
--- array or an inline table whose first bracket it is, or whose entries have it.
+-- no more than the limit; a gap or a key cannot have the bracket, since it opens none. So the part that has it is a
+-- value, and then an array or an inline table whose first bracket it is, or whose entries have it.
+--
+-- Theorems: `value_stops`: a value that has the bracket is read up to it; `too_deep_value`: so is a text that is one
+-- value; `one_value_place`: there is at most one such bracket.
 use Rattle.std.proofs.Common.{◌≡◌, ℕ, zero, suc, ◌+◌, ◌-◌, ◌≤◌, Bool, true, false, not, ◌&&◌, List, [], ◌∷◌, ◌++◌}
 use Rattle.std.proofs.Common.{length, drop, Option, Some, None, Result, Ok, Err, refl, sym, ap, ◌∙◌, subst, arith}
 use Rattle.std.proofs.Common.{append_assoc, drop_at}

@@ -1,4 +1,14 @@
 -- Reading a document stops at the bracket that is too deep, so there is at most one.
+--
+-- The bracket is one of the document's leaves (`reaches_at`), and it is looked for line by line (`look`). A byte order
+-- mark, white space, a key, a header and what follows a content open no bracket (`past`, `not_plain`). So the line that
+-- has it is a keyval, and its value has it: the reading of this value stops there (`value_stops`), and with it that of
+-- the content and of the line (`content_stops`, `line_stops`). A line before it opens no more than the limit, so it is
+-- read, and the loop continues after it (`line_passes`, `lines_stop`). Reading a text gives one result, so from two
+-- such brackets on the same is left of the text, and they are at one place (`deep_is`, `place_is`).
+--
+-- Theorems: `too_deep_document`: a document is read up to the bracket; `one_document_place`: there is at most one such
+-- bracket.
 use Rattle.std.proofs.Common.{◌≡◌, ℕ, ◌≤◌, Bool, true, false, List, [], ◌∷◌, ◌++◌, drop, Ok, Err, refl, sym, ap, ◌∙◌}
 use Rattle.std.proofs.Common.{subst, inl, inr, append_assoc, ◌⊎◌}
 use Rattle.std.specs.List.{flat_map, AllByRecursion}

@@ -1,4 +1,6 @@
 -- The lines that a span touches are found among the line starts.
+--
+-- Theorem: `touched_found`.
 use Rattle.std.proofs.Common.{◌≡◌, ℕ, List, length, sym, ap, ◌∙◌, arith}
 use Rattle.keep_types.specs.declared.syntax.Span.{Span}
 use Rattle.keep_syntax.specs.declared.syntax.Syntax.{Syntax}

@@ -1,11 +1,13 @@
 -- Documents and values whose trees are written out: their text, depth, tokens, statements, key parts and values compute
 -- to what an independent model answers.
 --
--- Each document or value is written out as a tree; the comment above it has its text. The first row of a document shows
--- that the tree is a document of the grammar, within the limit, with that text. The rows after it compute one list
+-- Each document or value is written out as a tree; the comment above it has its text. The first row of each shows that
+-- the tree is one of the grammar, within the limit, with that text. Of a document, the rows after it compute one list
 -- each: tokens, statements, key parts and values, and the depth. They are `refl`, so there is no induction and no
 -- lemma. A definition that the code follows, but that says something else than was meant, shows here if one of these
 -- documents touches it.
+--
+-- Each row is a theorem of its own.
 use Rattle.std.proofs.Common.{◌≡◌, true, false, [], ◌∷◌, Some, None, refl, inl, inr, arith}
 use Rattle.keep_types.specs.declared.leaf.Leaf.TheVariants as leaf
 use Rattle.keep_types.specs.declared.leaf.Profile.TheVariants.{Strict, Wide}

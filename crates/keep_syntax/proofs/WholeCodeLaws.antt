@@ -1,4 +1,8 @@
--- What the code stores of whole texts.
+-- What the code stores of a whole text is what is stored of the document, or of the one value, that is read from it;
+-- and where the code fails, so does the reading.
+--
+-- Theorems: `document_is`: the document is read, if its byte order mark (or none) and then its lines are; `one_is`: one
+-- value is read, if it ends with the text; `one_bad`: if it ends before the text does, the reading fails.
 use Rattle.std.proofs.Common.{◌≡◌, ℕ, ◌+◌, ◌<◌, Bool, true, false, ◌==◌, List, [], ◌∷◌, ◌++◌, length, drop, Result, Ok}
 use Rattle.std.proofs.Common.{refl, ap, ◌∙◌, subst, arith, IsUtf8, IsCharBoundary}
 use Rattle.std.proofs.lemmas.Bool.{false≢true}

@@ -1,4 +1,7 @@
 -- One value and nothing else: it is read exactly where there is one within the limit, and there is at most one.
+--
+-- Theorems: `value_found`: what is read is a value with this text, within the limit; `value_read`: such a value is
+-- read; `one_value`: at most one value has a given text.
 use Rattle.std.proofs.Common.{◌≡◌, ℕ, zero, suc, ◌≤◌, max, cond, ◌==◌, List, [], length, drop, Result, Ok, Err, refl}
 use Rattle.std.proofs.Common.{sym, ap, ◌∙◌, subst, arith, eqb-true}
 use Rattle.std.proofs.lemmas.List.{append-nil, nil_from_length}

@@ -1,4 +1,6 @@
 -- What Strict accepts Wide accepts, with the same tree.
+--
+-- Theorems: `reads_wider`: of documents; `reads_value_wider`: of values.
 use Rattle.std.proofs.Common.{ℕ, List, [], ◌∷◌, Option, Some, None}
 use Rattle.std.specs.List.{AllByRecursion}
 use Rattle.keep_types.specs.declared.leaf.Profile.TheVariants.{Strict, Wide}

@@ -1,4 +1,8 @@
--- Ascending places: parts of them, moved, one after another, and those before a place.
+-- Parts of ascending places ascend, as do such places joined or moved; and if the first of them are all before a place,
+-- it is looked up among the others.
+--
+-- Theorems: `ascend_take`: the first of ascending places ascend; `ascend_drop`: those after them ascend from the last
+-- of the first; `ascend_join`: places that ascend from the last of others, joined to these, ascend.
 use Rattle.std.proofs.Common.{◌≡◌, ℕ, zero, suc, ◌+◌, ◌<◌, ◌≤◌, ◌^◌, List, [], ◌∷◌, ◌++◌, length, map, take, drop, refl}
 use Rattle.std.proofs.Common.{sym, ap, ◌∙◌, arith, lt-ltb}
 use Rattle.std.specs.Prelude.{ltb, leb}

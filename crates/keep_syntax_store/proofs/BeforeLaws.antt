@@ -1,6 +1,5 @@
 -- How much comes before a place, of lists that are joined there: by places that ascend, and by the first statement
--- after
--- it.
+-- after it.
 --
 -- Theorem: `counts_join`: it is all of the first.
 use Rattle.std.proofs.Common.{◌≡◌, ℕ, suc, ◌<◌, ◌≤◌, List, [], ◌∷◌, ◌++◌, length, drop, refl, ap, ◌∙◌, arith, Option}

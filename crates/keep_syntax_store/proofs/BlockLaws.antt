@@ -1,16 +1,13 @@
 -- Entries that are moved with their blocks: what a list of them is, cut, changed or moved once more.
 --
 -- What is added to an entry depends on its number alone, by the block that it is in. So a list in blocks is read entry
--- by
--- entry: an entry that is changed changes nothing else, a prefix is the list in blocks of a prefix, and what is after a
--- block's
--- end is read from there. Where other entries and other numbers stand in some blocks, the list is cut at the ends of
--- these:
--- before them nothing changed, within them each entry is read, and after them each was moved once, and now once more.
+-- by entry: an entry that is changed changes nothing else, a prefix is the list in blocks of a prefix, and what is
+-- after a block's end is read from there. Where other entries and other numbers stand in some blocks, the list is cut
+-- at the ends of these: before them nothing changed, within them each entry is read, and after them each was moved
+-- once, and now once more.
 --
 -- Theorem: `patch_gives`: a run in the place of as many entries, with other moves of the blocks after them, gives the
--- entries
--- before, the new ones, and those after, moved.
+-- entries before, the new ones, and those after, moved.
 use Rattle.std.proofs.Common.{◌≡◌, ℕ, zero, suc, ◌+◌, ◌-◌, ◌<◌, ◌≤◌, ◌/◌, List, [], ◌∷◌, ◌++◌, length, map, take, drop}
 use Rattle.std.proofs.Common.{get_or, refl, sym, ap, subst, ◌∙◌, arith, append_assoc, Option, Some, None, slice_get}
 use Rattle.std.specs.Prelude.{slice_range, option_map}

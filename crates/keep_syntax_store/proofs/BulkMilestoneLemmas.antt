@@ -1,14 +1,11 @@
 -- Places from one milestone to another, stored after others by one copy: the milestones between them are stored too.
 --
 -- The steps from one milestone to a later one lead on from its place, and so do those to each milestone between them.
--- Stored
--- after others, with the place before them moved, they lead to the moved places: all grows by what was stored before.
--- So
--- nothing is counted anew.
+-- Stored after others, with the place before them moved, they lead to the moved places: all grows by what was stored
+-- before. So nothing is counted anew.
 --
 -- Theorems: `between`: what is known of the steps from one milestone to another; `moved_further`: where they are stored
--- after
--- others, each milestone between them is one.
+-- after others, each milestone between them is one.
 use Rattle.std.proofs.Common.{◌≡◌, ℕ, zero, suc, ◌+◌, ◌-◌, ◌<◌, ◌≤◌, ◌==◌, ◌^◌, cond, List, [], ◌∷◌, ◌++◌, length}
 use Rattle.std.proofs.Common.{get_or, map, take, drop, sym, ap, ◌∙◌, subst, arith}
 use Rattle.std.specs.List.{AllByRecursion}

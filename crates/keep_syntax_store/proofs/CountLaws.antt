@@ -1,4 +1,8 @@
--- How many stored places are before a place.
+-- How many stored places are before a place: no more than are stored, and near places that follow one another count all
+-- at once if the last of them is before it.
+--
+-- Theorems: `run_counted`: a place and the near places after it count all at once; `before_within`: no more places are
+-- before a place than there are; `places_within`: steps lead to no more places than there are steps.
 use Rattle.std.proofs.Common.{◌≡◌, ℕ, suc, ◌+◌, ◌<◌, ◌≤◌, List, [], ◌∷◌, ◌++◌, length, ap, ◌∙◌, inl, inr, arith}
 use Rattle.std.specs.Prelude.{sum}
 use Rattle.std.proofs.lemmas.List.{length-append}

@@ -1,4 +1,15 @@
 -- Lists of entries, packed and not: one more, one by its number, one changed, and all packed.
+--
+-- Three steps give the entries of a list (`of_lists`): what is packed is unpacked, the entries that do not fit are put
+-- in at their numbers (`with_unfit`), and each entry is moved with its block (`in_blocks`). What the last two steps do
+-- to an entry depends on its number alone, so the lemmas here join one of `UnfitLaws` and one of `BlockLaws`: for one
+-- more (`unfit_append`, `blocks_append`), for one by its number (`unfit_get`, `blocks_get`), and for one changed
+-- (`unfit_set` or `unfit_changed`, `blocks_set`). Which of the two forms an entry has is what is `found` at its number.
+-- A packed entry that is pushed has a number after all of those that do not fit (`found_before`); another one is pushed
+-- as the last of them (`found_last`).
+--
+-- Theorems: `entries_length`: how many entries there are; `packed_at`: a packed entry by its number; `all_packed`:
+-- where all are packed and no block is moved, the entries are the packed ones, unpacked.
 use Rattle.std.proofs.Common.{◌≡◌, ℕ, zero, suc, ◌+◌, ◌<◌, List, [], ◌∷◌, ◌++◌, length, map, get_or, refl, sym, ap, ◌∙◌}
 use Rattle.std.proofs.Common.{arith, Option, Some, None, slice_get}
 use Rattle.std.specs.Prelude.{option_map, unwrap_or}

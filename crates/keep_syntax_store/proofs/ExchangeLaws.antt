@@ -1,4 +1,8 @@
--- Runs of a list that change places.
+-- For runs of a list that change places: a list is its part up to a place, its part from there to a later one, and the
+-- rest; and the first two are as long as the places say.
+--
+-- Theorems: `three`: a list is these three parts; `take_length`: how long the part up to a place is; `range_length`:
+-- how long the part from a place to a later one is.
 use Rattle.std.proofs.Common.{◌≡◌, ℕ, ◌-◌, ◌≤◌, List, ◌++◌, length, take, drop, sym, ap, ◌∙◌, arith, append_assoc}
 use Rattle.std.specs.Prelude.{slice_range}
 use Rattle.std.proofs.lemmas.List.{take-append-drop, length-append, length-drop}

@@ -1,4 +1,8 @@
--- Runs of packed records that changed places: what the records say then, and that they change places back.
+-- After a run of packed records changed places with another: what the records unpack to, and that they are as before
+-- once the runs change places again.
+--
+-- Theorems: `unpacked_exchanged`: what they unpack to after the exchange; `exchanged_back`: exchanged again, the
+-- records are as before; `changed_back`: what comes after the run can be changed back.
 use Rattle.std.proofs.Common.{◌≡◌, ℕ, zero, suc, ◌+◌, ◌≤◌, List, [], ◌∷◌, ◌++◌, length, map, take, drop, refl, sym, ap}
 use Rattle.std.proofs.Common.{◌∙◌, subst, arith, append_assoc, vec_len, Vec}
 use Rattle.std.specs.Prelude.{slice_range}

@@ -1,4 +1,7 @@
--- What is stored is the same if each list is, and a change of a value in its list.
+-- What is stored is the same if each list is, and a write to the list of values changes one value.
+--
+-- Theorems: `same_flat`: what is stored is the same if each list is; `value_seam`: which value the list has at a
+-- number; `set_seam`: what a write changes there.
 use Rattle.std.proofs.Common.{◌≡◌, ℕ, List, ◌∷◌, ◌++◌, length, get_or, sym, ap, ◌∙◌, Some, slice_get}
 use Rattle.std.proofs.Math.ListN.{set}
 use Rattle.std.proofs.Math.Seq.{set-append_seam, get_or-append_seam}

@@ -1,4 +1,8 @@
--- Parts of what is stored, taken out of what is joined.
+-- Where what is stored is joined to more, each of the two is a part of the whole, and taking that part out gives it
+-- again.
+--
+-- Theorems: `part_prefix`: the part up to where they join is the first; `part_back`: the part after that is the second;
+-- `joined_assoc`: joining is associative.
 use Rattle.std.proofs.Common.{◌≡◌, ℕ, ◌-◌, List, ◌++◌, length, take, drop, refl, sym, ap, ◌∙◌, arith, append_assoc}
 use Rattle.std.specs.Prelude.{slice_range}
 use Rattle.std.proofs.lemmas.List.{length-append}

@@ -1,4 +1,8 @@
--- Moving undoes a lift and lifts anew; and counts that are the same.
+-- What was lifted after one count and is moved to after another is as if lifted after that; and counts with the same
+-- numbers are the same.
+--
+-- Theorems: `moves_all`: if this is so of each thing, it is so of a list; `moves_statements`: it is so of
+-- statements; `same_count`: counts with the same numbers are the same.
 use Rattle.std.proofs.Common.{◌≡◌, ℕ, ◌+◌, List, [], ◌∷◌, map, refl, ap, ◌∙◌, arith, Option, Some, None}
 use Rattle.keep_types.specs.declared.syntax.Span.{Span}
 use Rattle.keep_types.specs.declared.syntax.Owner.{Owner}

@@ -1,18 +1,13 @@
 -- Places in two parts: what is known at a milestone, and runs of steps that are stored after others as they are.
 --
 -- A milestone tells how many steps lead to a place, and how many of them are far. Steps before it lead to the same
--- places
--- whatever comes after (`take_places`), so a milestone stays right in a longer list. And the steps after it lead on
--- from its
--- place, with the far places that it leaves over: so a walk can begin there. A run of steps may be stored after others
--- if
--- its first place is where those lead to; moved, its places are as far from one another, so the steps are the same and
--- the
--- far places alone are moved.
+-- places whatever comes after (`take_places`), so a milestone stays right in a longer list. And the steps after it lead
+-- on from its place, with the far places that it leaves over: so a walk can begin there. A run of steps may be stored
+-- after others if its first place is where those lead to; moved, its places are as far from one another, so the steps
+-- are the same and the far places alone are moved.
 --
 -- Theorems: `milestones_stay`: milestones are right after more steps; `milestone_cuts`: the places after a milestone
--- are
--- those after as many; `run_after`, `moved_after`: a run is stored after others, as it is or moved.
+-- are those after as many; `run_after`, `moved_after`: a run is stored after others, as it is or moved.
 use Rattle.std.proofs.Common.{◌≡◌, ℕ, zero, suc, ◌+◌, ◌<◌, ◌≤◌, ◌^◌, ◌==◌, true, false, cond, List, [], ◌∷◌, ◌++◌}
 use Rattle.std.proofs.Common.{length, get_or, map, take, drop, refl, sym, ap, ◌∙◌, subst, inl, inr, arith}
 use Rattle.std.specs.List.{AllByRecursion}

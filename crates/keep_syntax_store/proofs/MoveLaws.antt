@@ -1,4 +1,8 @@
--- Lists that grow by the next of another list, and what comes before a place, counted one by one.
+-- A range of a list grows by the next element, and the statements that begin before a place are counted one by one.
+--
+-- Theorems: `moved_next`: a moved range at the end of a list grows by the next element, moved; `statements_stop`: no
+-- more begin before a place than come before one that does not; `statements_more`: if the lines ascend, one that begins
+-- before the place counts, with all that come before it.
 use Rattle.std.proofs.Common.{◌≡◌, ℕ, zero, suc, ◌+◌, ◌-◌, ◌<◌, ◌≤◌, Bool, true, false, List, [], ◌∷◌, ◌++◌, length}
 use Rattle.std.proofs.Common.{map, take, drop, refl, sym, ap, ◌∙◌, subst, arith, append_assoc, Some, None, slice_get}
 use Rattle.std.proofs.Common.{le-ltb, lt-ltb}

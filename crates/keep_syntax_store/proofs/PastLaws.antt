@@ -1,4 +1,9 @@
--- Where an iterator over ascending places is, and what it has still to give.
+-- An iterator over places that gives more of them is past so many more, and what is stored of those it gives is the
+-- range of the places up to there.
+--
+-- Theorems: `past_more`: once it gives some more it is past these too; `stored_further`: what is stored of a range, and
+-- of some more, is that of a longer range; `last_from`: the last place up to another is sought among those that are
+-- left, from the last one that was given.
 use Rattle.std.proofs.Common.{◌≡◌, ℕ, zero, suc, ◌+◌, ◌-◌, ◌<◌, ◌≤◌, List, [], ◌∷◌, ◌++◌, length, map, take, drop, refl}
 use Rattle.std.proofs.Common.{sym, ap, ◌∙◌, subst, arith, append_assoc}
 use Rattle.std.specs.Prelude.{slice_range}

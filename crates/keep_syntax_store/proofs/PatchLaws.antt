@@ -1,12 +1,10 @@
 -- What is stored after it changed places with a patch, and that it changes places back.
 --
 -- A patch has the packed entries of the blocks that an edit is in, and the numbers that are added to the blocks after
--- them.
--- Where these change places with what a list stores, the list is the entries before the run, the patch's, and those
--- after,
--- whose blocks have other numbers: `patch_gives` of BlockLaws says that these are the entries moved. The patch then has
--- what
--- the list had, and both have as many entries as before, so that they can change places again without memory.
+-- them. Where these change places with what a list stores, the list is the entries before the run, the patch's, and
+-- those after, whose blocks have other numbers: `patch_gives` of BlockLaws says that these are the entries moved. The
+-- patch then has what the list had, and both have as many entries as before, so that they can change places again
+-- without memory.
 --
 -- Theorems: `patch_made`: the patch that is made gives the entries before, the new ones, and those after, moved;
 -- `patch_undone`: once they change places again, what was stored before is stored.

@@ -1,4 +1,14 @@
 -- Entries whose places are moved on are the entries moved, where machine words hold them.
+--
+-- A `step` is added to each place, and the sum goes on at 0 past the last machine word. Without that the sum is the
+-- moved place and 2^64 (`on`), so it is the moved place if a word holds that (`once`); and one does, since the place is
+-- not after the end of the text, which is held (`held`). A place that was moved on before is moved on by the sum of
+-- both, which is to move it on twice (`again`). Numbers stay, since the counts before and after are the same (`still`).
+-- Entries of each kind follow field by field (`key_once`, `key_again`, and those of the other kinds). Where the block
+-- of a value is moved, a comma or an end is written as the place from which the move leads to it (`comma_written`,
+-- `end_written`, and where the value is not packed `comma_raised`, `end_raised`).
+--
+-- Theorems: `keys_move`, `statements_move` and `values_move`: entries of each kind move right (`MovesRight`).
 use Rattle.std.proofs.Common.{◌≡◌, ℕ, ◌+◌, ◌-◌, ◌%◌, ◌^◌, ◌<◌, ◌≤◌, refl, sym, ap, ◌∙◌, arith, true, Option, Some, None}
 use Rattle.std.proofs.Math.Nat.{add-mod_right, add-mod-mod, mod-add-mod, mod-eq_of_lt}
 use Rattle.keep_types.specs.declared.syntax.Span.{Span}

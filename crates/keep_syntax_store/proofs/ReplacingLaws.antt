@@ -6,8 +6,7 @@
 -- do. Exchanging entries in place stores it too (`exchanged_flat`), where every entry is packed: then a packed entry
 -- that was moved is the moved entry. To go back is one more exchange. What it needs is known after the first
 -- (`run_undone`, `can_go_back`), and what it gives is what was there before (`went_back`). Taking memory changes no
--- entry
--- (`exchanged_before`).
+-- entry (`exchanged_before`).
 --
 -- Theorems: `replaced_placed` and `exchanged_flat`: both store the same; `went_back`: putting the lines back.
 use Rattle.std.proofs.Common.{◌≡◌, ℕ, zero, suc, ◌-◌, ◌≤◌, Bool, true, false, List, [], ◌∷◌, ◌++◌, length, map, take}

@@ -1,5 +1,7 @@
 -- What comes after a run can be moved in place: its places lie in a text that places of 32 bits reach, and its numbers
 -- are small.
+--
+-- Theorems: `rest_can`: what comes after the run can be moved; `in_place`: so the run can be replaced in place.
 use Rattle.std.proofs.Common.{◌≡◌, ℕ, zero, suc, ◌-◌, ◌≤◌, Bool, true, false, List, [], ◌∷◌, map, drop, refl, subst}
 use Rattle.std.proofs.Common.{arith}
 use Rattle.std.specs.List.{AllByRecursion}

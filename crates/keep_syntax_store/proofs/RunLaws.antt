@@ -1,5 +1,14 @@
--- Near steps, each told by its byte: the places that they lead to, stored after others and moved, and what is left
--- after them.
+-- Near steps, each given by its byte: the places that they lead to, and what is left after them.
+--
+-- A step is near if its byte is not `FAR`: it leads so many bytes on from the place before, and takes none of the far
+-- places. So near steps lead to as many places as there are steps (`near_all`), the last of these is their sum further
+-- on (`near_last`), and the steps after them go on from there with all the far places (`near_split`). Where a list of
+-- places has a place and then those of near steps from it, this whole run is passed at once: what is left after it
+-- (`left_after`) needs only the number of steps, and its last place only their sum. Far steps are counted from one to
+-- the next, since before the first of them all are near (`none_far`).
+--
+-- Theorems: `past_near`: what is known after near steps that come first; `last_after_run`: the last place of a run;
+-- `far_counted`: the first far step, and those after it.
 use Rattle.std.proofs.Common.{◌≡◌, ℕ, zero, suc, ◌+◌, ◌<◌, ◌≤◌, ◌^◌, ◌==◌, true, false, cond, List, [], ◌∷◌, ◌++◌}
 use Rattle.std.proofs.Common.{length, get_or, take, drop, refl, sym, ap, ◌∙◌, subst, inl, inr, arith}
 use Rattle.std.specs.Prelude.{sum}

@@ -1,5 +1,15 @@
 -- Packed records whose numbers are moved say what the moved records are. They can be moved back, and are as before
 -- then.
+--
+-- A packed record stores some of its numbers, and the others as distances from these. A stored number is moved in its
+-- word, and no further than the word's greatest number (`shifted_to`). Where it fits there (`FitsMoved`), the word has
+-- the moved number (`fits_is`), a distance from it leads to the moved place (`fits_sum`), and it can be moved back
+-- (`fits_again`) and is as before then (`fits_back`). The same holds of a number that may be absent (`there_is`,
+-- `there_back`, `there_again`). From these laws, number by number, come three laws of each kind of record. Those of
+-- lists follow by induction (`map_is`, `map_back`, `map_again`).
+--
+-- Theorems: `statement_is`: what a moved record says; `statement_again`: it can be moved back; `statement_back`: it is
+-- as before then. Key parts and values have the same three.
 use Rattle.std.proofs.Common.{◌≡◌, ℕ, ◌+◌, ◌-◌, Bool, true, false, List, [], ◌∷◌, map, refl, ap, ◌∙◌, arith}
 use Rattle.std.specs.Prelude.{if◌then◌else◌, Option, Some}
 use Rattle.std.specs.List.{AllByRecursion}

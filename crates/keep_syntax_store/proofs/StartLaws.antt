@@ -1,4 +1,15 @@
 -- Stored places: the next of them, and one more after them.
+--
+-- A place is stored as a step from the place before it, or, where the step is `FAR`, as the next of the far places
+-- (`places_at`). So the places are read step by step: `near_step` and `far_step` give the next one and those after it.
+-- For these it holds again that each far step has its place (`near_matched`, `far_matched`) and that all places are
+-- less than 2 ^ 64 (`near_rest`, `far_rest`). By induction over the steps, there are as many places as steps
+-- (`places_all`), and places that are stored after others continue from the last of those (`places_join`). One more
+-- place is such a join, with one step (`near_more`, `far_more`). With it `StepsAreStored` holds again, if the place is
+-- less than 2 ^ 64 and not before the last one (`stored_more`).
+--
+-- Theorems: `places_join`: places that are stored after others; `stored_more`: one more place; `places_all`: each step
+-- has its place.
 use Rattle.std.proofs.Common.{◌≡◌, ℕ, zero, suc, ◌+◌, ◌<◌, ◌≤◌, ◌^◌, Bool, true, false, cond, ◌==◌, List, [], ◌∷◌, ◌++◌}
 use Rattle.std.proofs.Common.{length, get_or, refl, sym, ap, ◌∙◌, subst, inl, inr, arith}
 use Rattle.std.proofs.lemmas.List.{append-nil, length-append}

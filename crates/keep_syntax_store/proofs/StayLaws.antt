@@ -1,4 +1,6 @@
 -- What is moved from after nothing to after nothing stays as it is.
+--
+-- Theorems: `stays_flat`: all that is stored stays as it is; `map_same`: a list stays as it is if each element does.
 use Rattle.std.proofs.Common.{◌≡◌, ℕ, List, [], ◌∷◌, map, refl, ap, ◌∙◌, arith, Option, Some, None}
 use Rattle.keep_types.specs.declared.syntax.Span.{Span}
 use Rattle.keep_types.specs.declared.syntax.Owner.{Owner}

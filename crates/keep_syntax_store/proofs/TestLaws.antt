@@ -1,4 +1,6 @@
--- What a test chooses.
+-- A test chooses the first of two where it is true, and the second where it is false.
+--
+-- Theorems: `if_true`: the first is chosen where the test is true; `if_false`: the second where it is false.
 use Rattle.std.proofs.Common.{◌≡◌, Bool, true, false, refl}
 use Rattle.std.specs.Prelude.{if◌then◌else◌}
 

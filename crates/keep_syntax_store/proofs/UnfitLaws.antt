@@ -1,4 +1,15 @@
 -- Entries that are kept apart by their numbers: what is found, where the numbers ascend, and what a list with them is.
+--
+-- `found` gives the first entry with a number. Where the numbers ascend (`Ascend`), no two are equal: so the entry at a
+-- place is what its number finds (`found_at`), and another entry put there changes what this number finds, and nothing
+-- else (`set_changes`). A search ends at the first number that is not less than the one sought; if it is another, none
+-- is the one sought, because those after it are greater still (`not_found`). One more entry with a later number is
+-- found (`found_last`); other numbers find what they did (`found_earlier`). A list with such entries (`with_unfit`)
+-- has, for each number, the entry found or else its own (`unfit_get`). Induction over the list gives what its parts are
+-- (`unfit_append`), what it is with a run put in (`unfit_run`), and with an entry changed (`unfit_set`,
+-- `unfit_changed`).
+--
+-- Theorems: `found_there` and `not_found`: what a search finds; `unfit_get`: what a list with these entries has.
 use Rattle.std.proofs.Common.{◌≡◌, ℕ, zero, suc, ◌+◌, ◌<◌, ◌≤◌, ◌==◌, true, false, List, [], ◌∷◌, ◌++◌, length, get_or}
 use Rattle.std.proofs.Common.{take, drop, refl, sym, ap, subst, ◌∙◌, arith, inl, inr, ◌⊎◌, Some, None, slice_get}
 use Rattle.std.specs.Prelude.{ltb, if◌then◌else◌, option_map, unwrap_or}

@@ -1,6 +1,8 @@
--- What the bytes of a text and its line starts tell of a document: whether a byte order mark begins it, and whether its
--- last
--- line is empty, so that other lines can come after it.
+-- What the bytes of a text and its line starts tell of a document: no byte order mark begins it if the first byte is
+-- another, and its last line is empty if a line begins where the text ends.
+--
+-- Theorems: `no_mark`: no byte order mark begins it; `span_in`: a span of the text, not in the byte order mark, is a
+-- span of what was read; `last_is_empty`: its last line is empty.
 use Rattle.std.proofs.Common.{◌≡◌, ℕ, ◌+◌, ◌≤◌, ◌⊎◌, Bool, true, false, List, [], ◌∷◌, ◌++◌, length, Some, None, Option}
 use Rattle.std.proofs.Common.{refl, ap, ◌∙◌, inl, inr, arith, le-leb}
 use Rattle.std.specs.Prelude.{slice_index, leb}

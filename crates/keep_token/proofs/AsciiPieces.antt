@@ -1,4 +1,7 @@
 -- Escapes and line-ending backslashes are ASCII, so that a text may be cut after them.
+--
+-- Theorems: `number_piece_ascii`: an escape with digits is ASCII; `line_end_ascii`: so is a line-ending backslash with
+-- the blanks after it; `cut_after`: a text may be cut after ASCII.
 use Rattle.std.proofs.Common.{◌≡◌, ℕ, zero, suc, ◌<◌, true, ◌||◌, ◌==◌, List, [], ◌∷◌, ◌++◌, length, take, refl, sym}
 use Rattle.std.proofs.Common.{ap, ◌∙◌, subst, arith, inl, inr, take_at, length-append}
 use Rattle.std.specs.List.{list_all}

@@ -1,4 +1,7 @@
--- How tabs, spaces and newlines continue from a place.
+-- The tabs, spaces and newlines from a place on end where those after the first of them end.
+--
+-- Theorems: `white_at`: where a tab or a space comes first; `newline_at`: where a newline does; `nothing_at`: where
+-- neither does, there are none.
 use Rattle.std.proofs.Common.{◌≡◌, ℕ, ◌+◌, ◌<◌, true, false, ◌&&◌, ◌==◌, List, [], ◌∷◌, length, get_or, drop, refl, ap}
 use Rattle.std.proofs.Common.{arith, inl, inr, add-zero, get_or-drop, length-drop}
 use Rattle.std.proofs.lemmas.Bool.{cases_Bool}

@@ -7,8 +7,7 @@
 -- a mask of their own (`block_non_digits`), and where it is 0 they go through the block (`digits_through`).
 --
 -- Theorems: `block_ends`, `run_through`, `run_stops`, and `comment_class`, `basic_class` and `literal_class`; for
--- digits
--- `block_non_digits` and `digits_through`.
+-- digits `block_non_digits` and `digits_through`.
 use Rattle.std.proofs.Common.{◌≡◌, ℕ, zero, suc, ◌+◌, ◌*◌, ◌%◌, ◌^◌, ◌<◌, ◌≤◌, Bool, true, false, not, cond, eqb, ltb}
 use Rattle.std.proofs.Common.{List, [], ◌∷◌, map, length, drop, take, take-add, replicate, bit_and, inl, inr, subst}
 use Rattle.std.proofs.Common.{refl, sym, ap, ap₂, ◌∙◌, arith, w8, Fits}

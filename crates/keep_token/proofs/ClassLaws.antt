@@ -1,4 +1,6 @@
--- A table of 256 rows that agrees with a test, row by row, agrees with it at each byte.
+-- A table whose rows agree with a test, one by one, agrees with it at each byte that has a row.
+--
+-- Theorem: `agrees_all`.
 use Rattle.std.proofs.Common.{◌≡◌, ℕ, zero, suc, ◌+◌, ◌<◌, Bool, true, false, not, ◌&&◌, ◌==◌, List, [], ◌∷◌, length}
 use Rattle.std.proofs.Common.{get_or, refl, ap, ◌∙◌, arith}
 use Rattle.std.specs.Prelude.{bit_and}

@@ -1,4 +1,6 @@
--- A text of a date's shape by the places of its digits, as the code reads it.
+-- A text of a date's shape has its digits at their places, and is a date if the numbers that they write are a day.
+--
+-- Theorem: `shaped`.
 use Rattle.std.proofs.Common.{◌≡◌, ℕ, ◌+◌, ◌*◌, Bool, true, ◌&&◌, ◌==◌, List, [], ◌∷◌, length, refl}
 use Rattle.std.specs.Prelude.{slice_index}
 use Rattle.std.specs.Char.{is_ascii_digit}

@@ -1,10 +1,10 @@
 -- Dates and times that are accepted, with their kinds, and words that are refused.
 --
 -- Each row is a theorem of its own, and none needs an induction. A text is accepted by writing out the numbers that are
--- written in it, with their bounds. Its kind is what `word_leaf` computes, in both profiles (`IsIn`). A text is refused
--- where all four tests compute to false: by the laws of `DateLaws` it is then no date and no time (`refused`), and
--- `word_leaf` finds no other word there either. The last rows compute how far a word reaches in a longer text
--- (`word_len`).
+-- written in it, with their bounds. Its kind is what `word_leaf` computes, in both profiles (`IsIn`), or of a short
+-- time in Wide alone. A text is refused where all four tests compute to false: by the laws of `DateLaws` it is then no
+-- date and no time (`refused`), and `word_leaf` finds no other word there either. The last rows compute how far a word
+-- reaches in a longer text (`word_len`).
 use Rattle.std.proofs.Common.{◌≡◌, List, [], refl, inl, inr, arith, Some, None, ℕ, false}
 use Rattle.std.specs.Prelude.{codes}
 use Rattle.keep_types.specs.declared.leaf.Profile.{Profile}

@@ -1,4 +1,7 @@
 -- A date, a time or both is the whole word where it comes before what may follow a scalar.
+--
+-- Theorems: `word_len_run`: a run of bytes of a word is the whole word; `word_len_date_time`: so is a date with a time,
+-- even with a space between them; `word_len_offset_date_time`: so is one with an offset.
 use Rattle.std.proofs.Common.{◌≡◌, ℕ, ◌+◌, Bool, true, false, not, ◌&&◌, ◌||◌, ◌==◌, List, [], ◌∷◌, ◌++◌, length, take}
 use Rattle.std.proofs.Common.{drop, refl, sym, subst, ◌∙◌, inl, inr, arith, ◌⊎◌, take_at, length-append, append_assoc}
 use Rattle.std.specs.Prelude.{slice_index, if◌then◌else◌}

@@ -1,4 +1,14 @@
 -- The decimal text of a number is an integer of the language, and its value is the number.
+--
+-- The laws of `decimal` hold for each model of numerals, and ASCII digits with `sum_of_digits` are one (`numerals`). So
+-- the text of a number has digits alone, their sum is the number, and a 0 begins it only where it is the whole text
+-- (`plain_decimal`). Such a text is `Unsigned` (`unsigned_text`). No underscore is in it, so its value in base 10 is
+-- the sum (`value_is`); no sign and no prefix of a base begins it, so `integer_value` is the value of the whole text in
+-- base 10 (`unsigned_value`). This is the text of a number from 0 on (`decimal_at`); a negative number has a minus sign
+-- before it (`negative_at`).
+--
+-- Theorems: `encoded_int`: of each number that fits into 64 bits with a sign; `decimal_at`: of digits with such a sum,
+-- where a 0 is first only if it is alone.
 use Rattle.std.proofs.Common.{◌≡◌, ℕ, ℤ, pos, negsuc, suc, ◌-◌, ◌^◌, ◌<◌, true, false, not, ◌==◌, List, [], ◌∷◌, length}
 use Rattle.std.proofs.Common.{get_or, refl, ◌∙◌, ap, subst, eq-zero-or-pos, inl, inr, ◌⊎◌, arith, FitsSigned, w64}
 use Rattle.std.proofs.lemmas.Bool.Decides.{nat_tests}

@@ -1,4 +1,8 @@
 -- The number that hexadecimal digits write grows digit by digit, and stays below the power of their count.
+--
+-- Theorems: `one_more`: the number that the digits write with one more is 16 times the number so far, and the value of
+-- the digit; `power_more`: it stays below the power of 16; `power_below`: up to seven digits this is at most
+-- `0x1000_0000`, so that one more digit fits into 32 bits.
 use Rattle.std.proofs.Common.{◌≡◌, ℕ, zero, suc, ◌+◌, ◌*◌, ◌^◌, ◌<◌, ◌≤◌, true, List, [], ◌∷◌, ◌++◌, length, get_or}
 use Rattle.std.proofs.Common.{take, refl, ap, ◌∙◌, arith, length-append}
 use Rattle.std.proofs.Math.Nat.{pow-suc}

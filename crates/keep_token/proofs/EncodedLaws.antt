@@ -1,4 +1,9 @@
--- What the steps of writing a string or a key give is the encoded text, and the encoded text means the text.
+-- What is written by runs of plain bytes and escapes, one after another, is what `encoded_byte` gives for the bytes one
+-- by one.
+--
+-- Theorems: `encoded_more`: with a run and the escape after it, what is written and what is left make the same whole;
+-- `encoded_last`: with a run up to the end, what is written is the whole; `no_room`: where there is no room for a part,
+-- there is none for the whole.
 use Rattle.std.proofs.Common.{◌≡◌, ℕ, ◌+◌, ◌<◌, Bool, true, false, List, [], ◌∷◌, ◌++◌, length, length-append}
 use Rattle.std.proofs.Common.{length-take, take, drop, get_or, refl, sym, ◌∙◌, ap, arith, append_assoc, ◌≤◌, add-one}
 use Rattle.std.proofs.Common.{one-add, append-nil, inl, inr, ◌⊎◌, drop-cons, rules, String, string_bytes, string_len}

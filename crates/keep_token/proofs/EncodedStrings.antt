@@ -1,4 +1,15 @@
 -- An encoded string is a basic string of the language, and it means the text.
+--
+-- Each byte is written as one piece of a basic string (`written`): an escape with one character after the backslash
+-- (`by_letter`), the `Number` of a control character that has no such escape (`by_number`), or the byte itself
+-- (`Plain`). The piece has the text that `encoded_byte` gives, is valid, and has the byte alone as its value
+-- (`IsWritten`). A `Number` has this value because each control character is ASCII (`control_ascii`), and so one byte
+-- in UTF-8 (`number_means`). The pieces of all bytes, one after another, are those of the text (`all_written`); between
+-- quotes they are a basic string (`encoded_is_leaf`) that means the text. A key is its own text where that can be a
+-- bare key (`bare_is_leaf`), and an encoded string elsewhere.
+--
+-- Theorems: `encoded_means`: a string means its text; `key_is_leaf` and `key_means`: a key as it is written is a leaf,
+-- and means its text.
 use Rattle.std.proofs.Common.{◌≡◌, ℕ, suc, ◌/◌, ◌%◌, ◌<◌, true, false, ◌||◌, nat_lt, ◌==◌, IsTrue, List, [], ◌∷◌}
 use Rattle.std.proofs.Common.{get_or, refl, sym, subst, arith, inl, inr, lit<, Fits, w8, Result, Ok, Err, IfOk, String}
 use Rattle.std.proofs.Common.{string_bytes}

@@ -1,4 +1,14 @@
--- A leaf ends where a character ends: after an ASCII byte, or before one.
+-- A leaf in a gap ends where a character ends: after an ASCII byte, or before one.
+--
+-- In UTF-8 a character ends after each ASCII byte (`behind_ascii`), and before each or at the end of the text
+-- (`before_ascii`). The last byte of white space and of a newline is ASCII (`white_last`, `newline_last`), and the text
+-- has this byte there (`last_of`). A comment may end with another character; but the byte after it, if there is one, is
+-- one that no comment has (`comment_stops`), and these are ASCII (`low_after_comment`). What the code finds in the rest
+-- of its bytes is what the same function finds in the text from the place on (`at_rest`). What `gap_at` finds there is
+-- a leaf (`gap_at_place`), by `gap_found`, and the only one (`gap_only_found`, `gap_only_none`), by `gap_one`.
+--
+-- Theorems: `gap_ends`: where the leaf that is found ends; `gap_at_place` and `gap_only_found`: it is the leaf at the
+-- place, and no other is.
 use Rattle.std.proofs.Common.{◌≡◌, ℕ, zero, suc, ◌+◌, ◌-◌, ◌<◌, ◌≤◌, true, false, List, [], ◌∷◌, ◌++◌, length, get_or}
 use Rattle.std.proofs.Common.{take, drop, Option, Some, None, sym, ap, ◌∙◌, inl, inr, arith, add-zero, get_or-drop}
 use Rattle.std.proofs.Common.{length-drop}

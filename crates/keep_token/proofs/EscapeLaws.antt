@@ -1,4 +1,6 @@
 -- The escape after a backslash is found by its letter, and by its digits where the letter asks for some.
+--
+-- Theorems: `letter_found`: an escape of one letter; `number_found`: one with digits.
 use Rattle.std.proofs.Common.{◌≡◌, ℕ, ◌+◌, ◌<◌, true, false, ◌==◌, List, [], ◌∷◌, length, take, Option, Some, refl, sym}
 use Rattle.std.proofs.Common.{ap, ◌∙◌, arith, inl, inr, eq-eqb}
 use Rattle.std.specs.Prelude.{nat_lt}

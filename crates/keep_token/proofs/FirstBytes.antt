@@ -1,4 +1,7 @@
--- What a test of a whole text says by its first byte and the text after it.
+-- A test that looks at the first byte of a text is decided by that byte and by a test of the text after it.
+--
+-- Theorems: `sign_first`: after a sign the rest is tested; `sign_none`: without a sign, the whole text; `passes_first`:
+-- where the first byte passes, the rest decides.
 use Rattle.std.proofs.Common.{◌≡◌, ℕ, ◌-◌, ◌≤◌, Bool, true, false, cond, ◌&&◌, List, [], ◌∷◌, length, get_or, take}
 use Rattle.std.proofs.Common.{drop, refl, arith}
 use Rattle.keep_token.specs.Numbers.{is_sign}

@@ -1,4 +1,6 @@
 -- Gaps: what is found is a leaf, and a leaf is found again before what does not continue with it.
+--
+-- Theorems: `gap_cases`: what is found is a leaf of its kind; `ws_again` and `comment_again`: a leaf is found again.
 use Rattle.std.proofs.Common.{◌≡◌, ℕ, suc, ◌+◌, ◌<◌, ◌≤◌, Bool, true, false, ◌&&◌, ◌==◌, List, [], ◌∷◌, ◌++◌, length}
 use Rattle.std.proofs.Common.{get_or, take, drop, Option, Some, None, refl, ap, inl, inr, arith, eqb-true}
 use Rattle.std.proofs.lemmas.Bool.{and_parts}

@@ -1,5 +1,16 @@
 -- What is found in the place of a key part is the leaf there, and a key part is found again before what does not
 -- continue with it.
+--
+-- `key_at` chooses by the first byte: a run of bare bytes, a basic string or a literal string. What each of these finds
+-- is a leaf, and the longest: a run by `run_found` and `run_longest`, strings by their own laws (`basic_found`,
+-- `basic_longest`, `literal_found`, `literal_longest`). None is empty (`key_found`). For the other direction, the first
+-- byte of a key part is the one that chooses its kind (`basic_first`, `literal_first`, `bare_first`). So a string is
+-- found again whatever follows it (`basic_again`, `literal_again`), and a bare key where no bare byte follows
+-- (`bare_again`). The leaf at a place is found too: a string by cutting the text after it (`cut`), a bare key because
+-- two longest runs are the same (`longest_one`).
+--
+-- Theorems: `key_leaf`: what is found is the leaf; `key_one`: the leaf is found; `key_again`: a key part is found again
+-- before what does not continue with it.
 use Rattle.std.proofs.Common.{◌≡◌, ℕ, zero, suc, ◌<◌, ◌≤◌, true, false, ◌==◌, List, [], ◌∷◌, ◌++◌, length, take, drop}
 use Rattle.std.proofs.Common.{Option, Some, None, refl, sym, ap, ◌∙◌, subst, inl, inr, arith}
 use Rattle.std.proofs.lemmas.Bool.{and_parts}

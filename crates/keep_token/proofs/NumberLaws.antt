@@ -1,4 +1,7 @@
 -- The tests of integers and of truth values decide their languages.
+--
+-- Theorems: `integer_from`: a text that passes the test is an integer; `integer_to`: an integer passes the test; and
+-- the same two of truth values.
 use Rattle.std.proofs.Common.{◌≡◌, ℕ, true, false, not, cond, ◌&&◌, ◌||◌, ◌==◌, List, [], ◌∷◌, length, refl, inl, inr}
 use Rattle.std.proofs.Common.{arith, eqb-true}
 use Rattle.std.specs.Prelude.{nat_lt, slice_index}

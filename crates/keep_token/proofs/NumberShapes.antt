@@ -1,4 +1,6 @@
--- No two kinds of numbers share a text: a float is no integer, and a truth value is neither.
+-- No text is of two of these kinds: a float is no integer, and a truth value is neither a float nor an integer.
+--
+-- Theorems: `float_not_integer`, `boolean_not_integer` and `boolean_not_float`.
 use Rattle.std.proofs.Common.{◌≡◌, ℕ, suc, Bool, true, false, ◌&&◌, ◌||◌, ◌==◌, List, [], ◌∷◌, take, refl, sym, subst}
 use Rattle.std.proofs.Common.{inl, inr, arith, eqb-true}
 use Rattle.std.specs.Prelude.{nat_lt}

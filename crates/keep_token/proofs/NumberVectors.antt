@@ -1,4 +1,13 @@
--- Integers with their values, floats, truth values, and words that no scalar is.
+-- Integers with their values, floats, truth values, and words that are no scalars.
+--
+-- A text is an integer, a float or a truth value where the test of its kind computes to true (`integer_from`,
+-- `float_from`, `boolean_from`); the value of an integer is computed too. A test decides all texts of a table at once
+-- (`all_are`). A text is refused where `word_leaf` finds no word in it and no quote or apostrophe begins it
+-- (`is_refused`). Then it is no scalar of any kind (`refused`): a string begins with one of the two, and each other
+-- scalar is found by `word_leaf` (`word_leaf_again`). The same texts are refused in both profiles (`refused_strict`,
+-- `refused_wide`).
+--
+-- Each row is a theorem of its own. So is each table of texts.
 use Rattle.std.proofs.Common.{◌≡◌, ℕ, ℤ, pos, negsuc, Bool, true, false, not, ◌&&◌, ◌||◌, ◌==◌, List, [], ◌∷◌, Option}
 use Rattle.std.proofs.Common.{Some, None, refl, sym, ◌∙◌}
 use Rattle.std.specs.Prelude.{codes, is_none}

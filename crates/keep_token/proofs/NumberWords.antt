@@ -1,4 +1,6 @@
--- Integers, floats and truth values are bytes of a word, and the whole word before what may follow a scalar.
+-- All bytes of an integer, a float or a truth value are bytes of a word.
+--
+-- Theorems: `integer_word`, `float_word` and `boolean_word`.
 use Rattle.std.proofs.Common.{◌≡◌, ℕ, ◌≤◌, true, ◌||◌, ◌==◌, List, [], ◌∷◌, ◌++◌, refl, inl, inr, arith}
 use Rattle.std.proofs.lemmas.Bool.Decides.{nat_tests}
 use Rattle.std.specs.List.{list_all}

@@ -1,4 +1,7 @@
 -- What Strict accepts, Wide accepts.
+--
+-- Theorems: `leaf_wider`: a leaf in `Strict` is a leaf in `Wide`; `means_wider`: what a string means in `Strict` it
+-- means in `Wide`.
 use Rattle.std.proofs.Common.{◌≡◌, ℕ, ◌<◌, List, [], ◌∷◌, sym, ◌∙◌, inl, arith}
 use Rattle.std.proofs.lemmas.Bool.Decides.{nat_tests}
 use Rattle.keep_types.specs.declared.leaf.Leaf.{Leaf}

@@ -1,4 +1,8 @@
 -- How far a string's pieces reach, from any place after its opening: the equations that a scan follows.
+--
+-- Theorems: `reach_piece`: from a place with a piece, the string reaches as far as from after the piece; `reach_run`:
+-- so it does where each byte of a run is a piece; `reach_closed`: where the string closes, it reaches as far as the
+-- pieces before the closing.
 use Rattle.std.proofs.Common.{◌≡◌, ℕ, zero, suc, ◌+◌, ◌<◌, ◌≤◌, Bool, true, List, [], ◌∷◌, length, drop, Option, Some}
 use Rattle.std.proofs.Common.{None, refl, sym, ap, ◌∙◌, arith, inl, inr, add-zero, length-append, length-drop}
 use Rattle.std.specs.List.{prefix_len}

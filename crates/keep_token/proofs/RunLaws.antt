@@ -1,4 +1,7 @@
 -- Runs of bytes of a class: how long they are, what comes after them, and that they are found again.
+--
+-- Theorems: `prefix_len-run`: a run is found again before a byte that does not pass; `list_all-run`: each byte of a run
+-- passes; `first-after_run`: the byte after a run does not.
 use Rattle.std.proofs.Common.{◌≡◌, ℕ, suc, ◌+◌, ◌<◌, Bool, true, false, List, [], ◌∷◌, ◌++◌, length, take, drop, refl}
 use Rattle.std.proofs.Common.{inl, inr, arith, add-zero, get_or-drop, take_at, drop_at, ◌⊎◌}
 use Rattle.std.proofs.lemmas.Bool.{cases_lt, and_parts}

@@ -1,4 +1,7 @@
 -- A key part and a scalar end where a character ends, and what a scan answers is the leaf at the place and no other.
+--
+-- Theorems: `key_ends`: a key part ends where a character ends; `scalar_ends`: so does a scalar; `only_found`: where
+-- one leaf is found, it is the only one.
 use Rattle.std.proofs.Common.{◌≡◌, ℕ, ◌+◌, ◌-◌, ◌<◌, ◌≤◌, true, ◌&&◌, ◌==◌, List, length, get_or, take, drop, Option}
 use Rattle.std.proofs.Common.{Some, None, Result, Ok, refl, sym, ap, ◌∙◌, inl, inr, arith, add-zero, get_or-drop}
 use Rattle.std.specs.Prelude.{IsUtf8, IsCharBoundary}

@@ -1,4 +1,6 @@
--- A string means one list of bytes, in UTF-8 where the text is.
+-- A string or a bare key means one list of bytes: any two that it means are the same.
+--
+-- Theorem: `means_one`.
 use Rattle.std.proofs.Common.{◌≡◌, ℕ, List, sym, ap, ◌∙◌}
 use Rattle.keep_types.specs.declared.leaf.Profile.{Profile}
 use Rattle.keep_types.specs.declared.leaf.Leaf.{Leaf}

@@ -1,4 +1,7 @@
 -- Strings on one line, of either kind: the pieces found spell the text, and the pieces that spell it are found.
+--
+-- Theorems: `prefix_one`: the text begins with the string of the pieces that are found; `again_one`: the pieces of a
+-- string are found again, whatever follows it.
 use Rattle.std.proofs.Common.{◌≡◌, ℕ, zero, suc, ◌<◌, true, false, ◌==◌, List, [], ◌∷◌, ◌++◌, length, drop, Option}
 use Rattle.std.proofs.Common.{Some, refl, sym, ap, ◌∙◌, subst, inl, inr, arith, append_assoc, drop_at, length-append}
 use Rattle.std.proofs.Common.{eqb-true, eq-eqb}

@@ -1,4 +1,7 @@
--- What each kind of string begins with: one mark and not three, or three.
+-- What each kind of string begins with: one quotation mark and not three, or three.
+--
+-- Theorems: `basic_not_three`: a basic string that no quotation mark follows does not begin with three;
+-- `ml_basic_three`: one over many lines does; and the same two of literal strings.
 use Rattle.std.proofs.Common.{◌≡◌, ℕ, true, false, ◌==◌, List, [], ◌∷◌, ◌++◌, slice_index, refl, sym, ap, ◌∙◌, inl, inr}
 use Rattle.std.proofs.Common.{append_assoc, eq-eqb}
 use Rattle.std.proofs.lemmas.Bool.{cases_Bool}

@@ -1,4 +1,7 @@
 -- In any kind of string: what a kind says of its pieces, and one step of finding them from the left.
+--
+-- Theorems: `PieceLaws`: what each kind of string has to say of its pieces; `stepped`: if pieces are found, the first
+-- is a piece of the kind at the start of the text, and the others are found after it.
 use Rattle.std.proofs.Common.{◌≡◌, ℕ, ◌<◌, ◌≤◌, false, ◌==◌, List, [], ◌∷◌, ◌++◌, length, drop, Option, Some, None}
 use Rattle.std.proofs.Common.{refl, sym, ap, ◌∙◌, inl, inr, arith, ◌⊎◌, append_assoc, drop_at, length-append}
 use Rattle.std.specs.Prelude.{⊤}

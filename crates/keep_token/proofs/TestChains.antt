@@ -1,4 +1,7 @@
 -- What a chain of tests gives, from the tests in the order in which they are made.
+--
+-- Theorems: `and_fails`: where the first test fails, so does the chain; `and_or_first`: where it holds and so does the
+-- second, the chain holds; `and_or_second`: where the second fails, the third decides.
 use Rattle.std.proofs.Common.{◌≡◌, Bool, true, false, ◌&&◌, ◌||◌, sym, ◌∙◌}
 
 pub and_fails : (r a b : Bool) → r ≡ a → r ≡ false → r ≡ (a && b)

@@ -1,4 +1,15 @@
 -- The value of digits, read from the left: what is read so far, and what each further digit makes of it.
+--
+-- `SoFar` is what each iteration preserves: the value so far, times the base to the power of the digits left, plus the
+-- value of the rest is the value of all; and the rest is a text of digits exactly where the whole is. A further digit
+-- multiplies the value by the base and adds to it (`so_far_digit`); an underscore between digits is passed over
+-- (`so_far_passed`). After the last digit no rest is left, so the value is that of all (`so_far_last`). There is no
+-- value below 2 ^ 64 (`IsBelow`) where the rest is empty before a digit (`so_far_over`), where it begins with no digit
+-- (`so_far_bad`), and where the value so far is too large (`so_far_large`), because the digits after it make it no less
+-- (`at_least`).
+--
+-- Theorems: `so_far_more`: the value after one digit more; `so_far_last`: after the last digit it is the value of all;
+-- `so_far_large`: a number that does not fit.
 use Rattle.std.proofs.Common.{◌≡◌, ℕ, zero, suc, ◌+◌, ◌-◌, ◌*◌, ◌^◌, ◌<◌, ◌≤◌, Bool, true, false, not, cond, ◌==◌, List}
 use Rattle.std.proofs.Common.{[], ◌∷◌, length, get_or, take, drop, refl, sym, ◌∙◌, arith}
 use Rattle.std.specs.Prelude.{IsTrue, filter, Option, None, SomeIff}

@@ -1,5 +1,8 @@
 -- A word that is found to be of a kind is of that kind, and a word of a kind is found, whole, and begins with no
 -- quotation mark.
+--
+-- Theorems: `word_leaf_found`: what is found is of its kind; `word_leaf_again`: a word of a kind is found to be of it;
+-- `word_len_again`: before what may follow a scalar it is the whole word.
 use Rattle.std.proofs.Common.{◌≡◌, ℕ, ◌<◌, Bool, true, false, ◌==◌, List, [], ◌∷◌, ◌++◌, length, Some, refl, subst, inl}
 use Rattle.std.proofs.Common.{inr, arith}
 use Rattle.std.proofs.lemmas.Bool.{and_parts}

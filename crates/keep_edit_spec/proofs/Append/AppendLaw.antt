@@ -1,4 +1,6 @@
 -- A header appended: what is said is what was said, and then what the header says from where the reading was.
+--
+-- Theorem: `append_law`.
 use Rattle.std.proofs.Common.{◌≡◌, ℕ, suc, ◌≤◌, Bool, true, false, cond, List, [], ◌∷◌, ◌++◌, length, map, take, drop}
 use Rattle.std.proofs.Common.{refl, sym, ap, subst, ◌∙◌, arith, Option}
 use Rattle.std.proofs.lemmas.List.{append-nil, take-append-drop, length-map}

@@ -1,10 +1,9 @@
 -- Where an append writes, and what: the last byte of the text tells whether its last line has a newline.
 --
 -- A text is its byte order mark, its lines with newlines and its last line (`text_is`). The last line has bytes, and
--- then the text
--- does not end in a line feed; or it has none, and then the text ends in one, or has no line (`last_written`,
--- `lines_written`,
--- `none_written`). In each case the change that `append` makes is a cut at the end. Theorem: `append_place`.
+-- then the text does not end in a line feed; or it has none, and then the text ends in one, or has no line
+-- (`last_written`, `lines_written`, `none_written`). In each case the change that `append` makes is a cut at the end.
+-- Theorem: `append_place`.
 use Rattle.std.proofs.Common.{◌≡◌, ℕ, suc, ◌+◌, ◌<◌, Bool, true, false, cond, ◌&&◌, ◌==◌, List, [], ◌∷◌, ◌++◌, length}
 use Rattle.std.proofs.Common.{map, refl, sym, ap, subst, ◌∙◌, append_assoc, length-append, arith}
 use Rattle.std.specs.List.{flat_map, AllByRecursion}

@@ -4,9 +4,8 @@
 -- in (`valid_append`). It obeys the rules: the refusal looked for the first fault that the header's marks make after
 -- the others and found none (`no_conflict`). Its tree is the old one with a table at the path: only the last mention of
 -- the header states a fact (`silent_prefixes`), and at most a table was there before (`before_define`,
--- `table_appended`).
--- For the refusal to speak of the same marks, the arrays of tables in the mentions have to be those of the reading:
--- `tables_stated`, by induction over the lines.
+-- `table_appended`). For the refusal to speak of the same marks, the arrays of tables in the mentions have to be those
+-- of the reading: `tables_stated`, by induction over the lines.
 --
 -- Theorem: `append_table_is_right`: where nothing is refused, the appended header gives the right document.
 use Rattle.std.proofs.Common.{◌≡◌, ℕ, suc, ◌+◌, Bool, true, false, cond, List, [], ◌∷◌, ◌++◌, length, map, refl, sym}

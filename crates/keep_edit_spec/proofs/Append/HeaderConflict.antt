@@ -2,8 +2,7 @@
 -- way.
 --
 -- Each mark of a header has a longer path than those before it (`none_own`), so only the document's marks can refuse
--- it. A mark
--- that goes past an array of tables is never refused (`LetsPass`). Theorems: `table_met` and `element_met`.
+-- it. A mark that goes past an array of tables is never refused (`LetsPass`). Theorems: `table_met` and `element_met`.
 use Rattle.std.proofs.Common.{◌≡◌, ℕ, ◌-◌, ◌<◌, ◌≤◌, Bool, true, false, cond, not, ◌&&◌, ◌||◌, ◌==◌, List, [], ◌∷◌}
 use Rattle.std.proofs.Common.{◌++◌, length, refl, sym, ap, ◌∙◌, append_assoc, length-append, arith, Option, Some, None}
 use Rattle.std.specs.List.{list_any}

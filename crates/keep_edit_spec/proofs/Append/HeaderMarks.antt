@@ -2,11 +2,9 @@
 --
 -- The marks at one path let one another follow, so one of them decides for all: if headers may go through one, they may
 -- go through each, and if an element may come after one, it may after each (`all_in`, whose premise is computed from
--- the
--- table of pairs of roles). What the marks refuse is what their roles refuse (`refused_roles`); so one mention of the
--- path
--- decides by the role that it has (`role_any`), as `define_continues` or `value_refuses` say. Where headers only go
--- through the path, a table may be defined there (`through_defines`).
+-- the table of pairs of roles). What the marks refuse is what their roles refuse (`refused_roles`); so one mention of
+-- the path decides by the role that it has (`role_any`), as `define_continues` or `value_refuses` say. Where headers
+-- only go through the path, a table may be defined there (`through_defines`).
 --
 -- Theorems: `refused_roles`; and for each kind of mention what a header meets at its path, as `define_continues`,
 -- `define_twice`, `define_unlisted`.
@@ -71,8 +69,7 @@ of_each t h Dotted = (parts_of t h).4
 of_each t h Value = (parts_of t h).5
 
 -- a test has one answer for two roles of which one lets the other follow; for "may `Through` follow?" and "may
--- `Element`
--- follow?" this is computed from the table of all pairs
+-- `Element` follow?" this is computed from the table of all pairs
 abbrev alike : (Role → Bool) → Role → Role → Bool
 alike c x y = not (allows x y) || same (c x) (c y)
 

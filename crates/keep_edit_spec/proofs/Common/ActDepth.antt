@@ -1,4 +1,6 @@
 -- What makes no value deeper makes no document deeper.
+--
+-- Theorems: `line_depths`: in a line; `pages_depth`: in all lines; `in_document_depth`: in the document.
 use Rattle.std.proofs.Common.{ℕ, ◌+◌, ◌≤◌, List, [], ◌∷◌, ◌++◌, arith, Option, Some, None}
 use Rattle.keep_syntax.specs.Tree.{Gap, Name, Body, scalar, array, inline, Entries, none, entry, Value, named_leaves}
 use Rattle.keep_syntax.specs.Tree.{opening, closing, comma_leaves, text_of, around, entries_depth, value_depth}

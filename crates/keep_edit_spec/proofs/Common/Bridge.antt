@@ -1,4 +1,6 @@
 -- The rules over mentions give those over marks.
+--
+-- Theorem: `obeys_from_rules`.
 use Rattle.std.proofs.Common.{◌≡◌, ℕ, zero, suc, ◌<◌, Bool, true, List, [], ◌∷◌, length, refl, sym, ap, ◌∙◌, arith}
 use Rattle.std.proofs.Common.{get_or, Option, Some, None}
 use Rattle.std.specs.Prelude.{IsTrue, AllPairs}

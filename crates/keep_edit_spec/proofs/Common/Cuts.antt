@@ -1,4 +1,6 @@
 -- A run of mentions at and under a path is taken out, with what only led there: the rules and the tree afterwards.
+--
+-- Theorems: `rules_cut`: the rules hold; `tree_cut`: where the path ends in a key, the tree is that of `remove`.
 use Rattle.std.proofs.Common.{◌≡◌, List, [], ◌∷◌, ◌++◌, map, refl, sym, ap, subst, ◌∙◌, append_assoc, Option, Some}
 use Rattle.std.proofs.Common.{None}
 use Rattle.std.specs.List.{filter_map}

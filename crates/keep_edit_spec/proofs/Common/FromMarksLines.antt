@@ -1,4 +1,15 @@
--- From the marks of a document to what it says: what holds of values and of lines, of whole documents.
+-- In a document the rules over marks give those over mentions.
+--
+-- Besides the rules over marks, `rules_from` asks for two things: marks end in a key and items in an index
+-- (`formed_lines`), and two items are never at one path (`items_lines`). Both are inductions over the lines. What a
+-- line says has no items at all (`IsPlain`), or is what a keyval says, below the body (`sort_line`). Inside the
+-- keyval's value `items_entries` compares the items with one another. All of them are under the keyval's path
+-- (`items_up`), and nothing later is at or under that path: it would come with a mention at the path itself
+-- (`lines_closed`), where the rules over marks allow none after a value (`clash_value`). So they differ from all later
+-- items (`items_across`).
+--
+-- Theorems: `document_rules`: the rules over marks give those over mentions; `formed_lines`: marks end in a key and
+-- items in an index; `path_ends`: a header's path ends in a key.
 use Rattle.std.proofs.Common.{◌≡◌, ℕ, Bool, true, false, cond, List, [], ◌∷◌, ◌++◌, map, refl, sym, ap, subst, ◌∙◌}
 use Rattle.std.proofs.Common.{Option, Some, inl, inr}
 use Rattle.std.specs.Prelude.{◌==◌}

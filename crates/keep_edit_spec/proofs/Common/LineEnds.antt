@@ -1,10 +1,8 @@
 -- How lines end: no line of a valid document ends in a line feed, and each newline does. So the last byte of a line
--- that is
--- read with its newline, if it has one, tells whether it has one.
+-- that is read with its newline, if it has one, tells whether it has one.
 --
 -- A value ends in a bracket, in a mark of a string or in a byte of a word; a comment, a key part and white space have
--- no line
--- feed. Theorems: `line_quiet`, `line_some`, `ended_ends`.
+-- no line feed. Theorems: `line_quiet`, `line_some`, `ended_ends`.
 use Rattle.std.proofs.Common.{◌≡◌, ℕ, suc, ◌+◌, ◌-◌, ◌<◌, Bool, true, false, ◌&&◌, ◌==◌, List, [], ◌∷◌, ◌++◌, length}
 use Rattle.std.proofs.Common.{get_or, take, drop, Some, None, refl, sym, ap, ◌∙◌, subst, inl, inr, arith, add-zero}
 use Rattle.std.proofs.Common.{get_or-drop, length-append, Option}

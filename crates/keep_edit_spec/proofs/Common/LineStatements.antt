@@ -1,4 +1,8 @@
--- The statements of a document whose lines were changed.
+-- New lines put into a document, or lines taken out: its statements are then those of the lines before and after, and
+-- of the new ones.
+--
+-- Theorems: `put_statements`: new lines; `dropped_statements`: lines taken out; `reading_statements`: the reading after
+-- lines is that after their statements.
 use Rattle.std.proofs.Common.{◌≡◌, ℕ, zero, suc, ◌≤◌, List, [], ◌∷◌, ◌++◌, length, map, take, drop, refl, sym, ap, ◌∙◌}
 use Rattle.std.proofs.Common.{append_assoc, arith, Option, Some, None}
 use Rattle.std.specs.List.{cons_option, filter_map}

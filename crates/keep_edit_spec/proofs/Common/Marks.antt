@@ -1,4 +1,7 @@
--- The rules over marks are the rules over mentions; and `set` under them.
+-- If the marks of a document or of a value obey the rules, so do its mentions. So the law of `set` needs the rules over
+-- marks alone.
+--
+-- Theorems: `rules_of_document` and `rules_of_value`: the mentions obey the rules; `set_is_right`: the law of `set`.
 use Rattle.std.proofs.Common.{◌≡◌, ℕ, zero, suc, ◌<◌, true, List, [], ◌∷◌, length, refl, sym, ap, subst, ◌∙◌, arith}
 use Rattle.std.proofs.Common.{get_or, Option, Some, None}
 use Rattle.std.specs.Prelude.{AllPairs}

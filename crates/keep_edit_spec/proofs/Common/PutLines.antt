@@ -1,4 +1,8 @@
--- New lines put into a document: what it says is what it said, with what the new lines say put in.
+-- New lines put into a document that leave the reading as it is: it says what it said, with what the new lines say put
+-- in.
+--
+-- Theorems: `put_mentions`: what the lines say, with any new ones among them; `keyval_put`: a line with a keyval;
+-- `rules_put`: the rules hold then, if they hold in the new run and no other mention is at or under its path.
 use Rattle.std.proofs.Common.{◌≡◌, ℕ, zero, suc, ◌≤◌, false, List, [], ◌∷◌, ◌++◌, length, map, take, drop, refl, sym}
 use Rattle.std.proofs.Common.{ap, subst, ◌∙◌, append_assoc, length-append, arith, Option}
 use Rattle.std.proofs.lemmas.List.{map-append, append-nil, take-append-drop, length-map}

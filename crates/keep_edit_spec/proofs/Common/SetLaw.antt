@@ -173,8 +173,7 @@ tag_alone None f = refl
 tag_alone (Some name) f = refl
 
 -- The mentions of the new tree are those of the old one, with the run at the path replaced; there is nothing else at or
--- under it.
--- The value has that name, or is an item; `fact` and `entries` are those of the value before.
+-- under it. The value has that name, or is an item; `fact` and `entries` are those of the value before.
 pub record IsSet (path : List Part) (new : Value) (from to : List Mention) : Type 0 where
   pub name : Option Name
   pub fact : Fact

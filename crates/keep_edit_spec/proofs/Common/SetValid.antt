@@ -1,4 +1,14 @@
--- After `set` the tree is a document of the grammar, and its brackets are no deeper than stated.
+-- After `set` the tree is a document of the grammar.
+--
+-- The proof follows the search for the value: if an act makes a valid value of a valid one (`IsActValid`), then
+-- entries, values and lines in which it is done stay valid (`valid_entries`, `valid_in_value`, `valid_line`). The
+-- grammar looks at each part by itself, but for two places. Whether a comma must come after an entry depends on whether
+-- an entry follows, so the induction over entries also says that there are some after the act exactly if there were
+-- some before (`SameEnd`, `comma_preserved`). What may come after a line's content depends on its kind, so a keyval
+-- stays a keyval (`SameKind`, `after_preserved`). To replace a value by a valid one is such an act (`valid_replaced`).
+--
+-- Theorems: `valid_line`: a line stays valid by such an act; `valid_lines`: all lines do by such a change of one;
+-- `valid_set`: the document does by `set`.
 use Rattle.std.proofs.Common.{ℕ, ◌+◌, List, [], ◌∷◌, ◌++◌, Option, Some, None}
 use Rattle.std.specs.Prelude.{⊤}
 use Rattle.std.specs.List.{AllByRecursion}

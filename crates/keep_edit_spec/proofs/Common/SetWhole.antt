@@ -1,4 +1,7 @@
--- All that holds of `set` where it makes a change.
+-- If a document and a value are valid and obey the rules, each change that `set` makes gives such a document, with the
+-- text and the tree of the edit.
+--
+-- Theorems: `set_whole`; `together`: the same of any edit, from its parts.
 use Rattle.std.proofs.Common.{◌≡◌, List, Option, Some, None}
 use Rattle.std.specs.Prelude.{⊤}
 use Rattle.keep_types.specs.declared.leaf.Profile.{Profile}

@@ -1,4 +1,6 @@
--- The numbers of a document around one of its lines: those before it, its own, and those after it.
+-- The numbered mentions of a document around one of its lines: those before it, its own, and those after it.
+--
+-- Theorems: `numbered_around`; `reading_lines`: the reading after lines is that after their statements.
 use Rattle.std.proofs.Common.{◌≡◌, List, [], ◌∷◌, ◌++◌, refl, ap, ◌∙◌, Option, Some, None}
 use Rattle.std.specs.List.{filter_map, cons_option}
 use Rattle.std.proofs.lemmas.List.Elements.{filter_map-append}

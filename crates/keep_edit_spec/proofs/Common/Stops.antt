@@ -1,4 +1,7 @@
--- The stops of a dotted key: what it says of the paths on its way; those of a key with the same prefix are doubles.
+-- The stops of a dotted key: what it says of the paths on its way. They may be repeated.
+--
+-- Theorems: `keyed_stops`: a key is its stops and what comes after them; `repeats_below`: stops may be repeated;
+-- `dotted_prefix`: a key with a dotted mention of a path continues from it.
 use Rattle.std.proofs.Common.{◌≡◌, ℕ, Bool, true, List, [], ◌∷◌, ◌++◌, map, refl, sym, ap, ◌∙◌, None, inl, inr}
 use Rattle.std.proofs.lemmas.List.{map-append}
 use Rattle.keep_path.specs.Path.{Part, key}

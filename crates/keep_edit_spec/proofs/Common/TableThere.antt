@@ -1,4 +1,7 @@
 -- Where a header defines a table, some line begins its body.
+--
+-- Theorems: `some_begins`; `defined_ends`: the path of the table ends in a key; `some_of_table`: `remove` makes a
+-- change.
 use Rattle.std.proofs.Common.{◌≡◌, ℕ, suc, ◌+◌, Bool, true, false, cond, List, [], ◌∷◌, ◌++◌, map, refl, sym, ap, subst}
 use Rattle.std.proofs.Common.{◌∙◌, Option, Some, None, inl, inr}
 use Rattle.std.specs.Prelude.{drop, ◌==◌}

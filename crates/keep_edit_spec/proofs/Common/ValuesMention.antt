@@ -4,9 +4,8 @@
 -- Mentions and values are numbered in two ways that follow the same tree, so they are compared part by part. Only
 -- keyvals and items mention values: what a key's prefixes and a header mention is left out (`mention_kinds-keyed`,
 -- `mention_kinds-prefixes`). An entry has its own value first, then those inside (`mention_kinds-entry`). The lists are
--- then
--- joined pairwise (`zip_join`), by induction over the entries (`entries_stated`) and over the lines (`lines_stated`).
--- That a value's text is at its place comes from the text of the part that it is in (`Spelled`).
+-- then joined pairwise (`zip_join`), by induction over the entries (`entries_stated`) and over the lines
+-- (`lines_stated`). That a value's text is at its place comes from the text of the part that it is in (`Spelled`).
 --
 -- Theorem: `values_mention`: the i-th value is the one of the i-th mention of a value.
 use Rattle.std.proofs.Common.{◌≡◌, ℕ, ◌+◌, Bool, true, false, cond, List, [], ◌∷◌, ◌++◌, length, map, refl, sym, ap}

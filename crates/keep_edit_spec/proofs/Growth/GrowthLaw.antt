@@ -1,4 +1,13 @@
 -- The text gets longer by an edit by no more than what the edit gives, and twelve bytes.
+--
+-- If a change puts in at most so many bytes more than it takes out (`GrowsBy`), the text gets longer by at most as many
+-- (`of_grows`). For `insert`, `rename` and the edits that append, `GrowthOfEdits` has the lemmas; new lines need
+-- newlines, of at most two bytes each (`newline_short`). For `set` the lemma is `set_growth`, of the whole text. The
+-- first half is about `remove`, which never makes the text longer (`remove_grows`): clearing a line and dropping lines
+-- put nothing in (`clear_grows`, `lines_grow`), and where an entry goes (`take_out_grows`), at most a gap is put in
+-- that was taken out with it (`preserved_shorter`).
+--
+-- Theorem: `growth`.
 use Rattle.std.proofs.Common.{◌≡◌, ℕ, zero, suc, ◌+◌, ◌≤◌, Bool, true, false, cond, List, [], ◌∷◌, ◌++◌, length, map}
 use Rattle.std.proofs.Common.{drop, ap, subst, length-append, arith, Option, Some, None}
 use Rattle.std.specs.Prelude.{codes}

@@ -1,5 +1,7 @@
 -- The bound of growth is reached: where lines end in two bytes and the last has no newline, a further part of a table
 -- takes as much.
+--
+-- Theorem: `growth_reached`.
 use Rattle.std.proofs.Common.{ℕ, List, [], ◌∷◌, refl, inl, inr, arith, None, false}
 use Rattle.std.specs.Prelude.{codes}
 use Rattle.keep_types.specs.declared.leaf.Profile.{Profile}

@@ -1,4 +1,6 @@
--- A newline of a document has one byte or two.
+-- The newline of a valid document has at most two bytes.
+--
+-- Theorem: `newline_short`.
 use Rattle.std.proofs.Common.{ℕ, ◌≤◌, List, length, ap, arith, inl, inr}
 use Rattle.keep_types.specs.declared.leaf.Leaf.TheVariants as leaf
 use Rattle.keep_types.specs.declared.leaf.Profile.{Profile}

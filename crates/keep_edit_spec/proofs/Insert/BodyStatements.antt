@@ -2,8 +2,7 @@
 --
 -- A body ends with its last keyval, so the lines up to there say as much as its keyvals (`lines_counted`). Which
 -- statements are keyvals, the list of all statements says by their kinds, and the lines by what they say: both count
--- the
--- same (`kinds_counted`).
+-- the same (`kinds_counted`).
 --
 -- Theorems: `root_counted`, `header_counted`.
 use Rattle.std.proofs.Common.{◌≡◌, ℕ, zero, suc, ◌+◌, ◌≤◌, true, false, List, [], ◌∷◌, ◌++◌, length, map, take, drop}

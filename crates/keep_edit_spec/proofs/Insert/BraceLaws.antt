@@ -1,4 +1,7 @@
--- Where a keyval is put into braces, by the numbers of values.
+-- A keyval put into the braces of its holder comes after the last keyval there by the numbers of values, or directly
+-- after the opening brace if there is none.
+--
+-- Theorems: `into_empty`: there is none; `after_last`: there is one.
 use Rattle.std.proofs.Common.{◌≡◌, ℕ, suc, ◌+◌, List, [], ◌∷◌, ◌++◌, length, map, drop, slice_get, refl, sym, ap, subst}
 use Rattle.std.proofs.Common.{◌∙◌, append_assoc, length-append, arith, Option, Some, None, inl, inr, drop_at}
 use Rattle.keep_types.specs.declared.leaf.Profile.{Profile}

@@ -1,4 +1,14 @@
 -- A keyval put into braces: its rules and its tree.
+--
+-- The edit puts the keyval's mentions in among those of the document, and changes no other (`was`, `now`): the entries
+-- after it have names, so their mentions don't depend on their numbers (`renumbered`). The keyval's key goes along the
+-- dots first. If there are dots, the braces are not empty, and the entry before the keyval goes along them as well
+-- (`there`). So what the key mentions up to there only repeats earlier mentions (`doubles`), and what comes after names
+-- no node: from that `keyval_put_law` gives rules and tree. The table that takes the keyval is not one that only
+-- headers make: with dots, an entry mentions it by dots (`last_stop`), and with none, it is the value in braces, which
+-- has a fact.
+--
+-- Theorems: `law_there`: the rules and the tree; `plain_there`: the table is not made by headers alone.
 use Rattle.std.proofs.Common.{◌≡◌, ℕ, ◌+◌, Bool, true, false, not, ◌&&◌, ◌||◌, List, [], ◌∷◌, ◌++◌, length, map, refl}
 use Rattle.std.proofs.Common.{sym, ap, subst, ◌∙◌, append_assoc, Option, Some, None, ◌⊎◌, inl, inr}
 use Rattle.std.proofs.lemmas.List.{map-append, append-nil}

@@ -1,4 +1,7 @@
 -- The key of a new keyval in braces: what comes before it has said the same of the dots.
+--
+-- Theorems: `rest_name`: the key is valid; `past_stops`: an entry that goes past the dots has said it; `doubles_there`:
+-- so the stops of the key are doubles.
 use Rattle.std.proofs.Common.{◌≡◌, ℕ, true, false, List, [], ◌∷◌, ◌++◌, map, refl, sym, ap, subst, ◌∙◌, append_assoc}
 use Rattle.std.proofs.Common.{Option, Some, None, inl, inr}
 use Rattle.std.proofs.lemmas.List.{map-append, append-nil}

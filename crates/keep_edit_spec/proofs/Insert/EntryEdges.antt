@@ -1,4 +1,7 @@
 -- What comes after the place of a new entry begins with no byte of a longer character.
+--
+-- Theorems: `gap_low`: of a gap and what comes after it; `back_low`: of what follows an entry in its brackets;
+-- `low_put`: where a change puts bytes in before such a text, no such byte is at its place.
 use Rattle.std.proofs.Common.{◌≡◌, ℕ, ◌<◌, true, false, List, [], ◌∷◌, ◌++◌, length, drop, refl, sym, ap, subst, ◌∙◌}
 use Rattle.std.proofs.Common.{append_assoc, length-append, arith, Option, Some, None, drop_at}
 use Rattle.std.specs.Prelude.{IsTrue, ◌==◌}

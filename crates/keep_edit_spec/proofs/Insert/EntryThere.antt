@@ -1,4 +1,8 @@
 -- An entry of the value where an act is done, seen from the document: its number, and what is said before and after it.
+--
+-- Theorems: `here_there`: the entry's own value has the number of the values before it; `mentioned_there`: what is
+-- mentioned before it, in it and after it; `count_there`: what is mentioned before it has as many values as come before
+-- it.
 use Rattle.std.proofs.Common.{◌≡◌, ℕ, suc, ◌+◌, Bool, List, [], ◌∷◌, ◌++◌, length, map, slice_get, refl, ap, ◌∙◌}
 use Rattle.std.proofs.Common.{append_assoc, length-append, arith, Option, Some}
 use Rattle.std.proofs.lemmas.List.{map-append}

@@ -1,5 +1,15 @@
 -- An act that puts something in, where it is done: at the value of the path's number, and nothing else is said at or
 -- under the path.
+--
+-- The change is also that of `ended`, which acts at the end of the path alone (`ended_is`). So the value that
+-- `found_nested` finds is at that very path (`by_more`). Where the act does nothing, `ended` puts the value's own text
+-- in its place, so it takes that text out; but the act takes nothing out (`none_taken`), and a value has a text
+-- (`never_empty`). So the act itself is done there (`acted`). By the rules nothing else is said at or under the path,
+-- so that value has the number of the path (`number_of_value`), and the facts under the path are the facts in it.
+-- `IsFoundThere` is all that together.
+--
+-- Theorems: `found_there`: the act is done at that value; `put_place`: a change that takes nothing out puts its bytes
+-- in at one place.
 use Rattle.std.proofs.Common.{◌≡◌, ℕ, ◌+◌, Bool, true, false, List, [], ◌∷◌, ◌++◌, length, map, refl, sym, ap, subst}
 use Rattle.std.proofs.Common.{◌∙◌, arith, Option, Some, None}
 use Rattle.std.proofs.lemmas.List.{append-nil}

@@ -1,4 +1,14 @@
 -- The prefix of a header's way, up to a path that the header goes through.
+--
+-- A header goes through a path only where no elements are counted, so its next key continues from the path itself
+-- (`passes_here`). By induction over the keys, the path is that of a header with fewer keys, and the mentions on the
+-- whole header's way begin with those of the shorter one (`through_prefix`). The whole header's path is longer
+-- (`path_longer`). One more `[[..]]` line with a longer path changes none of the counts that a way depends on
+-- (`elements_same`), so the path and the mentions on the way stay as they are (`way_stays`). The keys in the path are
+-- those of the header (`path_keys`), and each mention on the way is of a kind that may be repeated (`way_again`).
+--
+-- Theorems: `through_prefix`: the path is that of a header with fewer keys; `way_stays`: one more `[[..]]` line, with a
+-- longer path, changes nothing of the way.
 use Rattle.std.proofs.Common.{◌≡◌, ℕ, ◌-◌, Bool, true, false, cond, List, [], ◌∷◌, ◌++◌, length, refl, sym, ap, ◌∙◌}
 use Rattle.std.proofs.Common.{append_assoc, length-append, arith, inl, inr}
 use Rattle.std.specs.Prelude.{◌==◌}

@@ -1,4 +1,6 @@
--- What is at a prefix of a path where `insert` puts a value: an array of tables is no value.
+-- An array of tables is neither an array nor an inline table.
+--
+-- Theorem: `no_bracket_element`.
 use Rattle.std.proofs.Common.{◌≡◌, true, List, refl}
 use Rattle.keep_path.specs.Path.{Part}
 use Rattle.keep_meaning.specs.Marks.{MentionKind, element, Mention}

@@ -1,9 +1,9 @@
 -- An insert of one key at the end of a body adds a line, and a value there, whatever is in it.
 --
 -- Between the two documents is the one that an insert of the bare value gives: it has the line (`bare_added`), and
--- obeys
--- the rules, since the path is new and a bare value says one thing alone (`bare_rules`). The new document has the same
--- lines as that one but for the value of the new line (`put_around`), so it has another value there (`replaced_value`).
+-- obeys the rules, since the path is new and a bare value says one thing alone (`bare_rules`). The new document has the
+-- same lines as that one but for the value of the new line (`put_around`), so it has another value there
+-- (`replaced_value`).
 --
 -- Theorem: `insert_adds_value`.
 use Rattle.std.proofs.Common.{◌≡◌, ℕ, zero, suc, ◌≤◌, List, [], ◌∷◌, ◌++◌, length, map, take, drop, refl, sym, ap}

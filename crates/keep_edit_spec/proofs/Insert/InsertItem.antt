@@ -1,4 +1,13 @@
 -- `insert` at an index of an array: from no refusal there is a change, and the new document is right.
+--
+-- Where the edit is not refused, the index is at most the count of items (`granted`), so the array has a place for the
+-- item (`enough`), and it is put in there (`put_there`). The array before the edit is the one after it without the new
+-- item (`put_out`), so the laws of an item that is taken out apply in reverse. They give the rules (`rules_put`) and
+-- the facts by the index (`by_number`): below the new index they stay (`at_place`), at it they are those of the value
+-- (`own`), and above it they are those of the index one lower. At all other paths nothing changes (`by_place`). No
+-- refusal also means that the new value is not too deep, so the depth stays within the limit (`insert_item`).
+--
+-- Theorem: `insert_item`.
 use Rattle.std.proofs.Common.{◌≡◌, ℕ, suc, ◌-◌, ◌<◌, ◌≤◌, Bool, true, false, cond, List, [], ◌∷◌, ◌++◌, map, refl, sym}
 use Rattle.std.proofs.Common.{ap, subst, ◌∙◌, arith, Option, Some, None, inl, inr}
 use Rattle.std.specs.Prelude.{nat_lt, ◌==◌}

@@ -1,4 +1,14 @@
 -- `insert` of a keyval at the end of the body of the root, a defined table or an element: all that holds of it.
+--
+-- Where the holder's body has an end (`end_of`), the edit puts one keyval there (`change_here`). At that line the
+-- reading is still in the holder's body (`end_is`), and the keys that are written mean the keys after the holder
+-- (`key_means`). So by `keyval_law` the rules and the facts are those of a keyval with a new path (`body_law`). The
+-- edit's definition of the tree has an exception for a holder that only headers go through. No path with a body is such
+-- a holder (`body_not_alone`), so the definition gives the facts of the law (`source_plain`). `insert_whole` puts them
+-- together with the grammar and the text.
+--
+-- Theorems: `insert_at_body_end`: the whole, from no refusal; `insert_whole`: the same of any change with the rules and
+-- facts of a new keyval; `change_here`: which line is put where.
 use Rattle.std.proofs.Common.{◌≡◌, ℕ, Bool, true, false, not, cond, ◌&&◌, ◌||◌, List, [], ◌∷◌, ◌++◌, length, map, take}
 use Rattle.std.proofs.Common.{drop, refl, sym, ap, subst, ◌∙◌, Option, Some, None, inl, inr}
 use Rattle.std.specs.List.{list_any}

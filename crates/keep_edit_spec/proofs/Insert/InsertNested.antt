@@ -1,8 +1,7 @@
 -- An insert of an item, or of a key below a value, is a change inside the value of a line.
 --
 -- Of an item the definition says so. Below a value no line has to do with the path (`value_no_lines`), so the key is
--- not
--- put in by a line.
+-- not put in by a line.
 --
 -- Theorems: `item_nested`, `braced_nested`.
 use Rattle.std.proofs.Common.{◌≡◌, ℕ, List, ◌++◌, length, drop, refl, ap, ◌∙◌, Some, None}

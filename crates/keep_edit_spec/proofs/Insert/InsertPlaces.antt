@@ -1,8 +1,7 @@
 -- Where `insert` writes a line, or a section, by the origin of the node of the longest prefix of the new path.
 --
 -- Each law finds the line that `change_insert` looks for from the origin of that node, and puts together where a body
--- ends
--- (`BodyPlaces`) and what new lines are in the text (`LineBefore`). How many statements are before such a line,
+-- ends (`BodyPlaces`) and what new lines are in the text (`LineBefore`). How many statements are before such a line,
 -- `root_ends` and `header_ends` say.
 --
 -- Theorems: `root_ends`, `header_ends`, `root_placed`, `header_placed`, `element_placed`, `through_placed`.

@@ -1,4 +1,7 @@
 -- `insert` as a line, where it is not refused: there is a change, it is right, and within the limit.
+--
+-- Theorems: `insert_whole`: that, where the table has lines; `suits_there`: the profile allows the value;
+-- `shallow_there`: the value is not too deep at the path.
 use Rattle.std.proofs.Common.{◌≡◌, ℕ, suc, ◌+◌, ◌≤◌, Bool, true, false, not, ◌&&◌, List, [], ◌∷◌, ◌++◌, length, drop}
 use Rattle.std.proofs.Common.{refl, ap, arith, Option, Some, None}
 use Rattle.std.specs.List.{list_any}

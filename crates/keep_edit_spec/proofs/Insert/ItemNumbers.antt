@@ -1,4 +1,6 @@
 -- The items of an array are numbered from 0 up to their count.
+--
+-- Theorem: `items_numbered`.
 use Rattle.std.proofs.Common.{◌≡◌, ℕ, ◌+◌, ◌<◌, ◌≤◌, ◌==◌, true, false, List, [], ◌∷◌, ◌++◌, map, refl, sym, ap, subst}
 use Rattle.std.proofs.Common.{◌∙◌, arith, Option, Some, None, inl, inr}
 use Rattle.std.specs.List.{filter_map}

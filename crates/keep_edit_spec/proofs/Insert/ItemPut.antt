@@ -1,4 +1,7 @@
--- An item put into an array: the rules of what the array says, and its facts.
+-- With an item put into an array, what the array says obeys the rules, and the facts of the item are its value's.
+--
+-- Theorems: `put_rules`: the rules; `put_facts`: the facts of the item; `put_out`: what was there is what is now there
+-- without the item.
 use Rattle.std.proofs.Common.{◌≡◌, ℕ, ◌+◌, ◌-◌, ◌<◌, List, [], ◌∷◌, ◌++◌, map, refl, sym, ap, subst, ◌∙◌, arith}
 use Rattle.std.specs.List.{filter_map}
 use Rattle.keep_syntax.specs.Tree.{Value, Entries}

@@ -1,4 +1,7 @@
--- A keyval whose key goes by stops that are doubles, and then by a key that names no node: its rules and its tree.
+-- With a keyval put in whose key goes by stops that are doubles, and then by a key that names no node, the rules hold,
+-- and the tree has its value at its path, and elsewhere what was there.
+--
+-- Theorem: `keyval_put_law`.
 use Rattle.std.proofs.Common.{◌≡◌, ℕ, List, [], ◌∷◌, ◌++◌, map, refl, sym, ap, subst, ◌∙◌, append_assoc, Some}
 use Rattle.std.proofs.lemmas.List.{map-append}
 use Rattle.keep_syntax.specs.Tree.{Name, Value, Document}

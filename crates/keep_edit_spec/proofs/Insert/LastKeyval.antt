@@ -1,4 +1,7 @@
 -- The last keyval of braces: which it is of the values after the braces' own.
+--
+-- Theorems: `entry_last`: it is the last entry's; `last_none`: there is none where all the values are deeper in the
+-- braces.
 use Rattle.std.proofs.Common.{◌≡◌, ℕ, suc, ◌+◌, ◌<◌, ◌≤◌, Bool, true, false, cond, List, [], ◌∷◌, ◌++◌, length, refl}
 use Rattle.std.proofs.Common.{ap, subst, ◌∙◌, append_assoc, arith, Option, Some, None}
 use Rattle.std.specs.Prelude.{nat_lt, ◌==◌}

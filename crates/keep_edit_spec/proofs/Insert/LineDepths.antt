@@ -1,4 +1,6 @@
--- How deep a document is after new lines are put into it.
+-- With new lines put into it, a document is no deeper than it was, or no deeper than the lines.
+--
+-- Theorems: `line_depth`: that; `appended`: what is appended is put in as lines, which are no deeper than its content.
 use Rattle.std.proofs.Common.{◌≡◌, ℕ, zero, suc, ◌≤◌, Bool, true, false, cond, List, [], ◌∷◌, ◌++◌, length, map, refl}
 use Rattle.std.proofs.Common.{ap, arith, Option}
 use Rattle.std.specs.Prelude.{max}

@@ -1,4 +1,15 @@
 -- The entries of a value: which of them a path goes through, and which go past it.
+--
+-- An entry mentions the dotted prefixes of its keys, and paths at or under its own. So where entries mention a path,
+-- one of them is near it (`entries_near`): the path is at or under the entry's, or the entry's keys continue beyond the
+-- path. Where the rules hold, each entry's path has the fact of a value (`entries_stated`, by induction over the
+-- entries). An act does nothing in entries if its path is at or under none of theirs (`none_in_entries`). An entry
+-- without a name has one index for its path, so it never continues beyond a path that is not empty (`never_index`). An
+-- entry that does has a name, is found by the test `leads_past` (`past_entry`), and is in an inline table
+-- (`past_named`).
+--
+-- Theorems: `entries_near`: one entry is near a path that the entries mention; `entries_stated`: each entry's path has
+-- the fact of a value; `past_entry`: an entry that continues beyond a path leads past it.
 use Rattle.std.proofs.Common.{◌≡◌, ℕ, ◌+◌, true, List, [], ◌∷◌, ◌++◌, map, refl, sym, ap, subst, ◌∙◌, Option, Some}
 use Rattle.std.proofs.Common.{None, ◌⊎◌, inl, inr}
 use Rattle.std.specs.Prelude.{⊤}

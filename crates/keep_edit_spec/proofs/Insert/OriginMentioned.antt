@@ -1,4 +1,12 @@
 -- Each node but the root is said by a value, a header, an element or a dotted key: none is only gone past.
+--
+-- All that a keyval mentions says where a node comes from (`is_origin`), and so do the last mentions of a header. Only
+-- on its way may a header go past a path, and `way_case` gives three cases of that way. The header goes through the
+-- path. Or earlier lines began elements there, and one of them names the path as an array of tables (`counted`). Or the
+-- path is an element, and the line that begins it mentions it (`tables_begin`, `begun_mentioned`). `from_way` puts the
+-- cases together. `line_of_some` finds a line that mentions the path, and `line_origin` splits by what that line is.
+--
+-- Theorem: `origin_mentioned`.
 use Rattle.std.proofs.Common.{◌≡◌, ℕ, suc, ◌-◌, ◌<◌, Bool, true, false, cond, List, [], ◌∷◌, ◌++◌, map, refl, sym}
 use Rattle.std.proofs.Common.{subst, arith, Option, Some, None, inl, inr}
 use Rattle.std.specs.List.{list_any}

@@ -2,8 +2,7 @@
 --
 -- An origin is the first that fits of six numbers, each of which is known exactly if such a thing is said of the path
 -- (`mention_with_number`, `unsaid_of_none`). So `Header` and `Element` tell of a header, and `Dotted` and `Through`
--- that no header
--- defines or begins the node. What headers and dots name ends in a key, so it is not the root.
+-- that no header defines or begins the node. What headers and dots name ends in a key, so it is not the root.
 --
 -- Theorems: `headed_of_header`, `headed_of_element`, `headed_one`, `dotted_node`, `through_node`.
 use Rattle.std.proofs.Common.{◌≡◌, ℕ, Bool, true, false, List, [], ◌∷◌, ◌++◌, map, refl, sym, ap, subst, ◌∙◌, Option}

@@ -1,4 +1,7 @@
--- What is put into brackets is one deeper than they; and all that holds of a change, from its parts.
+-- What is put into brackets is deeper than they by at least one; and all that holds of a change, from its parts.
+--
+-- Theorems: `enclosing_more`: one bracket more encloses what is put in; `whole_from`: all of `IsSetWhole`, where the
+-- new document is valid and `IsLawful` holds.
 use Rattle.std.proofs.Common.{◌≡◌, ℕ, suc, ◌≤◌, Bool, true, cond, List, [], ◌∷◌, ◌++◌, map, sym, ap, subst, arith, Some}
 use Rattle.keep_types.specs.declared.leaf.Profile.{Profile}
 use Rattle.keep_syntax.specs.Tree.{Value, Document}

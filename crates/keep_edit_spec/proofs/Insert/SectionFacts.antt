@@ -1,4 +1,7 @@
--- The facts with a new section: its table is at its path, and elsewhere what was there.
+-- The facts with a new section: its keyval's under the keyval's path, a table at its own path, and elsewhere what was
+-- there.
+--
+-- Theorem: `section_tree`.
 use Rattle.std.proofs.Common.{◌≡◌, ℕ, Bool, true, false, cond, List, [], ◌∷◌, ◌++◌, take, drop, refl, sym, ap, subst}
 use Rattle.std.proofs.Common.{◌∙◌, append_assoc, Option, Some, None, inl, inr}
 use Rattle.std.specs.List.{filter_map, cons_option}

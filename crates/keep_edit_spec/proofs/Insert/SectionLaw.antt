@@ -1,5 +1,15 @@
 -- A new section put in after a body: the header's way repeats what was said, its table is where only headers went, and
--- its keyval is new. The rules and the facts, from what is known of the way and of the table's path.
+-- its keyval is new.
+--
+-- The rules and the facts follow from what is known of the way and of the table's path (`IsSectionPlace`). The mentions
+-- on the way are doubles of earlier ones, which do no harm (`doubles_in`). The mention of the table is allowed by those
+-- before and after it (`one_in`). The keyval's mentions are a run under a new path, and no double is at or under that
+-- path (`doubles_disjoint`). `rules_section` takes the three together. After a body's end only blank lines come before
+-- the next header, so the rest says the same in whichever body it is read (`after_free`). The facts are those of the
+-- keyval, and elsewhere those of all other mentions (`tree_put-by`).
+--
+-- Theorems: `section_law`: the rules and the facts with the section; `after_free`: what follows a body does not depend
+-- on its path.
 use Rattle.std.proofs.Common.{◌≡◌, ℕ, zero, suc, ◌≤◌, false, List, [], ◌∷◌, ◌++◌, length, map, take, drop, refl, sym}
 use Rattle.std.proofs.Common.{ap, subst, ◌∙◌, append_assoc, Option, Some, None}
 use Rattle.std.specs.List.{list_any}

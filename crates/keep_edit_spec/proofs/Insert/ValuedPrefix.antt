@@ -1,4 +1,6 @@
--- The longest prefix of a path that passes a test.
+-- A path has a longest prefix that passes a test, or none of its prefixes passes the test.
+--
+-- Theorem: `valued_prefix`.
 use Rattle.std.proofs.Common.{◌≡◌, Bool, true, false, List, [], ◌∷◌, ◌++◌, refl, sym, ap, ◌∙◌, ◌⊎◌, inl, inr}
 use Rattle.keep_path.specs.Path.{Part}
 

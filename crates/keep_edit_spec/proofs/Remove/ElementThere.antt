@@ -1,4 +1,13 @@
 -- Where an element of an array of tables begins: some line begins it, no value is there, and `remove` makes a change.
+--
+-- Only a `[[..]]` line mentions that an element begins (`content_begun`). So some line passes the test for beginning it
+-- (`some_begins`), and `remove` takes lines out there, unless one of its other searches comes first
+-- (`some_of_element`). A value or an item at the path is in a keyval's value, which is alone at a prefix of the path
+-- that ends in a key (`lines_held`). But the element's line mentions each such prefix (`line_headed`), and no such
+-- mention may be beside a value (`no_both`).
+--
+-- Theorems: `some_begins`: a line begins the element; `some_of_element`: `remove` makes a change; `begun_alone`: no
+-- value or item is there.
 use Rattle.std.proofs.Common.{◌≡◌, ℕ, suc, Bool, true, false, not, ◌&&◌, List, [], ◌∷◌, ◌++◌, map, drop, refl, sym, ap}
 use Rattle.std.proofs.Common.{subst, ◌∙◌, append_assoc, Option, Some, None, inl, inr}
 use Rattle.std.proofs.lemmas.Bool.{and_parts}

@@ -1,4 +1,7 @@
--- An element's run is taken out and the paths after it go down by one: the rules and the tree.
+-- Where an element's run is taken out and the paths after it go down by one, the rules hold, and the tree is that of
+-- `remove`.
+--
+-- Theorem: `element_removal`.
 use Rattle.std.proofs.Common.{◌≡◌, ℕ, ◌+◌, Bool, true, false, cond, List, [], ◌∷◌, ◌++◌, map, refl, sym, ap, subst, ◌∙◌}
 use Rattle.std.proofs.Common.{arith, Option, Some, None, inl, inr}
 use Rattle.std.specs.Prelude.{nat_lt}

@@ -1,4 +1,7 @@
 -- What holds of the mentions of a keyval, and how its paths begin.
+--
+-- Theorems: `mentions_keyval`: what holds of dotted keys, of values and of items holds of all that a keyval mentions;
+-- `mentioned_below`: what holds of mentions holds of them below a path; `starts_keyval`: the paths begin with a key.
 use Rattle.std.proofs.Common.{◌≡◌, ℕ, ◌+◌, List, [], ◌∷◌, map, refl, Option, Some, None}
 use Rattle.keep_syntax.specs.Tree.{Name, Entries, none, entry, Value}
 use Rattle.keep_meaning.specs.Fact.{Fact}

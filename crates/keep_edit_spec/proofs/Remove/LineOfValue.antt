@@ -1,7 +1,6 @@
 -- The line on which the value of a path is (`IsLineValue`): where its key has one part it is a line of which
 -- `RemoveTakesValue` speaks, and where no node is below the value, too, one of which `RemoveTakesLine` does. Its
--- numbers are
--- those that the syntax has with the value.
+-- numbers are those that the syntax has with the value.
 --
 -- A value in which something is nested has a node below it (`childless`), so here nothing is. What the syntax counts
 -- before a line are the statements, the values and the key parts that the lines before it say (`lines_counted`).

@@ -1,4 +1,6 @@
 -- `remove`, where it is not refused: there is a change, and it is right.
+--
+-- Theorem: `remove_any`.
 use Rattle.std.proofs.Common.{◌≡◌, ℕ, Bool, true, false, not, ◌&&◌, ◌||◌, List, refl, None, ◌⊎◌, inl, inr}
 use Rattle.keep_types.specs.declared.leaf.Profile.{Profile}
 use Rattle.keep_syntax.specs.Tree.{Document}

@@ -1,4 +1,6 @@
 -- By `remove` a document gets no deeper.
+--
+-- Theorem: `remove_depth`.
 use Rattle.std.proofs.Common.{ℕ, zero, suc, ◌+◌, ◌≤◌, Bool, true, false, List, [], ◌∷◌, ◌++◌, arith, Option, Some, None}
 use Rattle.std.specs.Prelude.{codes, drop}
 use Rattle.keep_syntax.specs.Tree.{Gap, Name, Body, scalar, array, inline, Entries, none, entry, text_of, entries_depth}

@@ -1,4 +1,8 @@
 -- All that holds of `remove` where it makes a change.
+--
+-- Theorems: `remove_key_is_right`: at a path that ends in a key, where no header goes through it;
+-- `remove_value_is_right`: at a path that begins no body; `remove_by`: the rules and the tree, where they are right for
+-- the lines of a section or an element.
 use Rattle.std.proofs.Common.{◌≡◌, ℕ, suc, false, List, drop, sym, subst, Option, Some, None}
 use Rattle.keep_types.specs.declared.leaf.Profile.{Profile}
 use Rattle.keep_syntax.specs.Tree.{Document}

@@ -1,4 +1,13 @@
 -- Where `remove` cuts, where it is not refused: at a line, in brackets, or at a header with its body.
+--
+-- The edit's definition has four searches, and the first that finds something makes the change: a line is cleared up to
+-- its comment, a line is dropped, a header is dropped with its body, or an entry is taken out in brackets. There is one
+-- lemma for each search (`by_comment`, `by_line`, `by_section`, `by_value`). Each applies the law of its cut where its
+-- search finds something, and else goes on to the next search. A line that is dropped has to be without a comment: the
+-- first search would have found it otherwise (`none_lines`, `no_comment`). That there is a change at all is the law of
+-- `remove` (`remove_lawful`).
+--
+-- Theorem: `removed`.
 use Rattle.std.proofs.Common.{◌≡◌, ℕ, suc, Bool, true, false, List, [], ◌∷◌, ◌++◌, map, drop, refl, sym, ap, subst, ◌∙◌}
 use Rattle.std.proofs.Common.{Option, Some, None, ◌⊎◌, inl, inr}
 use Rattle.std.proofs.lemmas.Option.{same_Some}

@@ -1,8 +1,7 @@
 -- A remove of a keyval's line, with its comment left or without, takes a line.
 --
 -- Both ways leave the statements of the other lines. Which line the remove takes hold of is known by the rules: no two
--- lines
--- give one path a value (`no_two`), so it is the line that is meant (`same_line`).
+-- lines give one path a value (`no_two`), so it is the line that is meant (`same_line`).
 --
 -- Theorem: `remove_takes_line`; and `takes` where something is in the value, for the document where nothing is.
 use Rattle.std.proofs.Common.{◌≡◌, ℕ, zero, suc, ◌≤◌, Bool, true, false, cond, ◌||◌, List, [], ◌∷◌, ◌++◌, length, map}
@@ -150,8 +149,7 @@ bare_statements m pre post l name value is content one =
         (valued_mentions (kinds_value (body_fact value.body)) []))
 
 -- The remove takes the line from the document, and so does it from one with the same statements but for that of the
--- line,
--- which says there what it says with nothing in its value.
+-- line, which says there what it says with nothing in its value.
 module _ (s : Document) (path : List Part) (before : List Line) (value : Value)
     (obeys : ObeysRules (marks.marks (mentions_in s)))
     (h : IsValueLine s path before value)

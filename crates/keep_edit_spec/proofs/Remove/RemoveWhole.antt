@@ -1,5 +1,7 @@
 -- `remove`, where it is not refused and no element of an array of tables begins at the path: there is a change, and it
 -- is right.
+--
+-- Theorems: `remove_whole`: that; `removable`: a path where it is not refused is not the root, and is one piece.
 use Rattle.std.proofs.Common.{◌≡◌, ℕ, Bool, true, false, not, ◌&&◌, ◌||◌, List, [], ◌∷◌, refl, ap, subst, Option, Some}
 use Rattle.std.proofs.Common.{None, ◌⊎◌, inl, inr}
 use Rattle.keep_types.specs.declared.leaf.Profile.{Profile}

@@ -1,4 +1,14 @@
 -- What lines say beside an element that is taken out: all of it goes where its paths go.
+--
+-- The same lines are read twice, as in the old document and as in the new, and the two readings stay alike but for the
+-- change of paths (`AreShifted`). `line_shift` does this for one line. A keyval's paths go where the body's path goes
+-- (`keyval_shifted`), a header's way and its path go by `way_shift`, and the element that a `[[..]]` line begins has
+-- the changed path (`begun_shift`), with the counts after it alike again (`next_shift`). The lines have to be beside
+-- the element (`IsBeside`), and begin elements of the array only with lesser numbers or only with greater ones
+-- (`IsStop`). As no count goes down (`lines_more`), each line has this if all together have it, and `lines_shift` is an
+-- induction over the lines.
+--
+-- Theorem: `lines_shift`.
 use Rattle.std.proofs.Common.{◌≡◌, ℕ, ◌≤◌, List, [], ◌∷◌, ◌++◌, map, refl, sym, ap, subst, ◌∙◌, arith, Option, inl, inr}
 use Rattle.std.proofs.lemmas.List.{map-append}
 use Rattle.keep_syntax.specs.Tree.{Written, Gap, Content, blank, keyval, header, element, Line}

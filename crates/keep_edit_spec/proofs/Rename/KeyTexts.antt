@@ -1,4 +1,6 @@
 -- Every key in UTF-8 is written as a key part that means it.
+--
+-- Theorems: `key_text`: that; `key_texts`: of each key of a list.
 use Rattle.std.proofs.Common.{ℕ, Bool, true, false, cond, List, [], ◌∷◌, refl, sym, IsUtf8}
 use Rattle.std.specs.Prelude.{IsTrue}
 use Rattle.std.specs.List.{AllByRecursion}

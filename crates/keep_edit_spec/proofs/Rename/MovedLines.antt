@@ -1,10 +1,12 @@
 -- Lines that say the same as others, line by line, with the paths changed.
 --
 -- Numbers are counts of statements, values and key parts, and a path counts for nothing: so what is numbered is the
--- same,
--- with the paths changed (`numbered_of_moved`), and so are the full paths of the `[[..]]` lines (`moved_document`).
--- Where all that lines say is the same with the paths changed, and only one keyval is another, it is so line by line
--- (`lines_around`).
+-- same, with the paths changed (`numbered_of_moved`), and so are the full paths of the `[[..]]` lines
+-- (`moved_document`). Where all that lines say is the same with the paths changed, and only one keyval is another, it
+-- is so line by line (`lines_around`).
+--
+-- Theorems: `moved_document`: the document says the same with the paths changed, and all numbers stay;
+-- `lines_around`: line by line, where one keyval is another.
 use Rattle.std.proofs.Common.{◌≡◌, ◌+◌, Bool, true, false, cond, List, [], ◌∷◌, ◌++◌, length, map, refl, sym, ap, ap₂}
 use Rattle.std.proofs.Common.{subst, ◌∙◌, arith, length-append, Option, Some, None}
 use Rattle.std.specs.Prelude.{⊤}

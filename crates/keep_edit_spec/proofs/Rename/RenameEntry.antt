@@ -1,4 +1,14 @@
 -- A key in braces renamed: what the entries say then, that they are still valid, and that they are as deep.
+--
+-- `entries_renamed` goes along the entries to the first whose keys begin with the path. By its length the path gives
+-- the number of the key part that leads to it (`prefix_part`), and what this entry says is what it said with the paths
+-- changed (`here_renamed`). The path is named once (`Once`), so the other entries say nothing at it or under it
+-- (`closed_entries`), and what they say stays: of those after the entry by `here_renamed`, of those before it by
+-- `later_renamed`. Only a name is replaced, by one that is valid where the old one is (`name_renamed`), so the entries
+-- stay valid and as deep. The last three lemmas go from the entries to the value around them.
+--
+-- Theorems: `does_rename`: what the entries of the value say then; `valid_renaming`: it is still valid;
+-- `flat_renaming`: it is no deeper.
 use Rattle.std.proofs.Common.{◌≡◌, ℕ, ◌+◌, ◌-◌, List, [], ◌∷◌, ◌++◌, length, map, refl, sym, ap, subst, ◌∙◌}
 use Rattle.std.proofs.Common.{append_assoc, arith, Option, Some, None}
 use Rattle.std.proofs.lemmas.List.{map-append}

@@ -1,4 +1,6 @@
 -- A key in braces renamed, seen from the document: it says the same, with the paths changed.
+--
+-- Theorems: `mentions_renamed`: that; `snoc_of`: a path that is not empty has a last part.
 use Rattle.std.proofs.Common.{◌≡◌, ℕ, List, [], ◌∷◌, ◌++◌, map, refl, sym, ap, subst, ◌∙◌, append_assoc}
 use Rattle.std.proofs.lemmas.List.{map-append}
 use Rattle.keep_syntax.specs.Tree.{Value}

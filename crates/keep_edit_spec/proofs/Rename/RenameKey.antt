@@ -1,4 +1,7 @@
 -- One part of a key renamed: what the key means then, that it is still one, and that there is such a change.
+--
+-- Theorems: `key_renamed`: of a key; `name_renamed`: of a keyval's key; `some_name`: a part of a keyval's key can be
+-- renamed.
 use Rattle.std.proofs.Common.{◌≡◌, ℕ, zero, suc, List, [], ◌∷◌, ◌++◌, map, ap}
 use Rattle.std.specs.Prelude.{codes}
 use Rattle.std.specs.List.{AllByRecursion}

@@ -1,4 +1,13 @@
 -- Lines of which one has a key part renamed: they say the same line by line, with the paths changed.
+--
+-- How a line is read depends on the table paths before it (`Reading`), and these are changed too (`moved_reading`). So
+-- the lines are compared one by one, each with its own reading (`one_more`). Of the line with the key part,
+-- `content_renamed` gives what it says then. The path is named once (`Once`), so no other line names it, and each says
+-- the same with the paths changed (`content_preserved`; `lines_preserved` for all after the renamed one). Nothing is
+-- said at or under the new path, so no `[[..]]` line has a path there (`clear_content`). The change is in the first
+-- line (`here_renamed`), or in a later one (`further_renamed`).
+--
+-- Theorems: `lines_renamed`: all lines; `line_renamed`: the one with the key part.
 use Rattle.std.proofs.Common.{◌≡◌, ℕ, List, [], ◌∷◌, ◌++◌, map, refl, sym, subst, Option, Some, None}
 use Rattle.std.specs.Prelude.{position}
 use Rattle.keep_types.specs.declared.leaf.Profile.{Profile}

@@ -1,6 +1,6 @@
--- The document where a key is renamed says the same line by line, with the paths changed: the key is one of a header or
--- of a
--- keyval's own (`moved_lines`), or is in braces (`moved_nested`).
+-- The document where a key is renamed says the same line by line, with the paths changed.
+--
+-- Theorems: `moved_lines`: the key is one of a header or of a keyval's own; `moved_nested`: it is in braces.
 use Rattle.std.proofs.Common.{◌≡◌, ℕ, List, [], ◌∷◌, ◌++◌, map, sym, ap, subst, ◌∙◌}
 use Rattle.keep_types.specs.declared.leaf.Profile.{Profile}
 use Rattle.keep_syntax.specs.Tree.{Line, Document, text}

@@ -2,9 +2,10 @@
 -- (`nodes_renamed`).
 --
 -- The paths that change are those at and under the key's. A step stays a step there (`moved_steps`): the root is the
--- root, an
--- item or an element has its number, and different paths stay different, of those that are not at or under the new
--- key's path.
+-- root, an item or an element has its number, and different paths stay different, of those that are not at or under the
+-- new key's path.
+--
+-- Theorem: `nodes_renamed`.
 use Rattle.std.proofs.Common.{◌≡◌, ℕ, Bool, true, false, cond, List, [], ◌∷◌, ◌++◌, length, refl, sym, ap, subst, ◌∙◌}
 use Rattle.std.proofs.Common.{arith, length-append, Option, Some, None, inl, inr, IsUtf8}
 use Rattle.std.specs.List.{cons_option}

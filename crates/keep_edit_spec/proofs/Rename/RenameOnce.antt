@@ -1,4 +1,7 @@
--- Where one key part names a path, nothing else speaks of it.
+-- Where one key part names a path, one mention speaks of it, apart from those of an element by the way.
+--
+-- Theorems: `once_counted`: where the rules hold and one key part at most names the path, one mention at most is solid
+-- there; `some_counted`: where a key part names it, one mention is; `once_after`: where one is, none after it is.
 use Rattle.std.proofs.Common.{◌≡◌, ℕ, ◌+◌, ◌≤◌, Bool, true, false, cond, List, [], ◌∷◌, ◌++◌, map, refl, sym, ap, subst}
 use Rattle.std.proofs.Common.{◌∙◌, arith, Option, Some, None, inl, inr}
 use Rattle.std.specs.List.{count_by, cons_option}

@@ -1,4 +1,14 @@
 -- The keys of a header or a keyval where the one at a path is replaced.
+--
+-- In a path at or under `p`, `moved_path` puts `b` in the place of `p`. `AreRenamed` says of two lists of keys that
+-- each key of the second leads to where `moved_path` puts the path that its key in the first leads to. The full paths
+-- of the `[[..]]` lines are changed in the same way, and none is at or under `b` (`AreClear`), nor is a path on the way
+-- (`passing_clear`). Such paths stay different if they were (`same_renamed`). So each path has as many elements as
+-- before (`elements_renamed`), and a key goes on from the last of them as before (`entered_renamed`,
+-- `passing_renamed`). By this `header_renamed` goes on from key to key. Where none of a header's keys leads to `p`
+-- itself, they stay as they are (`keys_preserved`).
+--
+-- Theorems: `header_renamed`: the path of a header then, and what it says on the way; `keys_preserved`: keys that stay.
 use Rattle.std.proofs.Common.{◌≡◌, ℕ, ◌-◌, Bool, true, false, cond, List, [], ◌∷◌, ◌++◌, map, refl, sym, ap, subst, ◌∙◌}
 use Rattle.std.proofs.Common.{arith, None, inl}
 use Rattle.std.specs.Prelude.{⊤, ◌==◌}

@@ -1,4 +1,7 @@
 -- Paths where one key is replaced: at and under the old path, and nowhere else.
+--
+-- Theorems: `under_renamed`: at and under the old path, the new one comes in its place; `disjoint_renamed`: other paths
+-- stay; `renamed_injective`: paths that are not at or under the new one stay different.
 use Rattle.std.proofs.Common.{◌≡◌, ℕ, ◌<◌, List, [], ◌∷◌, ◌++◌, length, map, refl, sym, ap, ◌∙◌, append_assoc}
 use Rattle.std.proofs.Common.{length-append, arith, Option, Some, None, ◌⊎◌, inl, inr}
 use Rattle.keep_path.specs.Path.{Part, key, index, moved_path}

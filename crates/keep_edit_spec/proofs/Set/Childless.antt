@@ -1,4 +1,6 @@
 -- A value with entries has nodes below it: where a path has no nodes below it, the value there has no entries.
+--
+-- Theorem: `childless`.
 use Rattle.std.proofs.Common.{◌≡◌, ℕ, ◌+◌, Bool, true, false, cond, ◌&&◌, ◌||◌, List, [], ◌∷◌, ◌++◌, map, refl, ap}
 use Rattle.std.proofs.Common.{subst, ◌∙◌, Option, Some, None, inl, inr}
 use Rattle.std.specs.Prelude.{filter, fold}

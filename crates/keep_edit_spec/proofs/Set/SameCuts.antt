@@ -1,4 +1,12 @@
 -- Two acts that cut the same bytes out of each value cut the same bytes out of a document.
+--
+-- `SameCut` says of two changes that both are there or neither, with the same text before and the same old text. An act
+-- is applied by a search that goes along the path through lines, entries and values, the same for both acts. At a value
+-- both give the same cut (`AreSameActs`). Each step of the search adds the same text before it (`cut_within`), or takes
+-- the first of two changes that is there (`cut_or_else`). So the cut stays the same: in entries (`cut_entries`), in a
+-- value (`value_by`), in a line (`cut_line`) and in all lines (`cut_lines`).
+--
+-- Theorem: `cut_nested`.
 use Rattle.std.proofs.Common.{◌≡◌, ℕ, ◌+◌, List, [], ◌∷◌, ◌++◌, ap, Option, Some, None}
 use Rattle.std.specs.Prelude.{⊤}
 use Rattle.keep_syntax.specs.Tree.{Gap, Name, Body, Entries, none, entry, Value, named_leaves, opening, closing}

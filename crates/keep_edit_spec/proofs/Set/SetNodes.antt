@@ -1,6 +1,13 @@
 -- Where `set` puts a value without entries in place of a value with no nodes below it, the nodes stay as they are, but
--- for
--- the kind of the one at the path.
+-- for the kind of the one at the path.
+--
+-- By `fact_set` one mention has another fact then, all others stay with their numbers, and nothing else is said at its
+-- path or under it. So the node at the path is that of this mention alone (`one_there`), and of such a node only the
+-- kind depends on the fact (`one_node`). At other paths the mention is passed over (`none_there`), so their nodes are
+-- as before. The path and the role of the mention do not depend on the fact, so the same paths are mentioned in the
+-- same order (`paths_by`), with the same roles (`roles_by`). `kind_of_fact_set` puts this together.
+--
+-- Theorem: `kind_set`.
 use Rattle.std.proofs.Common.{◌≡◌, Bool, true, false, List, [], ◌∷◌, ◌++◌, map, refl, sym, ap, ◌∙◌, Option, Some, None}
 use Rattle.std.specs.List.{filter_map, cons_option}
 use Rattle.std.proofs.lemmas.List.{append-nil, map-append}
@@ -146,8 +153,7 @@ kind_of_fact_set path g s s' h =
     }
 
 -- The law: `set` of a value without entries, in place of a value with no nodes below it, leaves the nodes as they are,
--- but
--- for the kind of the one at the path.
+-- but for the kind of the one at the path.
 pub kind_set : (s : Document) (path : List Part) (new : Value) (c : Changed Document)
     → Rules (mentions_in s) → change s (set path new) ≡ Some c → new.nested ≡ none
     → children path (node_paths (mentions_in s)) ≡ [] → IsKindSet path (fact_kind (body_fact new.body)) s c.to

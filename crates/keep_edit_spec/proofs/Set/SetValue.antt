@@ -1,14 +1,12 @@
 -- Where `set` puts a value with a key in place of another, the numbered mentions of the value give place to those of
--- the
--- new one, and what comes after has its numbers moved by how many values and key parts more, or fewer, there are.
+-- the new one, and what comes after has its numbers moved by how many values and key parts more, or fewer, there are.
 --
 -- What a value says is one run of mentions of its keyval (`IsSet`). The numbers after the run are those after the
--- value's
--- own mention, raised by how many values and key parts its entries have (`after_run`), and so are all numbers of what
--- follows in the statement and in the statements after it (`raised_mentions`, `raised_from`). So what follows the old
--- value and what follows the new one are one list, raised by what the entries of each have (`numbers_around`). An
--- item's
--- path ends in its number (`entries_items`), so at a path that ends in a key the value has a name (`value_named`).
+-- value's own mention, raised by how many values and key parts its entries have (`after_run`), and so are all numbers
+-- of what follows in the statement and in the statements after it (`raised_mentions`, `raised_from`). So what follows
+-- the old value and what follows the new one are one list, raised by what the entries of each have (`numbers_around`).
+-- An item's path ends in its number (`entries_items`), so at a path that ends in a key the value has a name
+-- (`value_named`).
 --
 -- Theorems: `value_set`, and `value_in_place` for a line whose own value is another, whatever the edit.
 use Rattle.std.proofs.Common.{◌≡◌, ℕ, suc, ◌+◌, ◌-◌, ◌≤◌, List, [], ◌∷◌, ◌++◌, length, map, refl, sym, ap, ap₂, subst}

@@ -30,8 +30,7 @@ use Rattle.keep_edit_spec.specs.Lines.{in_lines}
 use Rattle.keep_syntax.specs.WholeLines.{empty_line, line_starts, last_to, lines_before, lines_from}
 
 -- The page is that of these lines with those that start..end touches replaced: by lines that have newlines, and by
--- another last
--- line if no bytes follow.
+-- another last line if no bytes follow.
 pub record Swaps (total at : ℕ) (es : List Ended) (last : Line) (start end : ℕ) (to : Page) : Type 0 where
   pub new : List Ended
   pub line : Line

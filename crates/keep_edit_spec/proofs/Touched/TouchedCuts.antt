@@ -1,8 +1,10 @@
 -- The lines that an edit touches begin and end where characters do, in the old text and in the new one.
 --
--- Before a line start there is a newline or the byte order mark. So what follows it is UTF-8 if the text is
--- (`after_lines`,
--- `after_bom`), and a character begins there. The new text has the same bytes before its touched lines, and after them.
+-- A line starts after a newline, after the byte order mark or where the text does. So what follows is UTF-8 if the text
+-- is (`after_lines`, `after_bom`), and a character begins there. The new text has the same bytes before its touched
+-- lines, and after them.
+--
+-- Theorems: `touched_cut`: in the old text; `touched_in_new_cut`: in the new one.
 use Rattle.std.proofs.Common.{◌≡◌, ℕ, ◌+◌, ◌-◌, ◌≤◌, Bool, true, false, List, [], ◌∷◌, ◌++◌, length, take, drop, refl}
 use Rattle.std.proofs.Common.{sym, ap, subst, ◌∙◌, arith, append_assoc, Some, inl, inr, ◌⊎◌, IsUtf8, IsCharBoundary}
 use Rattle.std.proofs.Common.{leb-true}

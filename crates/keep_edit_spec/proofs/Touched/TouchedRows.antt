@@ -1,4 +1,6 @@
 -- The lines that edits of small documents touch, computed: reading the new ones alone gives the new document.
+--
+-- Each group of rows is a theorem of its own.
 use Rattle.std.proofs.Common.{◌≡◌, ℕ, List, [], ◌∷◌, map, refl}
 use Rattle.std.specs.Prelude.{codes, slice_range, Result, Ok, Err}
 use Rattle.keep_types.specs.declared.leaf.Profile.{Profile}

@@ -2,11 +2,9 @@
 --
 -- Whatever an act is, in a document it changes the value of one line, or what is in that (`lines_changed`). The line's
 -- value is a value with a key, so the line was changed as if `set` had put the new value in its place (`set_at_key`).
--- It
--- is alone at its path by the rules, and before it in its statement come only the key parts that its key continues from
--- (`one_set`). So what is known of `set` holds here too, and as those key parts have no values, the value's number is
--- how
--- many values the lines before have, in both documents (`line_number`).
+-- It is alone at its path by the rules, and before it in its statement come only the key parts that its key continues
+-- from (`one_set`). So what is known of `set` holds here too, and as those key parts have no values, the value's number
+-- is how many values the lines before have, in both documents (`line_number`).
 --
 -- Theorems: `nested_value`; `replaced_value` where it is known which line has which value; `line_value_number` and
 -- `new_line_value_number`: the number of the line's value.
