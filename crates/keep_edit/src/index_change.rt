@@ -4,8 +4,12 @@ ghost use Rattle.keep_syntax.specs.Tree as tree;
 ghost use Rattle.keep_meaning.specs.Meaning.{body_fact};
 ghost use Rattle.keep_meaning.specs.Nodes.{fact_kind};
 ghost use Rattle.keep_meaning.specs.OtherValues.{nodes_in_value, totals_of};
+ghost use Rattle.keep_meaning.specs.StatementsMore.{AreNumbersAtEnd, said_next};
 ghost use Rattle.keep_path.specs.NodesBelow.{AreBelow, with_value};
 ghost use Rattle.keep_edit_spec.specs.KeyvalLines.{IsLineValue};
+ghost use Rattle.keep_rules.specs.MentionInfos.{with_mentions};
+ghost use Rattle.keep_rules.specs.ReadDocuments.{IsIndexOf};
+ghost use Rattle.keep_edit_plan.specs.Headers.{key_texts, statement_of};
 ghost use Rattle.keep_edit_plan.specs.IndexChanges.{CanChange, IsChanged, totals_in};
 ghost use Rattle.keep_edit.specs.Reading.{IsReadAs, IsTextOfValue};
 
@@ -76,10 +80,27 @@ pub(crate) fn change_index(index: &mut Index, change: IndexChange<'_>, new: NewT
             keys,
             statement,
             key,
-        } => match header {
-            Header::Table => index.append_table(keys, statement, key).is_ok(),
-            Header::Element => index.append_element(keys, statement, key).is_ok(),
-        },
+        } => append_header(index, header, keys, statement, key),
+    }
+}
+
+/// Whether the nodes of a header that comes after the document, as the statement with that number, were added. If not,
+/// the index is as before.
+fn append_header(
+    index: &mut Index,
+    header: Header,
+    keys: &[String],
+    statement: usize,
+    key: usize,
+) -> bool
+    requires { (d : tree.Document) × IsIndexOf d index.old × AreNumbersAtEnd d statement key }
+    ensures changed { result ≡ true → (d : tree.Document) → IsIndexOf d index.old → AreNumbersAtEnd d statement key
+        → index.new ≡ with_mentions index.old (said_next d (statement_of header (key_texts keys.now))) }
+    ensures refused { result ≡ false → index.new ≡ index.old }
+{
+    match header {
+        Header::Table => index.append_table(keys, statement, key).is_ok(),
+        Header::Element => index.append_element(keys, statement, key).is_ok(),
     }
 }
 

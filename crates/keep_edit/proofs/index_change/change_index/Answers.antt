@@ -10,10 +10,3 @@ returns-in-AddedValue-clause-changed c = λ d was done.
     (λ v text.
     from_ok _ c.insert_value.result (sym c.is_ok-in-AddedValue.ensures.value ∙ done) c.insert_value.ensures.inserted _
     can.2 v text)
-
-pub returns-in-Element-clause-changed : goal.returns-in-Element-clause-changed
-returns-in-Element-clause-changed c = λ d was done.
-    rw (c.in-AppendedHeader.is, c.in-Element.is)
-    (λ old is numbers.
-    from_ok _ c.append_element.result (sym c.is_ok-in-Element.ensures.value ∙ done)
-    (c.append_element.ensures.told old is numbers))
