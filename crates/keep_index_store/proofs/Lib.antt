@@ -25,13 +25,13 @@ pub mod MovedReadyLemmas
 pub mod MovedLinkLemmas
 pub mod MovedRowLemmas
 pub mod SmallLinkLemmas
-pub mod ParentRangeLemmas
 pub mod MovedTreeLemmas
 pub mod RemovedListLemmas
 pub mod RemovedRunLemmas
 pub mod RemovedKeyLemmas
 pub mod RemovedLinkLemmas
 pub mod RemovedRowLemmas
+pub mod LastChildLemmas
 pub mod SplicedLemmas
 pub mod ShiftedLemmas
 pub mod ShiftedLinkLemmas

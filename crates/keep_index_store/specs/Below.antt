@@ -1,6 +1,6 @@
 -- The nodes, where those below one of them give place to those of another tree below its root.
 use Rattle.std.specs.Prelude.{◌≡◌, ◌⊎◌, ℕ, suc, ◌+◌, ◌-◌, ◌<◌, ◌≤◌, ◌==◌, ◌^◌, if◌then◌else◌, All, List, length}
-use Rattle.std.specs.Prelude.{drop, map, Option, Some, None}
+use Rattle.std.specs.Prelude.{drop, map, slice_index_or, Option, Some, None}
 use Rattle.keep_path.specs.NodesBelow as below
 use Rattle.keep_path.specs.NodesBelow.{shifted, spliced}
 use Rattle.keep_index_store.specs.declared.facts.NodeFacts.{NodeFacts}
@@ -95,6 +95,12 @@ pub record IsRunBelow (nodes : List Node) (id gone : ℕ) : Type 0 where
   pub below : (j : ℕ) → id < j → j ≤ id + gone → id ≤ (node_at nodes j).parent
   pub others : (j : ℕ) → id + gone < j → j < length nodes
       → ((node_at nodes j).parent < id) ⊎ (id + gone < (node_at nodes j).parent)
+
+-- each child of the node i has a number before `end`
+abbrev pub HasChildrenBefore : List Node → ℕ → ℕ → Type 0
+HasChildrenBefore nodes i end =
+    (k : ℕ) → k < length (child_ids (node_at nodes i).children)
+    → slice_index_or (child_ids (node_at nodes i).children) k 0 < end
 
 -- no two items of which the one is the node after the other lie on both sides of a number
 abbrev pub IsOnOneSide : ℕ → ChildList → Type 0

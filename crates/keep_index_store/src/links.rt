@@ -7,7 +7,6 @@ ghost use Rattle.keep_index_store.specs.Moved.{moved_link, moved_number, with_la
 ghost use Rattle.keep_index_store.specs.Removed.{earlier_link};
 ghost use Rattle.keep_path.specs.NodeInfos.{earlier_number, later_number};
 
-mod range;
 mod replacing;
 
 use crate::moved::move_last_to;

@@ -1,7 +1,7 @@
 //! The nodes below one of them, where they all follow it.
 ghost use Rattle.std.specs.Prelude.{◌≡◌, ◌⊎◌, ℕ, ◌+◌, ◌<◌, ◌≤◌, IfSome, length, true};
 ghost use Rattle.keep_index_store.specs.AllNodes.{node_at};
-ghost use Rattle.keep_index_store.specs.Below.{IsRunBelow};
+ghost use Rattle.keep_index_store.specs.Below.{HasChildrenBefore, IsRunBelow};
 ghost use Rattle.keep_index_store.specs.Stored.{IsStored};
 
 use super::Nodes;
@@ -16,35 +16,57 @@ impl Nodes {
         if id == 0 || !self.takes_keys(self.parent(id)) {
             return None;
         }
-        let last = self.last_below(id);
-        if !self.none_below_after(id, last) {
+        let end = self.end_below(id);
+        if !self.none_below_after(id, end) {
             return None;
         }
-        Some(last - id)
+        Some(end - id - 1)
     }
 
-    /// The last of the nodes that follow a node one after another and whose parents are that one or follow it, or the
-    /// node itself where there is none.
-    fn last_below(&self, id: usize) -> usize
+    /// The number after those of the nodes that follow a node one after another and whose parents are that one or
+    /// follow it, or after its own where there is none.
+    fn end_below(&self, id: usize) -> usize
         requires { id < length self.now.items }
-        ensures order { id ≤ result }
-        ensures within { result < length self.now.items }
-        ensures below { (j : ℕ) → id < j → j ≤ result → id ≤ (node_at self.now.items j).parent }
+        ensures order { id < result }
+        ensures within { result ≤ length self.now.items }
+        ensures below { (j : ℕ) → id < j → j < result → id ≤ (node_at self.now.items j).parent }
     {
         let len = self.len();
-        let mut last = id;
-        while last + 1 < len && self.parent(last + 1) >= id {
-            last += 1;
+        let mut end = id + 1;
+        while end < len && self.parent(end) >= id {
+            end += 1;
         }
-        last
+        end
     }
 
-    /// Whether no node after the last of these has one of them as its parent.
-    fn none_below_after(&self, id: usize, last: usize) -> bool
-        requires { last < length self.now.items }
-        ensures { result ≡ true → (j : ℕ) → last < j → j < length self.now.items
-            → ((node_at self.now.items j).parent < id) ⊎ (last < (node_at self.now.items j).parent) }
+    /// Whether no node from `end` on has one from `id` up to `end` as its parent. Each node stores its children, so it
+    /// asks these alone.
+    fn none_below_after(&self, id: usize, end: usize) -> bool
+        requires stored { IsStored self.now.items }
+        requires within { end ≤ length self.now.items }
+        ensures { result ≡ true → (j : ℕ) → 0 < j → end ≤ j → j < length self.now.items
+            → ((node_at self.now.items j).parent < id) ⊎ (end ≤ (node_at self.now.items j).parent) }
     {
-        !self.links.any_within(last + 1, id, last)
+        for node in id..end {
+            if !self.has_children_before(node, end) {
+                return false;
+            }
+        }
+        true
+    }
+
+    /// Whether each child of a node has a number before `end`. They are in order, so the last of them is compared.
+    fn has_children_before(&self, id: usize, end: usize) -> bool
+        requires stored { IsStored self.now.items }
+        requires within { id < length self.now.items }
+        ensures { result ≡ true → HasChildrenBefore self.now.items id end }
+    {
+        let Some(number) = self.child_count(id).checked_sub(1) else {
+            return true;
+        };
+        let Some(child) = self.child_at(id, number) else {
+            unreachable!()
+        };
+        child < end
     }
 }
