@@ -1,5 +1,5 @@
 //! The numbers of the nodes once the last one takes the number of an earlier one.
-ghost use Rattle.std.specs.Prelude.{◌≡◌, ◌≤◌, ◌<◌, All, map, vec_len};
+ghost use Rattle.std.specs.Prelude.{◌≡◌, ◌≤◌, ◌<◌, ◌∷◌, ◌++◌, [], All, List, drop, length, map, take, vec_len};
 ghost use Rattle.keep_index_store.specs.Moved.{moved_number, with_last_at};
 
 /// The number of the node `id` once the last node, which is `last`, has the number `at`: each from there on has one
@@ -27,16 +27,21 @@ pub fn renumber_all(ids: &mut [usize], last: usize, at: usize)
     }
 }
 
+/// Moves the last element to that place.
+fn rotate_last<T>(items: &mut [T], at: usize)
+    requires { at < length items.old }
+    ensures { (front : List T) (last : T) → items.old ≡ front ++ last ∷ []
+        → items.new ≡ take at front ++ last ∷ drop at front }
+{
+    let last = items.len() - 1;
+    items[at..].rotate_left(last - at);
+}
+
 /// Moves the last element to that place. It takes no memory.
-pub fn move_last_to<T: Drop>(items: &mut Vec<T>, at: usize)
+pub fn move_last_to<T>(items: &mut Vec<T>, at: usize)
     requires { at < vec_len items.old }
     ensures moved { (none : T) → items.new.items ≡ with_last_at none items.old.items at }
     ensures len { vec_len items.new ≡ vec_len items.old }
 {
-    let Some(last) = items.pop() else {
-        unreachable!()
-    };
-    let Ok(()) = items.insert(at, last) else {
-        unreachable!()
-    };
+    rotate_last(items.as_mut_slice(), at);
 }
