@@ -6,6 +6,7 @@ ghost use Rattle.keep_index_store.specs.Renumbering.{CanGrow, InfoCanGrow, Short
 ghost use Rattle.keep_index_store.specs.Renumbering.{renumbered_facts, renumbered_short};
 
 use super::{Form, PackedFacts, ShortFacts};
+use crate::facts::OriginKind;
 use crate::renumbering::LineNumbers;
 
 /// What a number of 32 bits is once there is one more at `at`. None, if it can't be greater by one in 32 bits.
@@ -34,13 +35,18 @@ fn earlier_number(at: usize, number: u32) -> u32
 }
 
 impl ShortFacts {
-    /// Whether both numbers are less than the line's numbers: then they stay as they are, whether it comes or goes.
+    /// Whether both numbers are less than the line's numbers: then they stay as they are, whether it comes or goes. The
+    /// number of a value, as most are, is compared with that of the line's value, and any other with both.
     #[inline(always)]
     fn is_before_line(&self, line: LineNumbers) -> bool
         ensures later { result ≡ true → renumbered_short spec.later_number line self.now ≡ self.now }
         ensures earlier { result ≡ true → renumbered_short spec.earlier_number line self.now ≡ self.now }
     {
-        (self.key as usize) < line.key && (self.number as usize) < line.statement.min(line.value)
+        let number = match self.origin {
+            OriginKind::Value => line.value,
+            _ => line.statement.min(line.value),
+        };
+        (self.key as usize) < line.key && (self.number as usize) < number
     }
 
     /// Changes the numbers to those once the line is there. None, if one can't be greater by one in 32 bits: then
