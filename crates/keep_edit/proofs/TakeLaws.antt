@@ -182,35 +182,35 @@ module _ (old : ProfiledText) (made : TextEdit) (syntax : Syntax) (index : NodeI
   -- with the index of the new document
   pub holds_after : (s : Syntax) (fresh : NodeInfos) → IsSyntaxIn (after old made) s → IsIndexOf o.changed.to fresh
       → Holds (after old made) s fresh
-  holds_after s fresh is told =
+  holds_after s fresh is known =
       record {
         tree = o.changed.to;
         read = o.new;
         is = (read_after s is).is;
         of_text = is.of_text;
-        stated = told.facts;
-        nested = told.nested;
+        stated = known.facts;
+        nested = known.nested;
       }
 
   -- the index where it is all that changes in it
-  told_by : (k : IndexChange) → IsIndexChanged old made k → (u : NodeInfos) → IsChanged index o.changed.to k u
+  known_from : (k : IndexChange) → IsIndexChanged old made k → (u : NodeInfos) → IsChanged index o.changed.to k u
       → IsIndexOf o.changed.to u
-  told_by k c u by =
+  known_from k c u by =
       let same : c.to ≡ o.changed.to = one_tree (after old made) c.to o.changed.to c.new o.new in
       record {
         obeys = o.new.obeys;
         nested =
             subst (λ (d : Document). AreNested (mentions_in d) (reading_after start (statements_in d)).tables) same
             c.is.nested;
-        facts = c.is.told u (subst (λ (d : Document). IsChanged (telling_in c.from) d k u) (sym same)
+        facts = c.is.facts u (subst (λ (d : Document). IsChanged (telling_in c.from) d k u) (sym same)
             (subst (λ (t : NodeInfos). IsChanged t o.changed.to k u) (stated_is old syntax index c.from h c.read) by))
             ∙ ap telling_in same;
       }
 
-  pub change_told : (change : Option IndexChange) → IfSome change (IsIndexChanged old made)
+  pub change_known : (change : Option IndexChange) → IfSome change (IsIndexChanged old made)
       → IfSome change (λ k. (u : NodeInfos) → IsChanged index o.changed.to k u → IsIndexOf o.changed.to u)
-  change_told None c = tt
-  change_told (Some k) c = told_by k c
+  change_known None c = tt
+  change_known (Some k) c = known_from k c
 
   pub change_can : (change : Option IndexChange) → IfSome change (IsIndexChanged old made)
       → IfSome change (CanChange index)

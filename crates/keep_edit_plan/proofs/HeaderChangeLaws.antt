@@ -1,7 +1,7 @@
 -- A header that comes at the end of a document changes the index by what it says, with the numbers that come next.
 --
 -- The law of the append says that the new document has the header as its last statement, and so what is known of its
--- nodes is what was known with what the header says (`statement_is_told`). The syntax has as many statements and key
+-- nodes is what was known with what the header says (`statement_is_known`). The syntax has as many statements and key
 -- parts as are counted at the end (`numbers_at_end`). A machine word counts the key parts of the new document, since
 -- each has a byte of the new text, of which two machine words count the old and what is written (`few_parts`).
 --
@@ -28,8 +28,8 @@ use Rattle.keep_meaning.specs.StatementsMore.{AreNumbersAtEnd, HasStatementMore}
 use Rattle.keep_meaning.proofs.Shared.{count_from-keys, count_from-statements, marked-parts, mentions_few}
 use Rattle.keep_meaning.proofs.Shared.{mentions_in-statements, statements-count}
 use Rattle.keep_rules.specs.ReadDocuments.{IsIndexOf}
-use Rattle.keep_rules.specs.StatementsTold.{IsHeader}
-use Rattle.keep_rules.proofs.Shared.{statement_is_nested, statement_is_told}
+use Rattle.keep_rules.specs.StatementsKnown.{IsHeader}
+use Rattle.keep_rules.proofs.Shared.{statement_is_nested, statement_is_known}
 use Rattle.keep_edit_spec.specs.Changed.{Place, put}
 use Rattle.keep_edit_spec.specs.Edits.{edited_document, place}
 use Rattle.keep_edit_spec.specs.Laws.{IsLawfulEdit}
@@ -134,7 +134,7 @@ module _ (d : ProfiledText) (syntax : Syntax) (index : NodeInfos) (s : Document)
       let its : IsHeader (statement_of header (key_texts keys.now)) = its_header header (key_texts keys.now) in
       record {
         can = (s, old, numbers);
-        told = λ u is. is s old numbers
-            ∙ sym (statement_is_told s new (statement_of header (key_texts keys.now)) its more low);
+        facts = λ u is. is s old numbers
+            ∙ sym (statement_is_known s new (statement_of header (key_texts keys.now)) its more low);
         nested = statement_is_nested s new (statement_of header (key_texts keys.now)) its more law.obeys old.nested;
       }

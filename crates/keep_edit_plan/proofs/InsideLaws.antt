@@ -166,7 +166,7 @@ inside_changed d syntax index path s holds read n yet id info o one found stored
         let (gone, below, is) = value_gives_nodes s new h.at v h.other id.0 here in
         record {
           can = (number_is (telling_in s).paths h.at id.0 here).0;
-          told = λ u by. by v line_value gone below
+          facts = λ u by. by v line_value gone below
               ∙ ap (λ (t : Totals).
               with_value (telling_in s) id.0 gone t (totals_of new) (nodes_in_value v) (fact_kind (body_fact v.body)))
               many ∙ sym is;

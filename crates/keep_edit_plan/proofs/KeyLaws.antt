@@ -3,7 +3,7 @@
 -- The law of the edit says so of all that is numbered (`nodes_renamed`): it is the same, at changed paths. What is
 -- known of a node depends on its mentions, but not on their paths (`info_moved`). Different paths stay different, so a
 -- changed path has the mentions that the old one had (`there_moved`), and what is known there is what was known at the
--- old one (`told_there`). So what is known of all nodes, as a list, is the same but for the paths (`told_moved`). The
+-- old one (`known_there`). So what is known of all nodes, as a list, is the same but for the paths (`known_moved`). The
 -- nodes are nested as before (`nested_moved`). No node has the new path yet (`no_number`), so the key can be changed in
 -- the index.
 --
@@ -47,7 +47,7 @@ use Rattle.keep_edit_plan.proofs.MovedNested.{nested_moved}
 use Rattle.keep_edit_plan.proofs.MovedNodes.{all_paths, paths_moved, same_moved}
 use Rattle.keep_edit_plan.proofs.NodeLaws.{a_node}
 
--- ---- what is told does not depend on paths
+-- ---- what is known does not depend on paths
 
 module _ (f : List Part → List Part) where
   kinds_moved : (ns : List Numbered) → map mention_kind_of (map (moved_numbered f) ns) ≡ map mention_kind_of ns
@@ -105,7 +105,7 @@ module _ (f : List Part → List Part) where
       same_info _ _ _ _ _ _ _ _ _ _ (ap mentioned_kind (kinds_moved ns)) (first_moved is_mark key_number ns)
       (marks_moved ns) (passed_moved ns) (origin_moved ns)
 
--- ---- what is told of the nodes
+-- ---- what is known of the nodes
 
 all_of_map : {A B : Type 0} (P : B → Type 0) (h : A → B) (xs : List A) → AllOf P (map h xs)
     → AllOf (λ (x : A). P (h x)) xs
@@ -135,30 +135,30 @@ module _ (P : List Part → Type 0) (f : List Part → List Part) (keeps : Keeps
         all_of_map (λ (m : Mention). P m.path) mention_of (numbered_in s)
         (subst (AllOf (λ (m : Mention). P m.path)) (sym (mentions-numbered_in s)) all)
 
-    told_there : (q : List Part) → P q → info_in s' (f q) ≡ info_in s q
-    told_there q hq =
+    known_there : (q : List Part) → P q → info_in s' (f q) ≡ info_in s q
+    known_there q hq =
         ap (λ (ns : List Numbered). node_info (node_at ns (f q))) numbered
         ∙ ap (λ (ns : List Numbered). node_info (mentioned_node (f q) ns))
         (there_moved q (numbered_in s) hq all_numbered)
         ∙ info_moved f q (f q) (numbered_at q (numbered_in s))
 
-    told_each : (ps : List (List Part)) → AllOf P ps → map (info_in s') (map f ps) ≡ map (info_in s) ps
-    told_each [] h = refl
-    told_each (q ∷ ps) h = ap₂ (λ (i : NodeInfo) (is : List NodeInfo). i ∷ is) (told_there q h.0) (told_each ps h.1)
+    known_each : (ps : List (List Part)) → AllOf P ps → map (info_in s') (map f ps) ≡ map (info_in s) ps
+    known_each [] h = refl
+    known_each (q ∷ ps) h = ap₂ (λ (i : NodeInfo) (is : List NodeInfo). i ∷ is) (known_there q h.0) (known_each ps h.1)
 
     paths_are : node_paths (mentions_in s') ≡ map f (node_paths (mentions_in s))
     paths_are = ap node_paths mentioned ∙ paths_moved P f keeps (mentions_in s) all
 
-    told_infos : infos_in s' ≡ infos_in s
-    told_infos =
+    known_infos : infos_in s' ≡ infos_in s
+    known_infos =
         infos_by_path s' ∙ ap (map (info_in s')) paths_are
-        ∙ told_each (node_paths (mentions_in s)) (all_paths P f keeps (mentions_in s) all) ∙ sym (infos_by_path s)
+        ∙ known_each (node_paths (mentions_in s)) (all_paths P f keeps (mentions_in s) all) ∙ sym (infos_by_path s)
 
-    told_moved : telling_in s' ≡ (let t : NodeInfos =
+    known_moved : telling_in s' ≡ (let t : NodeInfos =
         record { paths = map f (telling_in s).paths; infos = (telling_in s).infos } in t)
-    told_moved =
+    known_moved =
         ap₂ (λ (ps : List (List Part)) (is : List NodeInfo). let t : NodeInfos = record { paths = ps; infos = is } in t)
-        (paths-nodes_in s' ∙ paths_are ∙ ap (map f) (sym (paths-nodes_in s))) told_infos
+        (paths-nodes_in s' ∙ paths_are ∙ ap (map f) (sym (paths-nodes_in s))) known_infos
 
 -- ---- the edit
 
@@ -199,8 +199,8 @@ key_changed d syntax index path s holds read id its_number text utf8 allowed =
         subst path_of.EndsInKey (sym at) (last_key path h.ends),
         ap (λ (p : List Part). node_number (telling_in s).paths (beside p text.now)) at ∙ free,
       );
-      told = λ u is. is
-          ∙ sym (told_moved (IsClear b) f h.steps s new h.moved.numbered h.moved.mentioned h.clear
+      facts = λ u is. is
+          ∙ sym (known_moved (IsClear b) f h.steps s new h.moved.numbered h.moved.mentioned h.clear
           ∙ ap (λ (p : List Part). with_path (telling_in s) p (beside p text.now)) (sym at));
       nested =
           subst (λ (ms : List Mention). AreNested ms (reading_after start (statements_in new)).tables)

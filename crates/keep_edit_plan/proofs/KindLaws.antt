@@ -3,8 +3,8 @@
 -- The law of the edit says so of each node by its path (`kind_set`): the one at the path has another kind, and all
 -- others are as before. It needs that nothing is in the new value, as nothing is in a scalar (`no_entries`), and that
 -- no node is below the path, since none is counted in the index (`nothing_below`). For the list of the nodes this means
--- that one entry has another kind, and all else stays, since a path has one number in it (`distinct`, `told_infos`,
--- `told_again`). The nodes are nested as before, since their paths, their roles and the headers of elements are
+-- that one entry has another kind, and all else stays, since a path has one number in it (`distinct`, `known_infos`,
+-- `known_again`). The nodes are nested as before, since their paths, their roles and the headers of elements are
 -- (`nested_again`).
 --
 -- Theorem: `kind_changed`.
@@ -83,7 +83,7 @@ module _ (old new : List Mention) (tables tables' : List (List Part)) (paths : n
         (subst (λ ts. 0 < elements_of path ts) same some)));
   }
 
--- ---- what is told of them
+-- ---- what is known of them
 
 abbrev pub info_in : Document → List Part → NodeInfo
 info_in s p = node_info (node_at (numbered_in s) p)
@@ -116,32 +116,32 @@ module _ (path : List Part) (k : Kind) (s s' : Document) (h : IsKindSet path k s
   abbrev other_kind : NodeInfo
   other_kind = record (get_or (infos_in s) i no_info) { kind = k }
 
-  told_here : other_kind ≡ info_in s' (get_or (node_paths (mentions_in s)) i [])
-  told_here =
+  known_at : other_kind ≡ info_in s' (get_or (node_paths (mentions_in s)) i [])
+  known_at =
       let was : get_or (infos_in s) i no_info ≡ info_in s path =
       ap (λ (is : List NodeInfo). get_or is i no_info) (infos_by_path s)
       ∙ get_or-map (info_in s) (node_paths (mentions_in s)) i [] no_info within ∙ ap (info_in s) here in
       ap (λ (n : NodeInfo). record n { kind = k }) was ∙ sym (ap node_info h.here) ∙ ap (info_in s') (sym here)
 
-  told_elsewhere : (j : ℕ) → j < length (node_paths (mentions_in s)) → (j ≡ i → ⊥)
+  known_elsewhere : (j : ℕ) → j < length (node_paths (mentions_in s)) → (j ≡ i → ⊥)
       → info_in s' (get_or (node_paths (mentions_in s)) j []) ≡ info_in s (get_or (node_paths (mentions_in s)) j [])
-  told_elsewhere j low other =
+  known_elsewhere j low other =
       ap node_info (h.elsewhere (get_or (node_paths (mentions_in s)) j [])
       (not_same path (get_or (node_paths (mentions_in s)) j [])
       (λ e. other (one_place (node_paths (mentions_in s)) distinct j i low within (sym e ∙ sym here)))))
 
-  told_infos : infos_in s' ≡ set (infos_in s) i other_kind
-  told_infos =
+  known_infos : infos_in s' ≡ set (infos_in s) i other_kind
+  known_infos =
       infos_by_path s'
       ∙ ap (map (info_in s')) same_paths
-      ∙ sym (infos_set (info_in s) (info_in s') (node_paths (mentions_in s)) i other_kind within told_here
-      told_elsewhere)
+      ∙ sym (infos_set (info_in s) (info_in s') (node_paths (mentions_in s)) i other_kind within known_at
+      known_elsewhere)
       ∙ ap (λ (is : List NodeInfo). set is i other_kind) (sym (infos_by_path s))
 
-  told_again : telling_in s' ≡ with_kind (telling_in s) i k
-  told_again =
+  known_again : telling_in s' ≡ with_kind (telling_in s) i k
+  known_again =
       ap₂ (λ (ps : List (List Part)) (is : List NodeInfo). record { paths = ps; infos = is })
-      (paths-nodes_in s' ∙ same_paths ∙ sym (paths-nodes_in s)) told_infos
+      (paths-nodes_in s' ∙ same_paths ∙ sym (paths-nodes_in s)) known_infos
 
 -- ---- the edit
 
@@ -199,7 +199,7 @@ module _ (d : ProfiledText) (syntax : Syntax) (index : NodeInfos) (path : List P
           (number_is (node_paths (mentions_in s)) path id.0 its_number).0,
           ap length (paths-nodes_in s),
         );
-        told = λ u is. is ∙ sym (told_again path k s (edited_document s (set_edit path v)) h id.0 its_number);
+        facts = λ u is. is ∙ sym (known_again path k s (edited_document s (set_edit path v)) h id.0 its_number);
         nested =
             nested_again (mentions_in s) (mentions_in (edited_document s (set_edit path v))) _ _
             (same_paths path k s (edited_document s (set_edit path v)) h id.0 its_number) h.roles h.tables nested;

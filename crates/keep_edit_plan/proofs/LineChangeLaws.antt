@@ -57,7 +57,7 @@ pub record IsLineAdded (s more : Document) (path : List Part) (kind : Kind) (par
   pub fresh : node_number (telling_in s).paths path ≡ None
   pub within : place_in s numbers ≤ length (telling_in s).paths
   pub place : IsPlaceOf (numbers_of numbers) (infos_in s) (place_in s numbers)
-  pub told : with_node (telling_in s) (place_in s numbers) (numbers_of numbers) path kind ≡ telling_in more
+  pub facts : with_node (telling_in s) (place_in s numbers) (numbers_of numbers) path kind ≡ telling_in more
   pub was : AreNested (mentions_in s) (reading_after start (statements_in s)).tables
   pub nested : AreNested (mentions_in more) (reading_after start (statements_in more)).tables
 
@@ -149,8 +149,8 @@ module _ (d : ProfiledText) (syntax : Syntax) (index : NodeInfos) (path : List P
       at : nodes_after line.before ≡ place
       at = place_is (numbers_of numbers) (infos_in s) (nodes_after line.before) is_place
 
-      told : with_node old_index place (numbers_of numbers) path (fact_kind (body_fact v.body)) ≡ telling_in more
-      told = sym (line_adds_node s more line fresh
+      facts : with_node old_index place (numbers_of numbers) path (fact_kind (body_fact v.body)) ≡ telling_in more
+      facts = sym (line_adds_node s more line fresh
           ∙ ap (λ (n : ℕ).
           with_node old_index n (numbers_after line.before) (path_after line.before line.text) (fact_kind line.fact)) at
           ∙ ap (λ (n : node_infos.LineNumbers).
@@ -171,7 +171,7 @@ module _ (d : ProfiledText) (syntax : Syntax) (index : NodeInfos) (path : List P
                 ∙ no_number path (mentions_in s) added.fresh;
             within = subst (λ (n : ℕ). n ≤ length old_index.paths) at (few_before s more line);
             place = subst (IsPlaceOf (numbers_of numbers) (infos_in s)) at is_place;
-            told = told;
+            facts = facts;
             was = nested;
             nested = line_is_nested s more line fresh read.obeys nested;
           }
@@ -186,12 +186,12 @@ module _ (d : ProfiledText) (syntax : Syntax) (index : NodeInfos) (path : List P
         (no_entries v.body v.nested value.reads.valid.nested (omega (arith, flat)))) in
         record {
           can = can_add added;
-          told = λ u is. is
+          facts = λ u is. is
               ∙ ap (with_node old_index (place_in s numbers) (numbers_of numbers)
               (path_numbered old_index parent.0 ++ key text.now ∷ [])) kind_is
               ∙ ap (λ (p : List Part).
               with_node old_index (place_in s numbers) (numbers_of numbers) p (fact_kind (body_fact v.body)))
               added.path_is
-              ∙ added.told;
+              ∙ added.facts;
           nested = added.nested;
         }

@@ -129,6 +129,6 @@ module _ (d : ProfiledText) (syntax : Syntax) (index : NodeInfos) (path : List P
       (line_of_value path s of.pre of.rest of.was of.found one_key alone) in
       record {
         can = (number_is (telling_in s).paths path id.0 here).0;
-        told = λ u is. is ∙ line_less s taken here alone;
+        facts = λ u is. is ∙ line_less s taken here alone;
         nested = nested_less s taken here alone nested;
       }

@@ -62,7 +62,7 @@ module _ (s bare new : Document) (path : List Part) (v : Value) (parent : NodeId
   kind = fact_kind (body_fact v.body)
 
   paths_are : (telling_in bare).paths ≡ put old_paths place path
-  paths_are = ap (λ (t : NodeInfos). t.paths) (sym added.told)
+  paths_are = ap (λ (t : NodeInfos). t.paths) (sym added.facts)
 
   one_longer : length (telling_in bare).paths ≡ length old_paths + 1
   one_longer = ap length paths_are ∙ length-insert old_paths place path added.within
@@ -101,7 +101,7 @@ module _ (s bare new : Document) (path : List Part) (v : Value) (parent : NodeId
       ∙ ap (λ (n : ℕ). with_value (telling_in bare) place n (totals_of bare) (totals_of new) (nodes_in_value v) kind)
       (nothing_gone gone below)
       ∙ ap (λ (t : NodeInfos). with_value t place 0 (totals_of bare) (totals_of new) (nodes_in_value v) kind)
-      (sym added.told))
+      (sym added.facts))
 
 -- ---- the insert
 
@@ -135,7 +135,7 @@ module _ (law : InsertAddsValue) (d : ProfiledText) (syntax : Syntax) (index : N
       ap one_more many ∙ sym (ap₂ both is_bare.values is_bare.keys) in
       record {
         can = can_add added;
-        told = λ u is. is v value
+        facts = λ u is. is v value
             ∙ ap (λ (p : List Part).
             with_value (with_node (telling_in s) (place_in s numbers) (numbers_of numbers) p
             (fact_kind (body_fact v.body)))

@@ -116,7 +116,7 @@ module _ (law : RemoveTakesValue) (d : ProfiledText) (syntax : Syntax) (index : 
         bare is_bare.line there alone in
         record {
           can = (number_is (telling_in s).paths path id.0 here).0;
-          told = λ u by. by gone kind below
+          facts = λ u by. by gone kind below
               ∙ ap (λ (t : NodeInfos). without_node t id.0 (numbers_of numbers))
               (ap (λ (t : Totals). with_value (telling_in s) id.0 gone t (one_more (totals_of new)) root_infos kind)
               many

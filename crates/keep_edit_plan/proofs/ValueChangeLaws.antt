@@ -81,7 +81,7 @@ value_changed d syntax index path s holds read id its_number given v value allow
     let (gone, below, is) = value_gives_nodes s new path v h id.0 here in
     record {
       can = (number_is (telling_in s).paths path id.0 here).0;
-      told = λ u by. by v value gone below
+      facts = λ u by. by v value gone below
           ∙ ap (λ (t : Totals).
           with_value (telling_in s) id.0 gone t (totals_of new) (nodes_in_value v) (fact_kind (body_fact v.body))) many
           ∙ sym is;

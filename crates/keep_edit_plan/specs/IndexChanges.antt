@@ -80,5 +80,5 @@ IsChanged t d (AppendedHeader header keys statement first) u =
 -- nested as its headers say.
 pub record IsIndexChange (old new : Document) (change : IndexChange) : Type 0 where
   pub can : CanChange (telling_in old) change
-  pub told : (u : NodeInfos) → IsChanged (telling_in old) new change u → u ≡ telling_in new
+  pub facts : (u : NodeInfos) → IsChanged (telling_in old) new change u → u ≡ telling_in new
   pub nested : AreNested (mentions_in new) (reading_after start (statements_in new)).tables

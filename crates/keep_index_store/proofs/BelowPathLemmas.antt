@@ -150,10 +150,10 @@ some_part (p ∷ ps) other = omega arith
 -- as the paths tell them, they are as many
 pub run_is_below : (nodes : List Node) (id m gone : ℕ) → IsRunBelow nodes id m
     → AreBelow (paths_of (trie_of nodes)) id gone → m ≡ gone
-run_is_below nodes id m gone run told = elim (cases_lt m gone) [
+run_is_below nodes id m gone run known = elim (cases_lt m gone) [
   | inl more ↦
-      let far : id + gone < length nodes = omega (arith, told.within, count) in
-      let r = told.below (id + gone) (omega (arith, more)) (omega arith) in
+      let far : id + gone < length nodes = omega (arith, known.within, count) in
+      let r = known.below (id + gone) (omega (arith, more)) (omega arith) in
       let w : IsWithin id m (id + gone) = is_below nodes id m run (id + gone) far r.0 (some_part r.0 r.1) r.2 in
       absurd (omega (arith, w.up_to, more))
   | inr less ↦ elim (cases_lt gone m) [
@@ -161,7 +161,7 @@ run_is_below nodes id m gone run told = elim (cases_lt m gone) [
     | inl fewer ↦
         let e : Extends (path_at (trie_of nodes) id) (path_at (trie_of nodes) (id + m)) =
         path_below nodes id m run (id + m) (omega arith) (omega arith) in
-        absurd (told.others (id + m) (omega (arith, fewer)) (omega (arith, run.within, count)) e.more e.is)
+        absurd (known.others (id + m) (omega (arith, fewer)) (omega (arith, run.within, count)) e.more e.is)
   ]
 ]
   where

@@ -181,9 +181,9 @@ module _ (nodes : List Node) (id gone : ℕ) (inside : List Node) (run : IsRunBe
         pub value_there : (many : ℕ) → AreBelow (paths_of was.trie) id many
             → node_infos t
             ≡ with_value (node_infos was) id many (totals_in old) (totals_in new) (node_infos inner_was) k
-        value_there many told =
+        value_there many known =
             let seen : AreBelow (paths_of (trie_of nodes)) id many =
-            subst (λ (x : TrieInfos). AreBelow (paths_of x.trie) id many) (sym view) told in
+            subst (λ (x : TrieInfos). AreBelow (paths_of x.trie) id many) (sym view) known in
             ap₂ (λ ps is. let x : NodeInfos = record { paths = ps; infos = is } in x)
             (ap paths_of same ∙ ap (λ (ns : List Node). paths_of (trie_of ns)) is ∙ paths_all) infos_there
             ∙ ap (λ n. with_value (node_infos (tree_of nodes)) id n (totals_in old) (totals_in new)

@@ -24,7 +24,7 @@ use Rattle.keep_index_store.proofs.StoredLemmas.{here, holdings_are, states_are,
 use Rattle.keep_index_store.proofs.StoredLemmas.{step_below}
 use Rattle.keep_index_store.proofs.MovedListLemmas.{later_low, later_high, moved_last, moved_other, map-last}
 use Rattle.keep_index_store.proofs.MovedListLemmas.{length-last, read_moved, from}
-use Rattle.keep_index_store.proofs.MovedTrieLemmas.{IsMovable, later_trie_node, moved_trie, moved_tells, trie_moved}
+use Rattle.keep_index_store.proofs.MovedTrieLemmas.{IsMovable, later_trie_node, moved_trie, moved_answers, trie_moved}
 
 -- ---- the children of one node
 
@@ -243,7 +243,7 @@ module _ (nodes : List Node) (at : ℕ) (r : IsReady nodes at) where
     trie = r.trie;
     trie' = trie_all;
     within = omega (arith, r.within, length_trie_of nodes);
-    paths = paths_alike alike ∙ (moved_tells (trie_node_in nodes no_node) (trie_of nodes) at movable).paths;
+    paths = paths_alike alike ∙ (moved_answers (trie_node_in nodes no_node) (trie_of nodes) at movable).paths;
     states =
         states_are all ∙ map_through (λ (n : Node). n.facts.role) (moved_node (length nodes - 1) at) (λ n. refl) moved
         ∙ map-last (λ (n : Node). n.facts.role) no_node None nodes at (omega (arith, r.within))
@@ -277,7 +277,7 @@ module _ (nodes : List Node) (at : ℕ) (r : IsReady nodes at) where
         ap (λ k. map (moved_number (length nodes - 1) at) (child_ids (get_or nodes k no_node).children)) same
         ∙ ap (map (moved_number (length nodes - 1) at)) r.bare
         ∙ sym (ap (children_of steps) (sym is ∙ moved_last (length nodes - 1) at was same)
-        ∙ (moved_tells (trie_node_in nodes no_node) (trie_of nodes) at movable).none)
+        ∙ (moved_answers (trie_node_in nodes no_node) (trie_of nodes) at movable).none)
     | inr other ↦ r.kids was (omega (arith, within, other))
         ∙ ap (children_of steps) (sym (moved_other (length nodes - 1) at was other) ∙ is)
   ]

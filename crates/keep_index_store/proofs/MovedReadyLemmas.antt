@@ -27,7 +27,7 @@ use Rattle.keep_index_store.proofs.StoredLemmas.{IsPlaced, IsStoredChild, count_
 use Rattle.keep_index_store.proofs.StoredLemmas.{length_trie_of, node_placed, same_trie_node, states_are, step_below}
 use Rattle.keep_index_store.proofs.StoredLemmas.{stored_child}
 use Rattle.keep_index_store.proofs.MovedListLemmas.{from, last_inserted, length-last, map-last, read_moved}
-use Rattle.keep_index_store.proofs.MovedTrieLemmas.{IsMovable, IsAbove, moved_trie, moved_tells}
+use Rattle.keep_index_store.proofs.MovedTrieLemmas.{IsMovable, IsAbove, moved_trie, moved_answers}
 use Rattle.keep_index_store.proofs.MovedNodeLemmas.{IsReady, map_through}
 
 -- the place after the numbers before `at`
@@ -171,7 +171,7 @@ module _ (nodes : List Node) (at n : ℕ) (r : IsLast nodes at n) where
   }
 
   split : IsAbove top (trie_of nodes) at above
-  split = (moved_tells top (trie_of nodes) at movable).above above top
+  split = (moved_answers top (trie_of nodes) at movable).above above top
       (ap (λ k. (get_or (trie_of nodes) (k - 1) top).parent) (length_trie_of nodes)
       ∙ ap (λ (t : TrieNode). t.parent) (here nodes last no_node top (omega (arith, r.within))))
 
@@ -299,13 +299,13 @@ module _ (nodes : List Node) (at n : ℕ) (r : IsLast nodes at n) where
   kids_far u i h far =
       ap (map (moved_number (length all - 1) at)) (kids_of i h far)
       ∙ ap (λ k. map (moved_number k at) (children_of (trie_of all) i)) (sym counted)
-      ∙ sym ((moved_tells u (trie_of all) at movable_all).other i u (λ e. far (sym e ∙ parent_last u)))
+      ∙ sym ((moved_answers u (trie_of all) at movable_all).other i u (λ e. far (sym e ∙ parent_last u)))
 
   kids_near : (u : TrieNode)
       → map (moved_number (length all - 1) at) (child_ids (get_or all above no_node).children)
       ≡ children_of (moved_trie u (trie_of all) at) (later_number at above)
   kids_near u =
-      let s = (moved_tells u (trie_of all) at movable_all).above above u (parent_last u) in
+      let s = (moved_answers u (trie_of all) at movable_all).above above u (parent_last u) in
       let ids : child_ids kids ≡ (s.low ++ s.high) ++ last ∷ [] =
       r.stored.kids above no_node above_within ∙ sym (children_same above) ∙ s.before
       ∙ ap (λ k. (s.low ++ s.high) ++ (k - 1) ∷ []) (length_trie_of all ∙ count) in

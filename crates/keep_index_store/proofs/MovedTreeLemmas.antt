@@ -11,7 +11,7 @@ use Rattle.keep_index_store.specs.Moved.{CanTake, IsLast}
 use Rattle.keep_index_store.specs.Stored.{trie_node_in, trie_of, IsStored}
 use Rattle.keep_index_store.specs.Trie.{TrieNode, children_of, holds_at, parent_at}
 use Rattle.keep_index_store.proofs.StoredLemmas.{here, keyed_node, length_trie_of}
-use Rattle.keep_index_store.proofs.MovedTrieLemmas.{IsMovable, moved_tells}
+use Rattle.keep_index_store.proofs.MovedTrieLemmas.{IsMovable, moved_answers}
 
 -- of all but the last, those after the first from `at` on are too
 rest_after : (low high : List ℕ) (last at n k : ℕ) → ((j : ℕ) → j < length low → get_or low j 0 < at)
@@ -81,7 +81,7 @@ module _ (nodes : List Node) (stored : IsStored nodes) (at : ℕ) (can : CanTake
       → n ≤ k → k + 1 < length (child_ids (node_at nodes above).children)
       → at ≤ get_or (child_ids (node_at nodes above).children) k 0
   after n k stops later low =
-      let s = (moved_tells top (trie_of nodes) at movable).above above top
+      let s = (moved_answers top (trie_of nodes) at movable).above above top
       (ap (λ m. (get_or (trie_of nodes) (m - 1) top).parent) (length_trie_of nodes)
       ∙ ap (λ (t : TrieNode). t.parent) (here nodes last no_node top (omega (arith, within)))) in
       let ids : child_ids (node_at nodes above).children ≡ (s.low ++ s.high) ++ last ∷ [] =

@@ -402,8 +402,8 @@ moved_split d r rest l a m = record {
       } in p);
 }
 
-pub moved_tells : (d : TrieNode) (ts : List TrieNode) (at : ℕ) → IsMovable ts at → IsMovedTrie d ts at
-moved_tells d ts at m =
+pub moved_answers : (d : TrieNode) (ts : List TrieNode) (at : ℕ) → IsMovable ts at → IsMovedTrie d ts at
+moved_answers d ts at m =
     let s = split ts at m in
     let cut : List TrieNode = (s.root ∷ s.rest) ++ s.last ∷ [] in
     let m' : IsMovable cut (suc s.before) =
@@ -444,7 +444,7 @@ trie_moved d ts at m =
           ];
       distinct =
           let P : List (List Part) → Type 0 = AllPairs (λ p q. p ≢ q) in
-          subst P (sym (moved_tells d ts at m).paths)
+          subst P (sym (moved_answers d ts at m).paths)
           (distinct_last [] (paths_of ts) at (omega (arith, seen, m.within)) m.trie.distinct);
     }
   where

@@ -23,7 +23,7 @@ use Rattle.keep_index_store.proofs.StoredLemmas.{same_trie_node, states_are, ste
 use Rattle.keep_index_store.proofs.MovedNodeLemmas.{map_through}
 use Rattle.keep_index_store.proofs.RemovedListLemmas.{earlier_later, has_later, length-removed, map-removed}
 use Rattle.keep_index_store.proofs.RemovedListLemmas.{read_earlier}
-use Rattle.keep_index_store.proofs.RemovedPathLemmas.{IsRemovable, earlier_trie_node, removed_tells, removed_trie}
+use Rattle.keep_index_store.proofs.RemovedPathLemmas.{IsRemovable, earlier_trie_node, removed_answers, removed_trie}
 use Rattle.keep_index_store.proofs.RemovedReadLemmas.{children_other, children_own, count, earlier_within, gone_low}
 use Rattle.keep_index_store.proofs.RemovedReadLemmas.{holds_is, holds_stay, leaves, number_far, number_near}
 use Rattle.keep_index_store.proofs.RemovedReadLemmas.{number_other, parent_is, parent_other, role_is, step_stays}
@@ -141,7 +141,7 @@ module _ (nodes : List Node) (at : ℕ) (r : IsLeaf nodes at) where
   trie_all = trie_alike alike (trie_removed (trie_of nodes) at removable)
 
   pub paths_all : paths_of (trie_of all) ≡ remove (paths_of (trie_of nodes)) at
-  paths_all = paths_alike alike ∙ (removed_tells (trie_of nodes) at removable).paths
+  paths_all = paths_alike alike ∙ (removed_answers (trie_of nodes) at removable).paths
 
   pub holdings_all : holdings_of (trie_of all) ≡ remove (holdings_of (trie_of nodes)) at
   holdings_all =

@@ -5,7 +5,7 @@
 -- is put in tells of the paths (`paths_removed`), and of the children: those of the parent but for the one that goes
 -- (`own_children`), and all of the others (`other_children`), under the numbers that they have then.
 --
--- Theorem: `removed_tells`.
+-- Theorem: `removed_answers`.
 use Rattle.std.proofs.Common.{◌≡◌, ℕ, zero, suc, ◌+◌, ◌-◌, ◌<◌, ◌≤◌, cond, List, [], ◌∷◌, ◌++◌, length, get_or}
 use Rattle.std.proofs.Common.{take, drop, map, refl, sym, ◌∙◌, ap, subst, arith}
 use Rattle.std.specs.Prelude.{fold, ◌==◌}
@@ -238,7 +238,7 @@ module _ (r : TrieNode) (rest : List TrieNode) (a : ℕ) (m : IsRemovable (r ∷
     above = λ i u is. subst (IsAboveGone ts at) (sym (own_parent u) ∙ is) own_children;
   }
 
-pub removed_tells : (ts : List TrieNode) (at : ℕ) → IsRemovable ts at → IsRemovedTrie ts at
-removed_tells [] at m = absurd (omega (arith, m.within))
-removed_tells (r ∷ rest) zero m = absurd (omega (arith, m.later))
-removed_tells (r ∷ rest) (suc a) m = tells r rest a m
+pub removed_answers : (ts : List TrieNode) (at : ℕ) → IsRemovable ts at → IsRemovedTrie ts at
+removed_answers [] at m = absurd (omega (arith, m.within))
+removed_answers (r ∷ rest) zero m = absurd (omega (arith, m.later))
+removed_answers (r ∷ rest) (suc a) m = tells r rest a m

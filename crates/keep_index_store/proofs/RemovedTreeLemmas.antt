@@ -25,7 +25,7 @@ use Rattle.keep_index_store.proofs.RemovedListLemmas.{earlier_later, earlier_low
 use Rattle.keep_index_store.proofs.RemovedListLemmas.{map-removed, read_removed}
 use Rattle.keep_index_store.proofs.RemovedNodeLemmas.{children_then, holdings_all, infos_all, paths_all, removable}
 use Rattle.keep_index_store.proofs.RemovedNodeLemmas.{trie_all}
-use Rattle.keep_index_store.proofs.RemovedPathLemmas.{removed_tells, removed_trie}
+use Rattle.keep_index_store.proofs.RemovedPathLemmas.{removed_answers, removed_trie}
 use Rattle.keep_index_store.proofs.RemovedReadLemmas.{above_within, children_other, children_own, count, ids_earlier}
 use Rattle.keep_index_store.proofs.RemovedReadLemmas.{kids, number_far, number_near, placed}
 use Rattle.keep_index_store.proofs.RemovedTrieLemmas.{above_removed}
@@ -92,7 +92,7 @@ module _ (nodes : List Node) (at : ℕ) (r : IsLeaf nodes at) where
         kids_far j e h far
         ∙ ap (map (earlier_number at)) (r.stored.kids (later_number at j) no_node
         (omega (arith, h, count nodes at r, (has_later at j).near)))
-        ∙ sym ((removed_tells (trie_of nodes) at (removable nodes at r)).other j top
+        ∙ sym ((removed_answers (trie_of nodes) at (removable nodes at r)).other j top
         (λ e. far (ap (later_number at) (sym e ∙ parent_read top) ∙ up_later))) ∙ sym (children_then nodes at r j)
   ]
 

@@ -13,7 +13,7 @@ use Rattle.keep_index_store.specs.Trie.{TrieNode, paths_of, children_of, IsTrie}
 use Rattle.keep_index_store.proofs.TrieLemmas.{length-paths_of}
 use Rattle.keep_index_store.proofs.RemovedListLemmas.{distinct_removed, earlier_high, has_earlier, has_later}
 use Rattle.keep_index_store.proofs.RemovedListLemmas.{length-removed, read_removed, removed_between}
-use Rattle.keep_index_store.proofs.RemovedPathLemmas.{IsRemovable, earlier_trie_node, parent_other, removed_tells}
+use Rattle.keep_index_store.proofs.RemovedPathLemmas.{IsRemovable, earlier_trie_node, parent_other, removed_answers}
 use Rattle.keep_index_store.proofs.RemovedPathLemmas.{removed_trie}
 
 -- the children of the parent but for the node that goes, which has that number among them
@@ -22,7 +22,7 @@ pub above_removed : (ts : List TrieNode) (at : ℕ) → IsRemovable ts at → (u
     → children_of (removed_trie ts at) (get_or ts at u).parent
     ≡ map (earlier_number at) (remove (children_of ts (get_or ts at u).parent) n)
 above_removed ts at m u n h is =
-    let s = (removed_tells ts at m).above (get_or ts at u).parent u refl in
+    let s = (removed_answers ts at m).above (get_or ts at u).parent u refl in
     let there : get_or (s.low ++ at ∷ s.high) n 0 ≡ at = ap (λ (ks : List ℕ). get_or ks n 0) (sym s.before) ∙ is in
     let without : remove (children_of ts (get_or ts at u).parent) n ≡ s.low ++ s.high =
     ap (λ (ks : List ℕ). remove ks n) s.before
@@ -58,7 +58,7 @@ trie_removed ts at m =
           ];
       distinct =
           let P : List (List Part) → Type 0 = AllPairs (λ p q. p ≢ q) in
-          subst P (sym (removed_tells ts at m).paths)
+          subst P (sym (removed_answers ts at m).paths)
           (distinct_removed (paths_of ts) at (omega (arith, seen, m.within)) m.trie.distinct);
     }
   where

@@ -155,7 +155,7 @@ module _ (nodes : List Node) (id gone : ℕ) (inside : List Node) (run : IsRunBe
         pub value_gone : (many : ℕ) (k : Kind) → AreBelow (paths_of was.trie) id many
             → node_infos (tree_of items) ≡ without_node
             (with_value (node_infos was) id many (totals_in old) (totals_in bare) root_infos k) id (numbers_of line)
-        value_gone many k told =
+        value_gone many k known =
             let info : NodeInfo = record (info_at (tree_of bared) id) { kind = k } in
             let between : TrieInfos = record { trie = trie_of bared; infos = set (infos_of bared) id info } in
             ap₂ (λ ps is. let x : NodeInfos = record { paths = ps; infos = is } in x)
@@ -163,6 +163,6 @@ module _ (nodes : List Node) (id gone : ℕ) (inside : List Node) (run : IsRunBe
             (infos_then ∙ ap (map earlier) (infos_all bared id leaf ∙ sym (removed_set (infos_of bared) id info)))
             ∙ ap (λ (x : NodeInfos). without_node x id (numbers_of line))
             (below.value_there nodes id gone inside run inner by_beside by_inside bared refl was inner_was view
-            inner_view own old bare k between refl refl own_is out_is in_is many told)
+            inner_view own old bare k between refl refl own_is out_is in_is many known)
             ∙ ap (λ (x : NodeInfos). without_node
             (with_value (node_infos was) id many (totals_in old) (totals_in bare) x k) id (numbers_of line)) root

@@ -303,7 +303,7 @@ pub path_met : (nodes : List TrieNode) → IsTrie nodes → (i : ℕ) → i < le
     → Contains (paths_of nodes) (path_at nodes i)
 path_met nodes trie i h = Contains-get_or (paths_of nodes) i [] (omega (arith, length-paths_of nodes trie.root))
 
--- the children are told by the parents alone
+-- the children follow from the parents alone
 children_alike : (n i : ℕ) (ls ks : List (ℕ × Part)) → length ls ≡ length ks
     → ((j : ℕ) (e : ℕ × Part) → j < length ls → (get_or ls j e).0 ≡ (get_or ks j e).0)
     → children_from n i ls ≡ children_from n i ks

@@ -3,7 +3,7 @@
 --
 -- A mention names an array of tables where a `[[..]]` line has its path, and a keyval has no such mention
 -- (`entries_plain`). So line by line, some line so far has a path exactly if some mention so far names it
--- (`statement_named`). The kind of a node is told by the mentions at its path alone.
+-- (`statement_named`). The kind of a node is given by the mentions at its path alone.
 --
 -- Theorems: `tables_some` and `tables_none`, of a node of an index.
 use Rattle.std.proofs.Common.{◌≡◌, ℕ, ◌+◌, ◌<◌, Bool, true, false, cond, ◌||◌, ◌&&◌, List, [], ◌∷◌, ◌++◌, length}
@@ -251,10 +251,10 @@ no_tables : (o : Option Fact) → kind_or_table o ≡ kind.Tables → ⊥
 no_tables None e = cc
 no_tables (Some f) e = no_fact f e
 
-kind_tells : (b : Bool) (facts : List Fact) (k : Kind) → k ≡ cond b kind.Tables (kind_or_table (first_of facts))
+kind_answers : (b : Bool) (facts : List Fact) (k : Kind) → k ≡ cond b kind.Tables (kind_or_table (first_of facts))
     → (k ≡ kind.Tables → b ≡ true) × ((k ≡ kind.Tables → ⊥) → b ≡ false)
-kind_tells true facts k e = (λ is. refl, λ not. absurd (not e))
-kind_tells false facts k e = (λ is. absurd (no_tables (first_of facts) (sym e ∙ is)), λ not. refl)
+kind_answers true facts k e = (λ is. refl, λ not. absurd (not e))
+kind_answers false facts k e = (λ is. absurd (no_tables (first_of facts) (sym e ∙ is)), λ not. refl)
 
 module _ (d : Document) (t : NodeInfos) (of : IsIndexOf d t) (i : ℕ) (path : List Part) (info : NodeInfo)
     (within : i < length t.paths) (here : get_or t.paths i [] ≡ path) (there : slice_get t.infos i ≡ Some info) where
@@ -279,14 +279,14 @@ module _ (d : Document) (t : NodeInfos) (of : IsIndexOf d t) (i : ℕ) (path : L
 
   pub tables_some : info.kind ≡ kind.Tables → 0 < elements_of path (reading_at_end d).tables
   tables_some is =
-      let b = (kind_tells (list_any is_element (kinds_at path (mentions_in d)))
+      let b = (kind_answers (list_any is_element (kinds_at path (mentions_in d)))
       (filter_map fact_of (kinds_at path (mentions_in d))) info.kind kind_stated).0 is in
       let more : nat_lt 0 (elements_of path (reading_at_end d).tables) ≡ true = document_named d path ∙ b in
       grind (arith, nat_tests)
 
   pub tables_none : (info.kind ≡ kind.Tables → ⊥) → elements_of path (reading_at_end d).tables ≡ 0
   tables_none not =
-      let b = (kind_tells (list_any is_element (kinds_at path (mentions_in d)))
+      let b = (kind_answers (list_any is_element (kinds_at path (mentions_in d)))
       (filter_map fact_of (kinds_at path (mentions_in d))) info.kind kind_stated).1 not in
       let none : nat_lt 0 (elements_of path (reading_at_end d).tables) ≡ false = document_named d path ∙ b in
       grind (arith, nat_tests)

@@ -5,7 +5,7 @@
 -- (`through_key`) or from its last element (`past_key`). That is its last child, as the nodes are nested
 -- (`last_entered`).
 --
--- Theorems: `no_keys_passed`, `through_key` and `past_key`: the keys but the last; `table_told` and `element_told`: a
+-- Theorems: `no_keys_passed`, `through_key` and `past_key`: the keys but the last; `table_known` and `element_known`: a
 -- whole header `[..]` and `[[..]]`.
 use Rattle.std.proofs.Common.{◌≡◌, ℕ, suc, ◌+◌, ◌-◌, ◌<◌, ◌≤◌, true, false, List, [], ◌∷◌, ◌++◌, length, get_or, map}
 use Rattle.std.proofs.Common.{set, take, refl, sym, ap, subst, ◌∙◌, arith, length-append, inl, inr, Option, Some}
@@ -365,11 +365,11 @@ module _ (t : TrieInfos) (joins : List Join) (statement number : ℕ) (keys : Li
     (numbered : part ≡ number + length keys) (d : Document) (of : IsIndexOf d (node_infos t))
     (numbers : AreNumbersAtEnd d statement number) where
   -- the whole header `[..]`
-  pub table_told : (new : NodeInfos)
+  pub table_known : (new : NodeInfos)
       → new ≡ with_info (with_joins t joins) (path_at t.trie at ++ key text ∷ [])
       (named_info kind.Table part (origin.Header statement))
       → new ≡ with_mentions (node_infos t) (said_next d (header (keys ++ text ∷ [])))
-  table_told new added =
+  table_known new added =
       let ts : List (List Part) = tables_at_end d in
       let c : Count = count_at_end d in
       let ms : List Mention = descent_mentions ts [] keys in
@@ -397,13 +397,13 @@ module _ (t : TrieInfos) (joins : List Join) (statement number : ℕ) (keys : Li
       (sym (header_path-split ts [] keys text))
 
   -- the whole header `[[..]]`, where its array of tables is there
-  pub element_told : IsTrie t.trie → (array : ℕ) → IsTablesOf t (path_at t.trie at ++ key text ∷ []) array
+  pub element_known : IsTrie t.trie → (array : ℕ) → IsTablesOf t (path_at t.trie at ++ key text ∷ []) array
       → (facts : NodeFacts) → info_of facts ≡ named_info kind.Tables part origin.Tables → (new : NodeInfos)
       → new ≡ with_info (with_joins t (joins ++ record { id = array; facts = facts } ∷ []))
       (path_at t.trie array ++ index (length (children_of t.trie array)) ∷ [])
       (unnamed_info kind.Table (origin.Element statement))
       → new ≡ with_mentions (node_infos t) (said_next d (element_header (keys ++ text ∷ [])))
-  element_told trie array tables facts info new added =
+  element_known trie array tables facts info new added =
       let ts : List (List Part) = tables_at_end d in
       let c : Count = count_at_end d in
       let ms : List Mention = descent_mentions ts [] keys in

@@ -1,10 +1,10 @@
 -- What is said inside a value, by paths that begin at the value.
 --
 -- Nothing is said of the value itself, no `[[..]]` names anything there, and what is said of a key there lets none name
--- it (`inside_told`). If anything is said of a path, then something is said of each shorter one (`inside_closed`): an
+-- it (`inside_known`). If anything is said of a path, then something is said of each shorter one (`inside_closed`): an
 -- item is said of its number, and a keyval of each of its keys. Each is an induction over the entries.
 --
--- Theorems: `inside_told` and `inside_closed`.
+-- Theorems: `inside_known` and `inside_closed`.
 use Rattle.std.proofs.Common.{◌≡◌, ℕ, ◌+◌, Bool, true, false, ◌&&◌, ◌||◌, List, [], ◌∷◌, ◌++◌, map, refl, sym, ap, ap₂}
 use Rattle.std.proofs.Common.{◌∙◌, ◌⊎◌, inl, inr, Option, Some, None}
 use Rattle.std.specs.List.{AllByRecursion, cons_option, list_any}
@@ -78,13 +78,13 @@ inside_entry n None f nested h =
 inside_entry n (Some name) f nested h =
     inside_keys (key_value name.key.first) (map further_value name.key.more) f nested h
 
-pub inside_told : (n : ℕ) (es : Entries) → AllByRecursion IsInside (entries_mentions n es)
-inside_told n none = tt
-inside_told n (entry name body nested after comma rest) =
+pub inside_known : (n : ℕ) (es : Entries) → AllByRecursion IsInside (entries_mentions n es)
+inside_known n none = tt
+inside_known n (entry name body nested after comma rest) =
     all_join IsInside (entry_mentions n name (body_fact body) (entries_mentions 0 nested))
     (entries_mentions (n + 1) rest)
-    (inside_entry n name (body_fact body) (entries_mentions 0 nested) (inside_told 0 nested))
-    (inside_told (n + 1) rest)
+    (inside_entry n name (body_fact body) (entries_mentions 0 nested) (inside_known 0 nested))
+    (inside_known (n + 1) rest)
 
 -- ---- no path without those above it
 

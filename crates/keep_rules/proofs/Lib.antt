@@ -38,7 +38,7 @@ mod AloneLemmas
 mod NestedLemmas
 mod PutLemmas
 mod LineNestedLaws
-mod StatementToldLaws
+mod StatementKnownLaws
 mod NestedGrowthLemmas
 mod StatementNestedLaws
 mod InsideValueLemmas

@@ -6,6 +6,6 @@ pub use Rattle.keep_rules.proofs.LinePlaceLemmas.{place_is}
 pub use Rattle.keep_rules.proofs.LookupLemmas.{child_push, no_child_root, number_is}
 pub use Rattle.keep_rules.proofs.RoleStateLemmas.{one_place}
 pub use Rattle.keep_rules.proofs.StatementNestedLaws.{statement_is_nested}
-pub use Rattle.keep_rules.proofs.StatementToldLaws.{statement_is_told}
+pub use Rattle.keep_rules.proofs.StatementKnownLaws.{statement_is_known}
 pub use Rattle.keep_rules.proofs.ValueLaws.{in_wide, strict_value}
 pub use Rattle.keep_rules.proofs.ValueNestedLaws.{empty_has_no_child, value_is_nested}

@@ -29,7 +29,7 @@ use Rattle.keep_meaning.proofs.Shared.{table_is_node}
 use Rattle.keep_rules.specs.LinesNested.{NodesAreNested}
 use Rattle.keep_rules.specs.Nested.{AreNested}
 use Rattle.keep_rules.specs.StatementsNested.{StatementIsNested}
-use Rattle.keep_rules.specs.StatementsTold.{IsHeader}
+use Rattle.keep_rules.specs.StatementsKnown.{IsHeader}
 use Rattle.keep_rules.proofs.AllInfoLemmas.{met_own, met_with}
 use Rattle.keep_rules.proofs.LineNestedLaws.{differ, may_follow, reading_after-append}
 use Rattle.keep_rules.proofs.NestedGrowthLemmas.{AreEntered, AreListed, AreMet, IsClosed, IsThere, closed_push}

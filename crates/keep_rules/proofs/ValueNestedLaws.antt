@@ -4,8 +4,8 @@
 -- mention is at the value's path or below it. So of any other path the same is said with both values (`met_beside`,
 -- `roles_beside`), and the nodes one step below such a path are the same (`children_same`); of a path below the value's
 -- only the run says anything (`met_within`). What is said inside a value is closed, and lets no `[[..]]` name a key
--- there (`inside_closed`, `inside_told`). As the run has no mention of a `[[..]]`, no array of tables is at the value's
--- path or below it (`table_beside`). The rules are not needed for this.
+-- there (`inside_closed`, `inside_known`). As the run has no mention of a `[[..]]`, no array of tables is at the
+-- value's path or below it (`table_beside`). The rules are not needed for this.
 --
 -- Where nothing is in the new value, the run is one mention, of the value's own path, so no node is one step below it.
 --
@@ -43,7 +43,7 @@ use Rattle.keep_rules.specs.Nested.{AreNested}
 use Rattle.keep_rules.specs.RoleStates.{mention_roles}
 use Rattle.keep_rules.specs.ValuesNested.{ValueIsNested}
 use Rattle.keep_rules.proofs.AllInfoLemmas.{IsMet, IsUnmet, met_or_unmet}
-use Rattle.keep_rules.proofs.InsideValueLemmas.{IsBare, IsInside, all_mapped, inside_closed, inside_told, last_below}
+use Rattle.keep_rules.proofs.InsideValueLemmas.{IsBare, IsInside, all_mapped, inside_closed, inside_known, last_below}
 use Rattle.keep_rules.proofs.LineNestedLaws.{differ, kind_of, may_follow, snoc_view}
 use Rattle.keep_rules.proofs.LookupLemmas.{child_push, no_child_root, number_is}
 use Rattle.keep_rules.proofs.NestedGrowthLemmas.{not_none, number_there, there_number}
@@ -251,7 +251,7 @@ module _ (path : List Part) where
   run_within f es = (
     ([], sym (append-nil path)),
     all_mapped IsInside IsSaidWithin (below path) (λ m h. (m.path, refl))
-        (entries_mentions 0 es) (inside_told 0 es),
+        (entries_mentions 0 es) (inside_known 0 es),
   )
 
   -- at another path nothing is said
@@ -271,7 +271,7 @@ module _ (path : List Part) where
     (refl, λ k e. refl),
     all_mapped IsInside IsClosedTo (below path)
         (λ m h. (h.plain, λ k e. h.bare k (sym (last_below path m.path h.some) ∙ e)))
-        (entries_mentions 0 es) (inside_told 0 es),
+        (entries_mentions 0 es) (inside_known 0 es),
   )
 
   -- what is said below the value's path is said inside it
@@ -304,7 +304,8 @@ module _ (path : List Part) where
   children_of_run : (t : List Part) → IsBeside path t → (f : Fact) (es : Entries)
       → children_in t (run f es) ≡ filter (is_child t) (path ∷ [])
   children_of_run t beside f es =
-      ap (λ (l : List (List Part)). cond (is_child t path) (path ∷ l) l) (by (entries_mentions 0 es) (inside_told 0 es))
+      ap (λ (l : List (List Part)). cond (is_child t path) (path ∷ l) l)
+      (by (entries_mentions 0 es) (inside_known 0 es))
     where
       deeper : (p : List Part) → (p ≡ [] → ⊥) → is_child t (path ++ p) ≡ false
       deeper p some = last (snoc_view p)
@@ -343,38 +344,38 @@ module _ (path : List Part) where
   module _ (before after : List Mention) (apart_before : AllByRecursion IsSaidBeside before)
       (apart_after : AllByRecursion IsSaidBeside after) where
     -- all that is said
-    abbrev told : Fact → Entries → List Mention
-    told f es = whole before after f es
+    abbrev said_with : Fact → Entries → List Mention
+    said_with f es = whole before after f es
 
     -- where nothing is in the value
-    no_child : (f : Fact) → children path (node_paths (told f tree.none)) ≡ []
+    no_child : (f : Fact) → children path (node_paths (said_with f tree.none)) ≡ []
     no_child f =
         let rest : List (List Part) = children_in path after in
         let own : children_in path (run f tree.none ++ after) ≡ [] =
         ap (λ (b : Bool). cond b (path ∷ rest) rest) (not_own_child path) ∙ none_child after apart_after in
-        children_said path (told f tree.none)
+        children_said path (said_with f tree.none)
         ∙ ap (fold paths_with [])
         (ap (filter (is_child path)) (map-append path_of before (run f tree.none ++ after))
         ∙ filter-append (is_child path) (map path_of before) (map path_of (run f tree.none ++ after))
         ∙ ap₂ (λ (xs ys : List (List Part)). xs ++ ys) (none_child before apart_before) own)
 
     met_beside : (q : List Part) → IsBeside path q → (f g : Fact) (es new : Entries)
-        → is_node q (told f es) ≡ is_node q (told g new)
+        → is_node q (said_with f es) ≡ is_node q (said_with g new)
     met_beside q beside f g es new =
         ap (λ (b : Bool). is_root q || b) (by f es ∙ sym (by g new))
       where
         by : (f : Fact) (es : Entries)
-            → list_any (is_at q) (told f es) ≡ (list_any (is_at q) before || list_any (is_at q) after)
+            → list_any (is_at q) (said_with f es) ≡ (list_any (is_at q) before || list_any (is_at q) after)
         by f es = any_beside (is_at q) before (run f es) after
             (none_any IsSaidWithin (is_at q) (not_within q beside) (run f es) (run_within f es))
 
     roles_beside : (q : List Part) → IsBeside path q → (f g : Fact) (es new : Entries)
-        → mention_roles q (told f es) ≡ mention_roles q (told g new)
+        → mention_roles q (said_with f es) ≡ mention_roles q (said_with g new)
     roles_beside q beside f g es new =
         ap roles_in (by f es ∙ sym (by g new))
       where
         by : (f : Fact) (es : Entries)
-            → filter (is_at q) (told f es) ≡ filter (is_at q) before ++ filter (is_at q) after
+            → filter (is_at q) (said_with f es) ≡ filter (is_at q) before ++ filter (is_at q) after
         by f es =
             filter-append (is_at q) before (run f es ++ after)
             ∙ ap (λ (l : List Mention). filter (is_at q) before ++ l)
@@ -383,10 +384,10 @@ module _ (path : List Part) where
             (none_filter IsSaidWithin (is_at q) (not_within q beside) (run f es) (run_within f es)))
 
     children_same : (t : List Part) → IsBeside path t → (f g : Fact) (es new : Entries)
-        → children t (node_paths (told f es)) ≡ children t (node_paths (told g new))
+        → children t (node_paths (said_with f es)) ≡ children t (node_paths (said_with g new))
     children_same t beside f g es new =
-        children_said t (told f es) ∙ ap (fold paths_with []) (by f es ∙ sym (by g new))
-        ∙ sym (children_said t (told g new))
+        children_said t (said_with f es) ∙ ap (fold paths_with []) (by f es ∙ sym (by g new))
+        ∙ sym (children_said t (said_with g new))
       where
         joined : (xs ys : List Mention) → children_in t (xs ++ ys) ≡ children_in t xs ++ children_in t ys
         joined xs ys =
@@ -394,7 +395,7 @@ module _ (path : List Part) where
             ∙ filter-append (is_child t) (map path_of xs) (map path_of ys)
 
         by : (f : Fact) (es : Entries)
-            → children_in t (told f es)
+            → children_in t (said_with f es)
             ≡ children_in t before ++ (filter (is_child t) (path ∷ []) ++ children_in t after)
         by f es =
             joined before (run f es ++ after)
@@ -403,24 +404,24 @@ module _ (path : List Part) where
             ∙ ap (λ (l : List (List Part)). l ++ children_in t after) (children_of_run t beside f es))
 
     met_within : (r : List Part) (f : Fact) (es : Entries)
-        → list_any (is_at (path ++ r)) (told f es) ≡ list_any (is_at (path ++ r)) (run f es)
+        → list_any (is_at (path ++ r)) (said_with f es) ≡ list_any (is_at (path ++ r)) (run f es)
     met_within r f es = any_within (is_at (path ++ r)) before (run f es) after
         (none_any IsSaidBeside (is_at (path ++ r)) (not_beside r) before apart_before)
         (none_any IsSaidBeside (is_at (path ++ r)) (not_beside r) after apart_after)
 
     -- the value's own path is a node's
-    own_is_node : (f : Fact) (es : Entries) → is_node path (told f es) ≡ true
+    own_is_node : (f : Fact) (es : Entries) → is_node path (said_with f es) ≡ true
     own_is_node f es =
-        or_right (is_root path) (list_any (is_at path) (told f es))
-        (subst (λ (q : List Part). list_any (is_at q) (told f es) ≡ true) (append-nil path)
+        or_right (is_root path) (list_any (is_at path) (said_with f es))
+        (subst (λ (q : List Part). list_any (is_at q) (said_with f es) ≡ true) (append-nil path)
         (met_within [] f es ∙ any_own f es))
 
     module _ (f g : Fact) (es new : Entries) where
       abbrev was : List Mention
-      was = told f es
+      was = said_with f es
 
       abbrev is : List Mention
-      is = told g new
+      is = said_with g new
 
       above_again : AreNodesAbove was → AreNodesAbove is
       above_again above [] more there = refl

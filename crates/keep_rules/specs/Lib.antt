@@ -22,7 +22,7 @@ pub mod Outcomes
 pub mod Nested
 pub mod LinesNested
 pub mod ValuesNested
-pub mod StatementsTold
+pub mod StatementsKnown
 pub mod StatementsNested
 pub mod LinePlaces
 pub mod ReadDocuments

@@ -5,7 +5,7 @@ use Rattle.keep_meaning.specs.Meaning.{mentions_in}
 use Rattle.keep_meaning.specs.Rules.{ObeysRules}
 use Rattle.keep_meaning.specs.StatementsMore.{HasStatementMore}
 use Rattle.keep_rules.specs.LinesNested.{NodesAreNested}
-use Rattle.keep_rules.specs.StatementsTold.{IsHeader}
+use Rattle.keep_rules.specs.StatementsKnown.{IsHeader}
 
 -- A header more, at the end, that the rules allow leaves the nodes nested.
 abbrev pub StatementIsNested : Type 0

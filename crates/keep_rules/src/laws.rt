@@ -2,7 +2,7 @@
 //! function that does nothing.
 ghost use Rattle.keep_rules.specs.LinesNested as spec;
 ghost use Rattle.keep_rules.specs.StatementsNested as headers;
-ghost use Rattle.keep_rules.specs.StatementsTold as told;
+ghost use Rattle.keep_rules.specs.StatementsKnown as known;
 ghost use Rattle.keep_rules.specs.ValuesNested as values;
 
 /// With one line more, a keyval of one key part with a new path and with nothing in its value, the nodes of a document
@@ -15,8 +15,8 @@ pub fn line_nested()
 
 /// With one header more, as the last statement, the facts about the nodes of a document are those of the document
 /// without it, with what the header says. The key parts are fewer than 2^64, as in a text that was read.
-pub fn statement_told()
-    ensures { told.StatementIsTold }
+pub fn statement_known()
+    ensures { known.StatementIsKnown }
 {}
 
 /// With one header more, as the last statement, the nodes of a document that obeys the definition rules are nested as

@@ -131,7 +131,7 @@ pub name_values : (profile : Profile) (b : Brackets) (text : List ℕ) (p : Star
     → p.values ≡ length old.values → NamedRead profile b text p.at old f1 (Ok begin) → p.values ≡ length f1.values
 name_values profile b text p begin old f1 e n = omega (arith, grown_values (named_taken p.at n.part) n.grows)
 
--- the value is there to be told its comma
+-- the value is there to get its comma
 pub item_number : (profile : Profile) (depth_left : ℕ) (text : List ℕ) (p : Start) (begin keys end : ℕ) (f1 f2 : Flat)
     → p.values ≡ length f1.values → ValueRead profile depth_left text begin keys p f1 f2 (Ok end)
     → p.values < length f2.values

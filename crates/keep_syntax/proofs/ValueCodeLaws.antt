@@ -163,7 +163,7 @@ after_comma profile b text at number end after next old f1 f2 f3 new g comma sg 
       );
     }
 
--- the value is there to be told its comma
+-- the value is there to get its comma
 pub after_number : (profile : Profile) (b : Brackets) (text : List ℕ) (at number end after : ℕ) (old f1 f2 : Flat)
     → GapRead profile b text at old f1 (Ok end) → PunctuationIs text end 1 leaf.Comma f1 f2 after
     → number < length old.values → number < length f2.values

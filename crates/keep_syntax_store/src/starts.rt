@@ -71,7 +71,7 @@ struct Between<'a> {
     milestones: &'a [Milestone],
 }
 
-/// Near steps, each told by its byte, and how far they lead together.
+/// Near steps, each given by its byte, and how far they lead together.
 #[derive(Clone, Copy)]
 struct Near<'a> {
     steps: &'a [u8],

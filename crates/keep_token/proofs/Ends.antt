@@ -1,6 +1,6 @@
 -- A leaf in a gap ends where a character ends: after an ASCII byte, or before one.
 --
--- In UTF-8 a character ends after each ASCII byte (`behind_ascii`), and before each or at the end of the text
+-- In UTF-8 a character ends after each ASCII byte (`after_ascii`), and before each or at the end of the text
 -- (`before_ascii`). The last byte of white space and of a newline is ASCII (`white_last`, `newline_last`), and the text
 -- has this byte there (`last_of`). A comment may end with another character; but the byte after it, if there is one, is
 -- one that no comment has (`comment_stops`), and these are ASCII (`low_after_comment`). What the code finds in the rest
@@ -29,9 +29,9 @@ use Rattle.keep_token.proofs.GapLaws.{gap_cases, white, line, comment, nothing}
 use Rattle.keep_token.proofs.GapLeaves.{all_pass, gap_found, gap_one}
 
 -- after an ASCII byte
-pub behind_ascii : (text : List ℕ) (at n : ℕ) → IsUtf8 text → 0 < n → n ≤ length (drop at text)
+pub after_ascii : (text : List ℕ) (at n : ℕ) → IsUtf8 text → 0 < n → n ≤ length (drop at text)
     → get_or (drop at text) (n - 1) 0 < 128 → IsCharBoundary text (at + n)
-behind_ascii text at n utf8 some le low =
+after_ascii text at n utf8 some le low =
     let here : get_or text (at + (n - 1)) 0 < 128 = rw (get_or-drop at text (n - 1) 0) at low in
     let within : at + (n - 1) < length text = omega (arith, length-drop at text) in
     let ends : IsCharBoundary text (at + (n - 1) + 1) =
@@ -120,11 +120,11 @@ gap_ends_by : (text : List ℕ) (at : ℕ) (l : Leaf) (n : ℕ) → ((i : ℕ) �
     → at ≤ length text → GapLeaf (drop at text) l n → gap_at (drop at text) ≡ Some (l, n) → IsCharBoundary text (at + n)
 gap_ends_by text at leaf.Ws n bytes utf8 le h e =
     let some : 0 < n = omega (arith, h.leaf.belongs.0, length-take n (drop at text)) in
-    behind_ascii text at n utf8 some h.leaf.within
+    after_ascii text at n utf8 some h.leaf.within
     (last_of (drop at text) n some h.leaf.within (white_last (take n (drop at text)) h.leaf.belongs))
 gap_ends_by text at leaf.Newline n bytes utf8 le h e =
     let some : 0 < n = newline_some (drop at text) n h.leaf.belongs in
-    behind_ascii text at n utf8 some h.leaf.within
+    after_ascii text at n utf8 some h.leaf.within
     (last_of (drop at text) n some h.leaf.within (newline_last (take n (drop at text)) h.leaf.belongs))
 gap_ends_by text at leaf.Comment n bytes utf8 le h e =
     let byte : first (drop n (drop at text)) < 256 =

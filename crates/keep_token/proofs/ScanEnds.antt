@@ -20,7 +20,7 @@ use Rattle.keep_token.specs.Pieces.{first}
 use Rattle.keep_token.specs.Scanning.{key_at, scalar_at}
 use Rattle.keep_token.proofs.GapLaws.{tested, prefix_len-positive}
 use Rattle.keep_token.proofs.GapLeaves.{all_pass}
-use Rattle.keep_token.proofs.Ends.{behind_ascii, last_of, some_injective}
+use Rattle.keep_token.proofs.Ends.{after_ascii, last_of, some_injective}
 use Rattle.keep_token.proofs.KeyLaws.{key_leaf, key_found}
 use Rattle.keep_token.proofs.ScalarLaws.{scalar_leaf, scalar_found, scalar_kind, a_word, a_basic, a_literal, a_ml_basic}
 use Rattle.keep_token.proofs.ScalarLaws.{a_ml_literal}
@@ -43,7 +43,7 @@ key_ends_by : (profile : Profile) (text : List ℕ) (at : ℕ) (l : Leaf) (n : �
     → is_key_leaf l ≡ true → 0 < n → n ≤ length (drop at text) → IsLeaf profile l (take n (drop at text))
     → IsCharBoundary text (at + n)
 key_ends_by profile text at leaf.BareKey n utf8 here k some le h =
-    behind_ascii text at n utf8 some le (last_of (drop at text) n some le (bare_last (take n (drop at text)) h))
+    after_ascii text at n utf8 some le (last_of (drop at text) n some le (bare_last (take n (drop at text)) h))
 key_ends_by profile text at leaf.Basic n utf8 here k some le h =
     moved_boundary text at n here (basic_boundary profile (drop at text) n (IsUtf8-drop text at utf8 here) le h)
 key_ends_by profile text at leaf.Literal n utf8 here k some le h =
@@ -98,7 +98,7 @@ scalar_ends_by profile text at l n utf8 here some h =
           let len = h.word e in
           let positive : 0 < word_len (drop at text) = rw len at some in
           let low : get_or (drop at text) (n - 1) 0 < 128 = rw len (word_last (drop at text) positive) in
-          behind_ascii text at n utf8 some h.within low
+          after_ascii text at n utf8 some h.within low
       | a_basic e ↦
           moved_boundary text at n here (basic_boundary profile (drop at text) n (IsUtf8-drop text at utf8 here)
           h.within (rw e at h.belongs))

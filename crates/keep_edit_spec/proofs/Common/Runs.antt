@@ -110,7 +110,7 @@ exclusive (value f) = true
 exclusive (item f) = true
 exclusive _ = false
 
--- not told of an element by the way
+-- not said of an element by the way
 abbrev pub solid : MentionKind → Bool
 solid begun = false
 solid passed = false

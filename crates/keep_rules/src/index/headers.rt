@@ -36,7 +36,7 @@ impl Index {
         key: usize,
     ) -> Result<(), NotInPlace>
         requires { (d : Document) × IsIndexOf d self.old × AreNumbersAtEnd d statement key }
-        ensures told { (d : Document) → IsIndexOf d self.old → AreNumbersAtEnd d statement key
+        ensures stated { (d : Document) → IsIndexOf d self.old → AreNumbersAtEnd d statement key
             → OnOk result (self.new ≡ with_mentions self.old (said_next d (header (map string_bytes keys.now)))) }
         ensures refused { OnErr result (self.new ≡ self.old) }
     {
@@ -66,7 +66,7 @@ impl Index {
         key: usize,
     ) -> Result<(), NotInPlace>
         requires { (d : Document) × IsIndexOf d self.old × AreNumbersAtEnd d statement key }
-        ensures told { (d : Document) → IsIndexOf d self.old → AreNumbersAtEnd d statement key
+        ensures stated { (d : Document) → IsIndexOf d self.old → AreNumbersAtEnd d statement key
             → OnOk result
             (self.new ≡ with_mentions self.old (said_next d (element_header (map string_bytes keys.now)))) }
         ensures refused { OnErr result (self.new ≡ self.old) }

@@ -1,6 +1,6 @@
 use Rattle.std.proofs.Common.{ap, arith, length, refl}
 use Rattle.keep_edit_plan.proofs.Shared.{profile_seen, text_seen}
-use Rattle.keep_edit.proofs.TakeLaws.{in_text, high, cut, scanned_as, scanned_is, holds_after, read_as, change_told}
+use Rattle.keep_edit.proofs.TakeLaws.{in_text, high, cut, scanned_as, scanned_is, holds_after, read_as, change_known}
 use Rattle.keep_edit.proofs.TakeLaws.{change_can, holds_same}
 use Rattle.keep_edit.proofs.planned.reread.Goals as goal
 
@@ -71,12 +71,12 @@ returns-in-Ok-renew c = λ old p change.
     scanned_as old c.args.edited.now _ _ c.args.profile c.args.text.now c.lines-whole.result c.range-lines.result.now p
     c.lines-whole.ensures (rw (c.range-lines.ensures.value, c.as_str.ensures.value) refl) in
     let renewed = c.in-Ok.ensures.renewed old c.args.edited.now _ scanned in
-    let told =
+    let known =
     c.in-Ok-renew.ensures.new p.edit.changed.to
     (rw (text_seen p.is, profile_seen p.is)
     (read_as old c.args.edited.now _ _ p.holds p.edit c.put_lines.new.syntax renewed))
-    (change_told old c.args.edited.now _ _ p.holds p.edit c.args.change change) in (
-      holds_after old c.args.edited.now _ _ p.holds p.edit c.put_lines.new.syntax _ renewed told,
+    (change_known old c.args.edited.now _ _ p.holds p.edit c.args.change change) in (
+      holds_after old c.args.edited.now _ _ p.holds p.edit c.put_lines.new.syntax _ renewed known,
       λ s q read at.
           rw c.as_str.ensures.value (scanned_is old c.args.edited.now _ _ p.holds p.edit c.lines-whole.result
           c.lines-whole.ensures s q read at),

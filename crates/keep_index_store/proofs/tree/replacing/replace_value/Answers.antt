@@ -1,4 +1,4 @@
--- The nodes were told by the run of those below the one, and the paths tell as many.
+-- The nodes below the one are a run, and the paths give as many.
 use Rattle.std.proofs.Common.{◌<◌, List, length, refl, sym, ◌∙◌, ap, subst, Some}
 use Rattle.keep_index_store.specs.AllNodes.{Node}
 use Rattle.keep_index_store.specs.Facts.{info_of}

@@ -16,7 +16,7 @@ use Rattle.keep_path.specs.Path.{index}
 use Rattle.keep_rules.specs.HeaderJoins.{AreUpTo, with_joins}
 use Rattle.keep_rules.specs.MentionInfos.{with_info, with_mentions}
 use Rattle.keep_rules.specs.ReadDocuments.{IsIndexOf}
-use Rattle.keep_rules.proofs.HeaderJoinLemmas.{all_keys, element_told, tables_ascend}
+use Rattle.keep_rules.proofs.HeaderJoinLemmas.{all_keys, element_known, tables_ascend}
 use Rattle.keep_rules.proofs.index.Index.append_element.Goals as goal
 
 pub add_element-requires-clause-joins : goal.add_element-requires-clause-joins
@@ -26,8 +26,8 @@ add_element-requires-clause-joins c =
     (map string_bytes c.in-Some.leading.now) c.in_ok-at.at c.in_ok-at.ensures
     c.as_str.result.now c.in_ok-array.array c.in_ok-array.ensures c.named-tables.result)
 
-pub returns-clause-told : goal.returns-clause-told
-returns-clause-told c = λ d of numbers.
+pub returns-clause-stated : goal.returns-clause-stated
+returns-clause-stated c = λ d of numbers.
     let old = c.self.inside.nodes in
     let array = c.in_ok-array.array in
     let joins = c.pass_keys.new.joins.items in
@@ -39,7 +39,7 @@ returns-clause-told c = λ d of numbers.
     all_keys c.args.keys.now c.in-Some.leading.now c.in-Some.last.now c.as_str.result.now c.in-Some.ensures.cases.0
     c.as_str.ensures.value in
     on_ok_weaker c.add_element.result (λ is.
-    element_told old joins c.args.statement c.args.key leading c.in_ok-at.at c.in_ok-at.ensures c.as_str.result.now
+    element_known old joins c.args.statement c.args.key leading c.in_ok-at.at c.in_ok-at.ensures c.as_str.result.now
     c.in-Some-checked_add.part many d (subst (IsIndexOf d) (sym same) of) numbers
     c.self.invariant.0 array c.in_ok-array.ensures c.named-tables.result c.named-tables.ensures.info
     (node_infos c.add_element.new.nodes)

@@ -11,7 +11,7 @@ use Rattle.keep_path.specs.NodeInfos.{NodeInfos}
 use Rattle.keep_rules.specs.HeaderJoins.{AreUpTo, PassesKeys}
 use Rattle.keep_rules.specs.MentionInfos.{with_mentions}
 use Rattle.keep_rules.specs.ReadDocuments.{IsIndexOf}
-use Rattle.keep_rules.proofs.HeaderJoinLemmas.{all_keys, table_told}
+use Rattle.keep_rules.proofs.HeaderJoinLemmas.{all_keys, table_known}
 use Rattle.keep_rules.proofs.index.Index.append_table.Goals as goal
 
 pub pass_keys-requires : goal.pass_keys-requires
@@ -23,8 +23,8 @@ add_table-requires c = record {
   joins = subst (AreUpTo 0 c.in_ok-at.at) (sym c.deref.ensures.value) c.in_ok-at.ensures.ascending;
 }
 
-pub returns-clause-told : goal.returns-clause-told
-returns-clause-told c = λ d of numbers.
+pub returns-clause-stated : goal.returns-clause-stated
+returns-clause-stated c = λ d of numbers.
     let old = c.self.inside.nodes in
     let leading : List (List ℕ) = map string_bytes c.in-Some.leading.now in
     let passes : PassesKeys old c.deref.result.now c.args.statement c.args.key leading c.in_ok-at.at =
@@ -37,7 +37,7 @@ returns-clause-told c = λ d of numbers.
     all_keys c.args.keys.now c.in-Some.leading.now c.in-Some.last.now c.as_str.result.now c.in-Some.ensures.cases.0
     c.as_str.ensures.value in
     on_ok_weaker c.add_table.result (λ is.
-    table_told old c.deref.result.now c.args.statement c.args.key leading c.in_ok-at.at passes c.as_str.result.now
+    table_known old c.deref.result.now c.args.statement c.args.key leading c.in_ok-at.at passes c.as_str.result.now
     c.in-Some-checked_add.part many d (subst (IsIndexOf d) (sym same) of) numbers (node_infos c.add_table.new.nodes) is
     ∙ ap (λ (ks : List (List ℕ)). with_mentions (node_infos old) (said_next d (header ks))) keys
     ∙ ap (λ (t : NodeInfos). with_mentions t (said_next d (header (map string_bytes c.args.keys.now)))) same)

@@ -15,7 +15,7 @@ IsHeader (keyval nested) = ⊥
 
 -- With a header more, at the end, the facts about the nodes are those of before, with what the header says. The key
 -- parts are so few that a machine word counts them, as it does where a text was read.
-abbrev pub StatementIsTold : Type 0
-StatementIsTold =
+abbrev pub StatementIsKnown : Type 0
+StatementIsKnown =
     (d more : Document) (s : Statement) → IsHeader s → HasStatementMore d s more → length (parts more) < 2 ^ 64
     → node_infos more ≡ with_mentions (node_infos d) (said_next d s)

@@ -1,9 +1,9 @@
--- A header at the end adds what it says to the facts about the nodes (`statement_is_told`).
+-- A header at the end adds what it says to the facts about the nodes (`statement_is_known`).
 --
 -- The facts from all mentions are those from the ones of before, and then from the header's (`added_further`), if these
 -- give no value to a path that is mentioned before. A header gives none (`header_gives_none`).
 --
--- Theorem: `statement_is_told`.
+-- Theorem: `statement_is_known`.
 use Rattle.std.proofs.Common.{◌≡◌, ℕ, ◌^◌, ◌<◌, Bool, true, false, cond, List, [], ◌∷◌, ◌++◌, length, map, refl, sym}
 use Rattle.std.proofs.Common.{ap, ◌∙◌, arith, append-nil}
 use Rattle.std.specs.Prelude.{◌==◌}
@@ -21,7 +21,7 @@ use Rattle.keep_meaning.specs.Nodes.{infos_in, mention_of, node_paths, paths_wit
 use Rattle.keep_meaning.specs.StatementsMore.{reading_at_end, said_next}
 use Rattle.keep_meaning.proofs.Shared.{marked-parts, mentions-numbered_in, numbered_from-append, paths-nodes_in}
 use Rattle.keep_rules.specs.MentionInfos.{ValuesAreNew, with_mentions}
-use Rattle.keep_rules.specs.StatementsTold.{IsHeader, StatementIsTold}
+use Rattle.keep_rules.specs.StatementsKnown.{IsHeader, StatementIsKnown}
 use Rattle.keep_rules.proofs.AllInfoLemmas.{added_further, count-marks, infos_of_mentions}
 
 -- ---- a header gives no value
@@ -71,8 +71,8 @@ infos_are d =
     ap (λ (ps : List (List Part)). let t : NodeInfos = record { paths = ps; infos = infos_in d } in t)
     (ap node_paths (mentions-numbered_in d) ∙ sym (paths-nodes_in d))
 
-pub statement_is_told : StatementIsTold
-statement_is_told d more s is last few =
+pub statement_is_known : StatementIsKnown
+statement_is_known d more s is last few =
     let said : List Numbered = said_next d s in
     let all : numbered_in more ≡ numbered_in d ++ said =
     ap (numbered_from no_count start) last ∙ numbered_from-append no_count start (statements_in d) (s ∷ [])
