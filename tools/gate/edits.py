@@ -13,10 +13,6 @@ An edit is refused there if a goal of its function is. Where all that is said of
 not proved, its edit is tried again, without that other's. An edit outside of its function's body (a table, a constant) has a
 check of its own, with all bodies.
 
-An edit may name the goals that it breaks, of those for which its function needs no answer without it: `# goals: NAME, NAME`. In the
-copy each of them has the answer that the prover tries by itself, no less, so that it says that this is none. Else it says that it
-expects an answer, and runs once more to look for one to offer, which took up to a ninth of the time of all edits.
-
 An edit without that line is of a definition or a proof, on which much may rest. It is made alone, and the whole crate is
 checked.
 
@@ -43,12 +39,6 @@ from quick import all_below, crates, static_libraries
 ROOT = Path(__file__).resolve().parents[2]
 PARTS = ("src", "specs", "proofs")
 FUNCTION = "# refused in: "
-GOALS = "# goals: "
-# What the prover tries for a goal without an answer, and what that needs.
-OWN_ANSWER = "\npub {goal} : goal.{goal}\n{goal} c = first_of (search own_rules, grind (own_arith, own_steps))\n"
-OWN_NAMES = """use Rattle.std.proofs.Common.{rules as own_rules, arith as own_arith}
-use Rattle.std.proofs.lemmas.Grind.{common_steps as own_steps}
-"""
 # What the prover says of a text that it could not read, of a function that it proved, by holes or not, of one that calls another
 # which it refused, of one of which it could not prove a goal, and where a proof names what is no longer there.
 NO_TERM = re.compile(r"is not in scope|has no field|is no name|operand is missing|expected the end|cannot continue")
@@ -69,7 +59,6 @@ class Edit:
     name: str
     changes: tuple
     function: str
-    goals: tuple
 
     def made_in(self, folder, texts):
         """These texts, by path, with the edit's made in them too; None where it can't be made beside them."""
@@ -105,7 +94,7 @@ def sources_of(folder):
 
 def read_edit(file):
     """The edit of a file crates/CRATE/must-fail/NAME.edit."""
-    changes, path, old, function, goals = [], "", "", "", ()
+    changes, path, old, function = [], "", "", ""
     for line in file.read_text(encoding="utf-8").split("\n"):
         if line.startswith("file: "):
             path = line[6:].strip()
@@ -115,9 +104,7 @@ def read_edit(file):
             changes.append((path, old, line[4:].removeprefix(" ")))
         elif line.startswith(FUNCTION):
             function = line.removeprefix(FUNCTION).strip()
-        elif line.startswith(GOALS):
-            goals = tuple(line.removeprefix(GOALS).strip().split(", "))
-    return Edit(file.parent.parent.name, file.stem, tuple(changes), function, goals)
+    return Edit(file.parent.parent.name, file.stem, tuple(changes), function)
 
 
 def edits_of(crate):
@@ -158,8 +145,6 @@ class Checks:
                 Path(copy, path).write_text(text, encoding="utf-8")
             if bodies:
                 leave_out(self.crate, Path(copy), bodies)
-                for edit in edits:
-                    answer(self.crate, Path(copy), edit.own_body(self.sources), edit.goals)
             how = {"cwd": copy, "stdin": subprocess.DEVNULL, "stdout": subprocess.PIPE, "stderr": subprocess.STDOUT}
             words = [*self.words, "--incremental", f"{self.room}/kept", *words]
             ran = subprocess.Popen(words, text=True, errors="replace", **how)
@@ -232,16 +217,6 @@ def leave_out(crate, copy, kept):
             for name in ("Answers.antt", "Invariants.antt"):
                 (proof / name).unlink(missing_ok=True)
             (proof / "Proof.antt").write_text(hole_for(crate, function), encoding="utf-8")
-
-
-def answer(crate, copy, function, goals):
-    """Adds the answers that the prover tries by itself, for these goals, to the proof of a function in a copy of a crate."""
-    if not goals:
-        return
-    file, module = copy / function.proof / "Answers.antt", ".".join([crate, *function.proof.split("/")])
-    text = file.read_text(encoding="utf-8") if file.exists() else f"use Rattle.{module}.Goals as goal\n"
-    file.parent.mkdir(parents=True, exist_ok=True)
-    file.write_text(OWN_NAMES + text + "".join(OWN_ANSWER.format(goal=it) for it in goals), encoding="utf-8")
 
 
 def is_unread(line, edit):
