@@ -39,6 +39,8 @@ pub mod SameCountLemmas
 pub mod ReplacedNodeLemmas
 pub mod ReplacedStoredLemmas
 pub mod KeyBelowLemmas
+pub mod KeysBelowLemmas
+pub mod KeysStoredLemmas
 pub mod InsertedLemmas
 pub mod RemovedPathLemmas
 pub mod RemovedTrieLemmas

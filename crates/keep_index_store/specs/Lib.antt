@@ -21,5 +21,6 @@ pub mod ValueShifts
 pub mod Shifting
 pub mod Replacing
 pub mod Joined
+pub mod KeysBelow
 pub mod Inserted
 pub use Rattle.keep_path.specs.Path

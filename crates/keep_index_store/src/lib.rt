@@ -22,4 +22,4 @@ pub use children::Holds;
 pub use facts::{NodeFacts, OriginKind};
 pub use renumbering::LineNumbers;
 pub use shift::Totals;
-pub use tree::{Join, NewValue, NotInPlace, Tree};
+pub use tree::{HeaderFacts, Join, NewValue, NotInPlace, Tree};

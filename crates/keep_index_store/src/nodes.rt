@@ -14,6 +14,7 @@ ghost use Rattle.keep_index_store.specs.declared.nodes.Node.{Node as StoredNode}
 ghost use Rattle.keep_index_store.specs.Stored.{IsStored};
 ghost use Rattle.keep_index_store.specs.Trie.{by_key, by_index};
 
+mod adding;
 mod below;
 mod joining;
 mod removing;

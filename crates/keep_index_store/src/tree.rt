@@ -23,7 +23,7 @@ use crate::facts::NodeFacts;
 use crate::nodes::Nodes;
 pub use inserting::NotInPlace;
 pub use inserting_value::NewValue;
-pub use joining::Join;
+pub use joining::{HeaderFacts, Join};
 use keep_types::{Kind, NodeInfo, Origin, Role};
 use std::alloc::{AllocError, Global};
 use std::marker::Model;

@@ -5,12 +5,13 @@
 -- (`entries_plain`). So line by line, some line so far has a path exactly if some mention so far names it
 -- (`statement_named`). The kind of a node is given by the mentions at its path alone.
 --
--- Theorems: `tables_some` and `tables_none`, of a node of an index.
+-- Theorems: `tables_some` and `tables_none`, of a node of an index; `tables_unmet`, of a path without one.
 use Rattle.std.proofs.Common.{◌≡◌, ℕ, ◌+◌, ◌<◌, Bool, true, false, cond, ◌||◌, ◌&&◌, List, [], ◌∷◌, ◌++◌, length}
-use Rattle.std.proofs.Common.{get_or, map, refl, sym, ap, subst, ◌∙◌, arith, Option, Some, None}
-use Rattle.std.specs.Prelude.{◌==◌, nat_lt, filter, slice_get}
+use Rattle.std.proofs.Common.{suc, get_or, map, refl, sym, ap, subst, ◌∙◌, arith, Option, Some, None}
+use Rattle.std.specs.Prelude.{◌==◌, Contains, nat_lt, filter, fold, slice_get}
 use Rattle.std.specs.List.{list_any, filter_map, cons_option}
 use Rattle.std.specs.Option.{option_map}
+use Rattle.std.proofs.lemmas.List.Elements.{Contains-append_left, Contains-push}
 use Rattle.std.proofs.lemmas.List.Folds.{list_any-append}
 use Rattle.std.proofs.lemmas.List.Sums.{sum_by-append, sum_by-cons}
 use Rattle.std.proofs.lemmas.Bool.Decides.{nat_tests}
@@ -36,9 +37,10 @@ use Rattle.keep_meaning.specs.Meaning.{body_fact, entries_mentions, entry_mentio
 use Rattle.keep_meaning.specs.Meaning.{mentions_in, statement_of, valued_mentions}
 use Rattle.keep_meaning.specs.Nodes.{fact_kind, first_of, is_at, is_element, kind_at, kind_or_table, kinds_at}
 use Rattle.keep_meaning.specs.Nodes.{mention_kind_of, mention_of, mentioned_kind, moment_kind, node_at, node_info}
-use Rattle.keep_meaning.specs.Nodes.{node_paths, nodes_in, numbered_at}
+use Rattle.keep_meaning.specs.Nodes.{node_paths, nodes_in, numbered_at, paths_with}
 use Rattle.keep_meaning.specs.StatementsMore.{reading_at_end}
 use Rattle.keep_meaning.proofs.Shared.{mentions-numbered_in, mentions_in-statements, paths-nodes_in}
+use Rattle.keep_path.proofs.Shared.{path_decides}
 use Rattle.keep_rules.specs.ReadDocuments.{IsIndexOf}
 
 -- ---- keyvals
@@ -290,3 +292,55 @@ module _ (d : Document) (t : NodeInfos) (of : IsIndexOf d t) (i : ℕ) (path : L
       (filter_map fact_of (kinds_at path (mentions_in d))) info.kind kind_stated).1 not in
       let none : nat_lt 0 (elements_of path (reading_at_end d).tables) ≡ false = document_named d path ∙ b in
       grind (arith, nat_tests)
+
+-- ---- a path without a node
+
+any_contains : (ps : List (List Part)) (p : List Part) → list_any (same_path p) ps ≡ true → Contains ps p
+any_contains [] p h = cc
+any_contains (r ∷ rs) p h =
+    (elim (same_path p r) as (λ b. same_path p r ≡ b → (b || list_any (same_path p) rs) ≡ true → Contains (r ∷ rs) p) [
+      | true ↦ λ same h. (0, omega arith, sym ((path_decides p r).0 same))
+      | false ↦ λ other h. let rest = any_contains rs p h in (suc rest.0, omega (arith, rest.1), rest.2)
+    ]) refl h
+
+with_itself : (ps : List (List Part)) (p : List Part) → Contains (paths_with ps p) p
+with_itself ps p =
+    (elim (list_any (same_path p) ps) as
+    (λ b. list_any (same_path p) ps ≡ b → Contains (cond b ps (ps ++ p ∷ [])) p) [
+      | true ↦ λ met. any_contains ps p met
+      | false ↦ λ new. Contains-push ps p
+    ]) refl
+
+with_others : (ps : List (List Part)) (p q : List Part) → Contains ps q → Contains (paths_with ps p) q
+with_others ps p q h =
+    elim (list_any (same_path p) ps) as (λ b. Contains (cond b ps (ps ++ p ∷ [])) q) [
+      | true ↦ h
+      | false ↦ Contains-append_left ps (p ∷ []) q h
+    ]
+
+stay_met : (ps qs : List (List Part)) (q : List Part) → Contains ps q → Contains (fold paths_with ps qs) q
+stay_met ps [] q h = h
+stay_met ps (p ∷ qs) q h = stay_met (paths_with ps p) qs q (with_others ps p q h)
+
+unmet_kinds : (ps : List (List Part)) (ms : List Mention) (q : List Part)
+    → (Contains (fold paths_with ps (map (λ (m : Mention). m.path) ms)) q → ⊥) → kinds_at q ms ≡ []
+unmet_kinds ps [] q h = refl
+unmet_kinds ps (m ∷ ms) q h =
+    (elim (is_at q m) as
+    (λ b. is_at q m ≡ b → map (λ (m : Mention). m.kind) (cond b (m ∷ filter (is_at q) ms) (filter (is_at q) ms)) ≡ []) [
+      | true ↦
+          λ at.
+          absurd (h (stay_met (paths_with ps m.path) (map (λ (m : Mention). m.path) ms) q
+          (subst (Contains (paths_with ps m.path)) ((path_decides m.path q).0 at) (with_itself ps m.path))))
+      | false ↦ λ other. unmet_kinds (paths_with ps m.path) ms q h
+    ]) refl
+
+pub tables_unmet : (d : Document) (t : NodeInfos) → IsIndexOf d t → (q : List Part) → (Contains t.paths q → ⊥)
+    → elements_of q (reading_at_end d).tables ≡ 0
+tables_unmet d t of q fresh =
+    let same : t.paths ≡ node_paths (mentions_in d) = ap (λ (x : NodeInfos). x.paths) of.facts ∙ paths-nodes_in d in
+    let none : nat_lt 0 (elements_of q (reading_at_end d).tables) ≡ false =
+    document_named d q
+    ∙ ap (list_any is_element) (unmet_kinds ([] ∷ []) (mentions_in d) q (subst (λ (ps : List (List Part)). Contains ps q
+    → ⊥) same fresh)) in
+    grind (arith, nat_tests)

@@ -5,8 +5,8 @@
 -- (`through_key`) or from its last element (`past_key`). That is its last child, as the nodes are nested
 -- (`last_entered`).
 --
--- Theorems: `no_keys_passed`, `through_key` and `past_key`: the keys but the last; `table_known` and `element_known`: a
--- whole header `[..]` and `[[..]]`.
+-- Theorems: `no_keys_passed`, `through_key` and `past_key`: the keys that have nodes; `element_known`: a whole header
+-- `[[..]]`.
 use Rattle.std.proofs.Common.{◌≡◌, ℕ, suc, ◌+◌, ◌-◌, ◌<◌, ◌≤◌, true, false, List, [], ◌∷◌, ◌++◌, length, get_or, map}
 use Rattle.std.proofs.Common.{set, take, refl, sym, ap, subst, ◌∙◌, arith, length-append, inl, inr, Option, Some}
 use Rattle.std.proofs.Common.{Result, Ok, Err}
@@ -25,7 +25,7 @@ use Rattle.keep_syntax.specs.Tree.{Document}
 use Rattle.keep_path.specs.NodeInfos.{NodeInfos, no_info}
 use Rattle.keep_path.specs.Path.{Part, key, index}
 use Rattle.keep_meaning.specs.Counts.{Count, Numbered, count_after, count_with_mention, numbered_mentions}
-use Rattle.keep_meaning.specs.Marks.{Mention, begun, define, element, element_header, elements_of, entered_path, header}
+use Rattle.keep_meaning.specs.Marks.{Mention, begun, element, element_header, elements_of, entered_path}
 use Rattle.keep_meaning.specs.Marks.{header_prefixes, passed, passing_mentions, past, through}
 use Rattle.keep_meaning.specs.Meaning.{mentions_in}
 use Rattle.keep_meaning.specs.Nodes.{children, node_number, node_paths}
@@ -50,7 +50,7 @@ use Rattle.keep_rules.proofs.KeyWalkInfoLemmas.{header_counts}
 use Rattle.keep_rules.proofs.KeyWalkLemmas.{descent_mentions-append, descent_path-append, header_path-split}
 use Rattle.keep_rules.proofs.KeyWalkLemmas.{header_prefixes-split}
 use Rattle.keep_rules.proofs.LookupLemmas.{count_is, nth_is, number_is, number_some}
-use Rattle.keep_rules.proofs.MentionInfoLemmas.{begun_info, define_info, element_info, passed_is_info, past_info}
+use Rattle.keep_rules.proofs.MentionInfoLemmas.{begun_info, element_info, passed_is_info, past_info}
 use Rattle.keep_rules.proofs.MentionInfoLemmas.{through_info, with_mentions-append}
 use Rattle.keep_rules.proofs.PassLemmas.{entered-none, entered-some, passing-none, passing-some}
 
@@ -123,7 +123,7 @@ one_joined t trie joins id facts h =
 
 -- ---- mentions after others
 
-mentions_then : (t : NodeInfos) (c : Count) (ms ns : List Mention)
+pub mentions_then : (t : NodeInfos) (c : Count) (ms ns : List Mention)
     → with_mentions (with_mentions t (numbered_mentions c ms)) (numbered_mentions (count_after c ms) ns)
     ≡ with_mentions t (numbered_mentions c (ms ++ ns))
 mentions_then t c ms ns =
@@ -364,38 +364,6 @@ module _ (t : TrieInfos) (joins : List Join) (statement number : ℕ) (keys : Li
     (passes : PassesKeys t joins statement number keys at) (text : List ℕ) (part : ℕ)
     (numbered : part ≡ number + length keys) (d : Document) (of : IsIndexOf d (node_infos t))
     (numbers : AreNumbersAtEnd d statement number) where
-  -- the whole header `[..]`
-  pub table_known : (new : NodeInfos)
-      → new ≡ with_info (with_joins t joins) (path_at t.trie at ++ key text ∷ [])
-      (named_info kind.Table part (origin.Header statement))
-      → new ≡ with_mentions (node_infos t) (said_next d (header (keys ++ text ∷ [])))
-  table_known new added =
-      let ts : List (List Part) = tables_at_end d in
-      let c : Count = count_at_end d in
-      let ms : List Mention = descent_mentions ts [] keys in
-      let count : Count = count_after c ms in
-      let path : List Part = descent_path ts [] keys ++ key text ∷ [] in
-      let m : Mention = record { path = path; kind = define } in
-      let n : Numbered = record { mention = m; before = count } in
-      let key_counted : count.keys ≡ part =
-      (header_counts ts [] keys c).keys ∙ ap (λ (k : ℕ). k + length keys) numbers.keys ∙ sym numbered in
-      let counted : count.statements ≡ statement = (header_counts ts [] keys c).statements ∙ numbers.statements in
-      added
-      ∙ ap (λ (p : List Part).
-      with_info (with_joins t joins) (p ++ key text ∷ []) (named_info kind.Table part (origin.Header statement)))
-      (passes.leads d of)
-      ∙ ap (λ (s : ℕ). with_info (with_joins t joins) path (named_info kind.Table part (origin.Header s))) (sym counted)
-      ∙ ap (λ (i : NodeInfo). with_info (with_joins t joins) path i) (sym (define_info n part refl key_counted))
-      ∙ ap (λ (s : NodeInfos). with_mentions s (numbered_mentions count (m ∷ [])))
-      (passes.joined d of c numbers.keys numbers.statements)
-      ∙ mentions_then (node_infos t) c ms (m ∷ [])
-      ∙ ap (λ (w : List Mention). with_mentions (node_infos t) (numbered_mentions c (w ++ m ∷ [])))
-      (sym (header_prefixes-split ts [] keys text))
-      ∙ ap (λ (p : List Part).
-      with_mentions (node_infos t) (numbered_mentions c
-      (header_prefixes ts [] (keys ++ text ∷ []) ++ record { path = p; kind = define } ∷ [])))
-      (sym (header_path-split ts [] keys text))
-
   -- the whole header `[[..]]`, where its array of tables is there
   pub element_known : IsTrie t.trie → (array : ℕ) → IsTablesOf t (path_at t.trie at ++ key text ∷ []) array
       → (facts : NodeFacts) → info_of facts ≡ named_info kind.Tables part origin.Tables → (new : NodeInfos)

@@ -47,6 +47,7 @@ pub mod LinePlaceLemmas
 mod DocumentLemmas
 mod ElementLemmas
 mod HeaderJoinLemmas
+mod NewTablesLemmas
 mod RefusalLaws
 mod ValueLaws
 pub mod Shared

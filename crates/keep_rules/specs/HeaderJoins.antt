@@ -1,17 +1,21 @@
 -- A header after the end of a document, where it goes through the nodes of the document's index: what it joins there.
-use Rattle.std.specs.Prelude.{◌≡◌, ℕ, suc, ◌<◌, ◌≤◌, List, [], ◌∷◌, length}
+use Rattle.std.specs.Prelude.{◌≡◌, ℕ, suc, ◌<◌, ◌≤◌, List, [], ◌∷◌, ◌++◌, Contains, length}
+use Rattle.keep_types.specs.declared.node.Kind.TheVariants as kind
+use Rattle.keep_types.specs.declared.node.Origin.TheVariants as origin
 use Rattle.keep_syntax.specs.Tree.{Document}
 use Rattle.keep_path.specs.NodeInfos.{NodeInfos}
-use Rattle.keep_path.specs.Path.{Part}
+use Rattle.keep_path.specs.Path.{Part, key}
 use Rattle.keep_meaning.specs.Counts.{Count, numbered_mentions}
 use Rattle.keep_meaning.specs.Marks.{elements_of}
 use Rattle.keep_meaning.specs.StatementsMore.{reading_at_end}
 use Rattle.keep_index_store.specs.declared.tree.joining.Join.{Join}
+use Rattle.keep_index_store.specs.Facts.{named_info}
 use Rattle.keep_index_store.specs.Joined.{joined_all}
+use Rattle.keep_index_store.specs.KeysBelow.{first_key}
 use Rattle.keep_index_store.specs.Tree.{TrieInfos, node_infos}
 use Rattle.keep_index_store.specs.Trie.{by_index, children_of, holds_at, path_at, paths_of}
 use Rattle.keep_rules.specs.Descents.{descent_mentions, descent_path}
-use Rattle.keep_rules.specs.MentionInfos.{with_mentions}
+use Rattle.keep_rules.specs.MentionInfos.{with_info, with_mentions}
 use Rattle.keep_rules.specs.ReadDocuments.{IsIndexOf}
 
 -- the full paths of the `[[..]]` lines of a document
@@ -39,6 +43,22 @@ pub record PassesKeys (t : TrieInfos) (joins : List Join) (statement first : ℕ
       → (c : Count) → c.keys ≡ first → c.statements ≡ statement
       → with_joins t joins
       ≡ with_mentions (node_infos t) (numbered_mentions c (descent_mentions (tables_at_end d) [] keys))
+
+-- with a table more for each of these keys, each below the one before it and the first below that path: the header goes
+-- through those of the leading keys, of which the first has the number `part`, and defines the last
+abbrev pub with_tables : NodeInfos → List Part → ℕ → ℕ → List (List ℕ) → List ℕ → NodeInfos
+with_tables t path part statement [] last =
+    with_info t (path ++ key last ∷ []) (named_info kind.Table part (origin.Header statement))
+with_tables t path part statement (k ∷ ks) last =
+    with_tables (with_info t (path ++ key k ∷ []) (named_info kind.Table part (origin.Through statement)))
+    (path ++ key k ∷ []) (suc part) statement ks last
+
+-- These facts are joined to those of their nodes, and below the node `at`, where the first of these keys had no node,
+-- each key has a table.
+pub record AddsTables (old new : TrieInfos) (joins : List Join) (at part statement : ℕ) (leading : List (List ℕ))
+    (last : List ℕ) : Type 0 where
+  pub fresh : Contains (paths_of old.trie) (path_at old.trie at ++ key (first_key leading last) ∷ []) → ⊥
+  pub tables : node_infos new ≡ with_tables (with_joins old joins) (path_at old.trie at) part statement leading last
 
 -- the array of tables at a path: it has as many elements as the document has `[[..]]` lines with the path
 pub record IsTablesOf (t : TrieInfos) (path : List Part) (array : ℕ) : Type 0 where

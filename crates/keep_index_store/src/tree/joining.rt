@@ -1,11 +1,13 @@
 //! The tree where a header comes at the end: it goes through nodes that are there, and one node is new.
-ghost use Rattle.std.specs.Prelude.{◌≡◌, ◌<◌, ◌∷◌, ◌++◌, [], Contains, IfOk, OnErr, OnOk, length, None, Some};
+ghost use Rattle.std.specs.Prelude.{◌≡◌, ◌<◌, ◌+◌, ◌^◌, ◌∷◌, ◌++◌, [], Contains, IfOk, List, OnErr, OnOk, Option};
+ghost use Rattle.std.specs.Prelude.{length, map, None, string_bytes};
 ghost use Rattle.std.specs.List.{AllByRecursion};
 ghost use Rattle.keep_index_store.specs.Children.{holding};
 ghost use Rattle.keep_index_store.specs.Facts.{info_of};
 ghost use Rattle.keep_index_store.specs.Growth.{Grows};
 ghost use Rattle.keep_index_store.specs.Joined.{AreAscending, AreJoined, HasRole, joined_all, with_all_infos};
-ghost use Rattle.keep_index_store.specs.Trie.{by_index, by_key, children_of, holds_at, path_at, paths_of};
+ghost use Rattle.keep_index_store.specs.KeysBelow.{AddsKeys, first_key};
+ghost use Rattle.keep_index_store.specs.Trie.{by_index, by_key, children_of, holds_at, path_at, paths_of, states_of};
 ghost use Rattle.keep_path.specs.Path.{key, index};
 
 use super::Tree;
@@ -22,30 +24,61 @@ pub struct Join {
     pub facts: NodeFacts,
 }
 
+/// The facts about the nodes that a header names and that are not there yet: those of the first of its leading keys, of
+/// which each further one is the next key part, and those of its last key.
+#[derive(Clone, Copy)]
+pub struct HeaderFacts {
+    pub through: NodeFacts,
+    pub own: NodeFacts,
+}
+
 impl Tree {
-    /// Joins these facts to those of their nodes, whose roles stay, and adds a new node below a table, where no node
-    /// has its path yet. If memory runs out, nothing is changed.
-    pub fn join_and_add_key(
+    /// Joins these facts to those of their nodes, whose roles stay, and adds a table for each of the leading keys and
+    /// for the last one, each below the one before it, and the first below `parent`, where no node has its path yet.
+    /// If memory runs out, nothing is changed.
+    pub fn join_and_add_keys(
         &mut self,
         joins: &[Join],
         parent: usize,
-        text: &str,
-        role: Role,
-        facts: NodeFacts,
-        holds: Holds,
-    ) -> Result<usize, AllocError>
+        leading: &[String],
+        last: &str,
+        facts: HeaderFacts,
+    ) -> Result<(), AllocError>
         requires joins { AreAscending 0 (length self.old.trie) joins.now }
         requires parent { (parent < length self.old.trie) × (holds_at self.old.trie parent ≡ by_key) }
-        requires fresh { Contains (paths_of self.old.trie) (path_at self.old.trie parent ++ key text.now ∷ []) → ⊥ }
-        ensures grows { OnOk result (Grows self.old.trie self.new.trie parent
-            (path_at self.old.trie parent ++ key text.now ∷ []) (Some role) (holding holds)) }
-        ensures infos { OnOk result (self.new.infos ≡ joined_all self.old.infos joins.now ++ info_of facts ∷ []) }
+        requires fresh { Contains (paths_of self.old.trie)
+            (path_at self.old.trie parent ++ key (first_key (map string_bytes leading.now) last.now) ∷ []) → ⊥ }
+        requires counted { facts.through.key + length leading.now < 2 ^ 64 }
+        ensures added { OnOk result
+            (AddsKeys self.old self.new joins.now parent (map string_bytes leading.now) last.now facts) }
         ensures refused { OnErr result (self.new ≡ self.old) }
     {
         let joined = self.joined_all(joins)?;
-        let id = self.add_key(parent, text, role, facts, holds)?;
+        self.add_keys(parent, leading, last, facts)?;
         self.set_all(joined);
-        Ok(id)
+        Ok(())
+    }
+
+    /// Adds a table for each of the leading keys and for the last one, each below the one before it, and the first
+    /// below `parent`, where no node has its path yet. If memory runs out, nothing is changed.
+    fn add_keys(
+        &mut self,
+        parent: usize,
+        leading: &[String],
+        last: &str,
+        facts: HeaderFacts,
+    ) -> Result<(), AllocError>
+        requires parent { (parent < length self.old.trie) × (holds_at self.old.trie parent ≡ by_key) }
+        requires fresh { Contains (paths_of self.old.trie)
+            (path_at self.old.trie parent ++ key (first_key (map string_bytes leading.now) last.now) ∷ []) → ⊥ }
+        requires counted { facts.through.key + length leading.now < 2 ^ 64 }
+        ensures added { OnOk result
+            (AddsKeys self.old self.new [] parent (map string_bytes leading.now) last.now facts) }
+        ensures states { OnOk result ((more : List (Option Role))
+            × (states_of self.new.trie ≡ states_of self.old.trie ++ more)) }
+        ensures refused { OnErr result (self.new ≡ self.old) }
+    {
+        self.nodes.add_keys(parent, leading, last, facts)
     }
 
     /// Joins these facts to those of their nodes, whose roles stay, and adds a new item to an array, or a new element

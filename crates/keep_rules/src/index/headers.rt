@@ -1,32 +1,33 @@
 //! The index where a header comes at the end of its document: it changes in place.
-ghost use Rattle.std.specs.Prelude.{◌≡◌, ◌+◌, ◌<◌, ◌^◌, ◌∷◌, ◌++◌, [], ℕ, List, IfOk, OnErr, OnOk, length, map};
-ghost use Rattle.std.specs.Prelude.{string_bytes};
+ghost use Rattle.std.specs.Prelude.{◌≡◌, ◌+◌, ◌<◌, ◌≤◌, ◌^◌, ◌∷◌, ◌++◌, [], ℕ, List, IfOk, OnErr, OnOk, length, map};
+ghost use Rattle.std.specs.Prelude.{string_bytes, take};
 ghost use Rattle.keep_types.specs.declared.node.Kind.TheVariants as kind;
 ghost use Rattle.keep_types.specs.declared.node.Origin.TheVariants as origin;
 ghost use Rattle.keep_syntax.specs.Tree.{Document};
-ghost use Rattle.keep_index_store.specs.Facts.{named_info, unnamed_info};
+ghost use Rattle.keep_index_store.specs.Facts.{info_of, named_info, unnamed_info};
+ghost use Rattle.keep_index_store.specs.KeysBelow.{first_key};
 ghost use Rattle.keep_index_store.specs.Tree.{node_infos};
 ghost use Rattle.keep_index_store.specs.Trie.{IsTrie, by_index, children_of, holds_at, path_at};
 ghost use Rattle.keep_meaning.specs.Marks.{element_header, header};
 ghost use Rattle.keep_meaning.specs.StatementsMore.{AreNumbersAtEnd, said_next};
 ghost use Rattle.keep_path.specs.Path.{index};
-ghost use Rattle.keep_rules.specs.HeaderJoins.{AreUpTo, IsTablesOf, PassesKeys, with_joins};
+ghost use Rattle.keep_rules.specs.HeaderJoins.{AddsTables, AreUpTo, IsTablesOf, PassesKeys, with_joins};
 ghost use Rattle.keep_rules.specs.Lookup.{HasNode};
 ghost use Rattle.keep_rules.specs.MentionInfos.{with_info, with_mentions};
 ghost use Rattle.keep_rules.specs.ReadDocuments.{IsIndexOf};
 ghost use Rattle.keep_rules.specs.Represents.{key_path};
 
 use super::Index;
-use keep_index_store::{Holds, Join, NodeFacts, NotInPlace, Tree};
+use keep_index_store::{HeaderFacts, Holds, Join, NodeFacts, NotInPlace, Tree};
 use keep_types::{Kind, Origin, Role};
 
 impl Index {
     /// A header `[..]` with these keys comes after the document, as the statement with that number, whose first key
-    /// part has the number `key`. It may be that only its last key has no node yet.
+    /// part has the number `key`. Keys from one on may have no node yet.
     ///
     /// # Errors
     ///
-    /// `NotInPlace` where another key has no node, or the last one has one, or its parent takes no keys, or there is no
+    /// `NotInPlace` where the last key has a node, or a table that the header goes on in takes no keys, or there is no
     /// key; where a number would not fit; and where memory was refused. Then nothing has changed, and the index has to
     /// be built anew.
     pub fn append_table(
@@ -43,12 +44,21 @@ impl Index {
         let Some((last, leading)) = keys.split_last() else {
             return Err(NotInPlace);
         };
-        let Some(part) = key.checked_add(leading.len()) else {
+        if key.checked_add(leading.len()).is_none() {
             return Err(NotInPlace);
-        };
+        }
         let mut joins = Vec::new(self.nodes.allocator());
-        let at = pass_keys(&self.nodes, &mut joins, leading, statement, key)?;
-        add_table(&mut self.nodes, &joins, at, last.as_str(), part, statement)
+        let (at, count) = pass_keys(&self.nodes, &mut joins, leading, statement, key)?;
+        let new = &leading[count..];
+        add_tables(
+            &mut self.nodes,
+            &joins,
+            at,
+            new,
+            last.as_str(),
+            key + count,
+            statement,
+        )
     }
 
     /// A header `[[..]]` with these keys comes after the document, as the statement with that number, whose first key
@@ -78,7 +88,10 @@ impl Index {
             return Err(NotInPlace);
         };
         let mut joins = Vec::new(self.nodes.allocator());
-        let at = pass_keys(&self.nodes, &mut joins, leading, statement, key)?;
+        let (at, count) = pass_keys(&self.nodes, &mut joins, leading, statement, key)?;
+        if count < leading.len() {
+            return Err(NotInPlace);
+        }
         let array = tables_below(&self.nodes, at, last.as_str())?;
         let tables = NodeFacts::named(Kind::Tables, part, Origin::Tables);
         push_join(&mut joins, array, tables)?;
@@ -86,44 +99,47 @@ impl Index {
     }
 }
 
-/// Goes down all keys of a header but its last, from the root, and gives the node that they lead to. What the header
-/// joins to the facts about the nodes that it goes through is put into `joins`.
+/// Goes down the leading keys of a header, from the root, as far as they have nodes: to which node, and by how many of
+/// them. What the header joins to the facts about the nodes that it goes through is put into `joins`.
 fn pass_keys(
     nodes: &Tree,
     joins: &mut Vec<Join>,
     keys: &[String],
     statement: usize,
     key: usize,
-) -> Result<usize, NotInPlace>
+) -> Result<(usize, usize), NotInPlace>
     requires trie { IsTrie nodes.now.trie }
     requires none { joins.old.items ≡ [] }
     requires fits { key + length keys.now < 2 ^ 64 }
-    ensures { IfOk result (PassesKeys nodes.now joins.new.items statement key (map string_bytes keys.now)) }
+    ensures few { IfOk result (λ passed. passed.1 ≤ length keys.now) }
+    ensures passes { IfOk result (λ passed. PassesKeys nodes.now joins.new.items statement key
+        (map string_bytes (take passed.1 keys.now)) passed.0) }
 {
     let mut at = 0;
     for (i, name) in keys.iter().enumerate() {
-        at = pass_key(nodes, joins, at, name.as_str(), key + i, statement)?;
+        let Some(child) = nodes.child(at, name.as_str()) else {
+            return Ok((at, i));
+        };
+        at = pass_node(nodes, joins, child, key + i, statement)?;
     }
-    Ok(at)
+    Ok((at, keys.len()))
 }
 
-/// Goes down one key more, the key part with that number: to its node, or from an array of tables to its last element.
-fn pass_key(
+/// Goes through the node of one key more, which is the key part with that number: on from this node, or from the last
+/// element of an array of tables.
+fn pass_node(
     nodes: &Tree,
     joins: &mut Vec<Join>,
-    at: usize,
-    text: &str,
+    child: usize,
     part: usize,
     statement: usize,
 ) -> Result<usize, NotInPlace>
-    requires { HasNode nodes.now.trie at }
-    ensures { (first : ℕ) (keys : List (List ℕ)) → PassesKeys nodes.now joins.old.items statement first keys at
-        → part ≡ first + length keys
-        → IfOk result (PassesKeys nodes.now joins.new.items statement first (keys ++ text.now ∷ [])) }
+    requires { HasNode nodes.now.trie child }
+    ensures { (first : ℕ) (keys : List (List ℕ)) (at : ℕ) (text : List ℕ)
+        → PassesKeys nodes.now joins.old.items statement first keys at
+        → path_at nodes.now.trie child ≡ key_path nodes.now.trie at text → part ≡ first + length keys
+        → IfOk result (PassesKeys nodes.now joins.new.items statement first (keys ++ text ∷ [])) }
 {
-    let Some(child) = nodes.child(at, text) else {
-        return Err(NotInPlace);
-    };
     let Kind::Tables = nodes.info(child).kind else {
         let through = NodeFacts::named(Kind::Table, part, Origin::Through(statement));
         push_join(joins, child, through)?;
@@ -148,38 +164,65 @@ fn push_join(joins: &mut Vec<Join>, id: usize, facts: NodeFacts) -> Result<(), N
     Ok(())
 }
 
-/// Joins what a header says of the nodes that it goes through to their facts, and adds the node of its table.
-fn add_table(
+/// Joins what a header says of the nodes that it goes through to their facts, and adds a table for each of its further
+/// keys, of which the first has no node yet.
+fn add_tables(
     nodes: &mut Tree,
     joins: &[Join],
     at: usize,
-    text: &str,
+    leading: &[String],
+    last: &str,
     part: usize,
     statement: usize,
 ) -> Result<(), NotInPlace>
     requires node { HasNode nodes.old.trie at }
     requires joins { AreUpTo 0 at joins.now }
-    ensures added { OnOk result (node_infos nodes.new
-        ≡ with_info (with_joins nodes.old joins.now) (key_path nodes.old.trie at text.now)
-        (named_info kind.Table part (origin.Header statement))) }
+    requires fits { part + length leading.now < 2 ^ 64 }
+    ensures added { OnOk result (AddsTables nodes.old nodes.new joins.now at part statement
+        (map string_bytes leading.now) last.now) }
     ensures tree { IsTrie nodes.new.trie × (holds_at nodes.new.trie 0 ≡ holds_at nodes.old.trie 0) }
     ensures refused { OnErr result (nodes.new ≡ nodes.old) }
 {
-    if !nodes.takes_keys(at) {
+    if !nodes.takes_keys(at) || nodes.child(at, first_of(leading, last)).is_some() {
         return Err(NotInPlace);
     }
-    if nodes.child(at, text).is_some() {
-        return Err(NotInPlace);
-    }
-    let table = NodeFacts::named(Kind::Table, part, Origin::Header(statement));
-    let role = Role::Define;
+    let facts = header_facts(part, part + leading.len(), statement);
     if nodes
-        .join_and_add_key(joins, at, text, role, table, Holds::Keys)
+        .join_and_add_keys(joins, at, leading, last, facts)
         .is_err()
     {
         return Err(NotInPlace);
     }
     Ok(())
+}
+
+/// The first of these keys.
+fn first_of<'a>(leading: &'a [String], last: &'a str) -> &'a str
+    ensures { result.now ≡ first_key (map string_bytes leading.now) last.now }
+{
+    match leading {
+        [name, ..] => name.as_str(),
+        [] => last,
+    }
+}
+
+/// The facts about the new nodes of a header `[..]`, of which the first is named by the key part `first`, and its own
+/// by `last`.
+fn header_facts(first: usize, last: usize, statement: usize) -> HeaderFacts
+    ensures through { info_of result.through ≡ named_info kind.Table first (origin.Through statement) }
+    ensures first { result.through.key ≡ first }
+    ensures own { info_of result.own ≡ named_info kind.Table last (origin.Header statement) }
+{
+    HeaderFacts {
+        through: NodeFacts {
+            role: Some(Role::Through),
+            ..NodeFacts::named(Kind::Table, first, Origin::Through(statement))
+        },
+        own: NodeFacts {
+            role: Some(Role::Define),
+            ..NodeFacts::named(Kind::Table, last, Origin::Header(statement))
+        },
+    }
 }
 
 /// The node of an array of tables, which a key of a node names and which has an element.

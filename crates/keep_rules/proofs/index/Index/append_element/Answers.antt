@@ -1,7 +1,8 @@
 -- What is joined to the nodes that the header goes through, and what its new node has, is what the header says.
-use Rattle.std.proofs.Common.{◌≡◌, ◌+◌, ◌∷◌, ◌++◌, [], List, ℕ, length, map, ◌∙◌, ap, arith, subst, sym}
-use Rattle.std.specs.Prelude.{string_bytes}
-use Rattle.std.proofs.lemmas.List.{length-map}
+use Rattle.std.proofs.Common.{◌≡◌, ◌+◌, ◌∷◌, ◌++◌, [], List, ℕ, length, map, take, ◌∙◌, ap, arith, subst, sym}
+use Rattle.std.specs.Prelude.{String, string_bytes}
+use Rattle.std.proofs.lemmas.List.{length-map, take_all}
+use Rattle.std.specs.Global.{Global}
 use Rattle.std.proofs.lemmas.Result.{on_ok_weaker}
 use Rattle.keep_index_store.specs.declared.tree.joining.Join.{Join}
 use Rattle.keep_index_store.specs.Facts.{unnamed_info}
@@ -13,7 +14,7 @@ use Rattle.keep_types.specs.declared.node.Kind.TheVariants as kind
 use Rattle.keep_types.specs.declared.node.Origin.TheVariants as origin
 use Rattle.keep_path.specs.NodeInfos.{NodeInfos}
 use Rattle.keep_path.specs.Path.{index}
-use Rattle.keep_rules.specs.HeaderJoins.{AreUpTo, with_joins}
+use Rattle.keep_rules.specs.HeaderJoins.{AreUpTo, PassesKeys, with_joins}
 use Rattle.keep_rules.specs.MentionInfos.{with_info, with_mentions}
 use Rattle.keep_rules.specs.ReadDocuments.{IsIndexOf}
 use Rattle.keep_rules.proofs.HeaderJoinLemmas.{all_keys, element_known, tables_ascend}
@@ -23,7 +24,7 @@ pub add_element-requires-clause-joins : goal.add_element-requires-clause-joins
 add_element-requires-clause-joins c =
     subst (AreUpTo 0 c.in_ok-array.array) (sym (c.deref.ensures.value ∙ c.in_ok-push_join.ensures))
     (tables_ascend c.self.inside.nodes c.self.invariant.0 c.pass_keys.new.joins.items c.args.statement c.args.key
-    (map string_bytes c.in-Some.leading.now) c.in_ok-at.at c.in_ok-at.ensures
+    (map string_bytes (take c.in_ok-at.count c.in-Some.leading.now)) c.in_ok-at.at c.in_ok-at.ensures.passes
     c.as_str.result.now c.in_ok-array.array c.in_ok-array.ensures c.named-tables.result)
 
 pub returns-clause-stated : goal.returns-clause-stated
@@ -32,6 +33,11 @@ returns-clause-stated c = λ d of numbers.
     let array = c.in_ok-array.array in
     let joins = c.pass_keys.new.joins.items in
     let leading : List (List ℕ) = map string_bytes c.in-Some.leading.now in
+    let all : take c.in_ok-at.count c.in-Some.leading.now ≡ c.in-Some.leading.now =
+    take_all c.in_ok-at.count c.in-Some.leading.now (omega (arith, c.if-count-leading.false)) in
+    let passes : PassesKeys old joins c.args.statement c.args.key leading c.in_ok-at.at =
+    subst (λ (ks : List (String Global)).
+    PassesKeys old joins c.args.statement c.args.key (map string_bytes ks) c.in_ok-at.at) all c.in_ok-at.ensures.passes in
     let many : c.in-Some-checked_add.part ≡ c.args.key + length leading =
     omega (arith, length-map c.in-Some.leading.now string_bytes) in
     let same : node_infos old ≡ c.args.self.now = c.self.view_is in
@@ -39,7 +45,7 @@ returns-clause-stated c = λ d of numbers.
     all_keys c.args.keys.now c.in-Some.leading.now c.in-Some.last.now c.as_str.result.now c.in-Some.ensures.cases.0
     c.as_str.ensures.value in
     on_ok_weaker c.add_element.result (λ is.
-    element_known old joins c.args.statement c.args.key leading c.in_ok-at.at c.in_ok-at.ensures c.as_str.result.now
+    element_known old joins c.args.statement c.args.key leading c.in_ok-at.at passes c.as_str.result.now
     c.in-Some-checked_add.part many d (subst (IsIndexOf d) (sym same) of) numbers
     c.self.invariant.0 array c.in_ok-array.ensures c.named-tables.result c.named-tables.ensures.info
     (node_infos c.add_element.new.nodes)

@@ -1,6 +1,6 @@
--- What is joined to the nodes that the header goes through, and what its new node has, is what the header says.
-use Rattle.std.proofs.Common.{◌≡◌, ◌+◌, ◌∷◌, ◌++◌, [], List, ℕ, length, map, ◌∙◌, ap, arith, subst, sym}
-use Rattle.std.proofs.lemmas.List.{length-map}
+-- What is joined to the nodes that the header goes through, and what its new nodes have, is what the header says.
+use Rattle.std.proofs.Common.{◌≡◌, ◌+◌, ◌-◌, ◌∷◌, ◌++◌, [], List, ℕ, drop, length, map, take, ◌∙◌, ap, arith, subst, sym}
+use Rattle.std.proofs.lemmas.List.{length-map, length-drop, length-take-le, map-append, take-append-drop, take_all}
 use Rattle.std.proofs.lemmas.Result.{on_ok_weaker}
 use Rattle.std.specs.Prelude.{string_bytes}
 use Rattle.keep_index_store.specs.declared.tree.joining.Join.{Join}
@@ -8,37 +8,43 @@ use Rattle.keep_index_store.specs.Tree.{node_infos}
 use Rattle.keep_meaning.specs.Marks.{header}
 use Rattle.keep_meaning.specs.StatementsMore.{said_next}
 use Rattle.keep_path.specs.NodeInfos.{NodeInfos}
-use Rattle.keep_rules.specs.HeaderJoins.{AreUpTo, PassesKeys}
+use Rattle.keep_rules.specs.HeaderJoins.{PassesKeys}
 use Rattle.keep_rules.specs.MentionInfos.{with_mentions}
 use Rattle.keep_rules.specs.ReadDocuments.{IsIndexOf}
-use Rattle.keep_rules.proofs.HeaderJoinLemmas.{all_keys, table_known}
+use Rattle.keep_rules.proofs.HeaderJoinLemmas.{all_keys}
+use Rattle.keep_rules.proofs.NewTablesLemmas.{tables_known}
 use Rattle.keep_rules.proofs.index.Index.append_table.Goals as goal
-
-pub pass_keys-requires : goal.pass_keys-requires
-pass_keys-requires c = record { trie = c.self.invariant.0; none = c.new-joins.ensures.items; fits = omega arith }
-
-pub add_table-requires : goal.add_table-requires
-add_table-requires c = record {
-  node = record { trie = c.self.invariant.0; within = c.in_ok-at.ensures.within };
-  joins = subst (AreUpTo 0 c.in_ok-at.at) (sym c.deref.ensures.value) c.in_ok-at.ensures.ascending;
-}
 
 pub returns-clause-stated : goal.returns-clause-stated
 returns-clause-stated c = λ d of numbers.
     let old = c.self.inside.nodes in
-    let leading : List (List ℕ) = map string_bytes c.in-Some.leading.now in
-    let passes : PassesKeys old c.deref.result.now c.args.statement c.args.key leading c.in_ok-at.at =
-    subst (λ (js : List Join). PassesKeys old js c.args.statement c.args.key leading c.in_ok-at.at)
-    (sym c.deref.ensures.value) c.in_ok-at.ensures in
-    let many : c.in-Some-checked_add.part ≡ c.args.key + length leading =
-    omega (arith, length-map c.in-Some.leading.now string_bytes) in
+    let leading = c.in-Some.leading.now in
+    let passed : List (List ℕ) = map string_bytes (take c.in_ok-at.count leading) in
+    let rest = take (length leading - c.in_ok-at.count) (drop c.in_ok-at.count leading) in
+    let further : List (List ℕ) = map string_bytes rest in
+    let all : rest ≡ drop c.in_ok-at.count leading =
+    take_all (length leading - c.in_ok-at.count) (drop c.in_ok-at.count leading)
+    (omega (arith, length-drop c.in_ok-at.count leading)) in
+    let passes : PassesKeys old c.deref.result.now c.args.statement c.args.key passed c.in_ok-at.at =
+    subst (λ (js : List Join). PassesKeys old js c.args.statement c.args.key passed c.in_ok-at.at)
+    (sym c.deref.ensures.value) c.in_ok-at.ensures.passes in
+    let many : c.args.key + c.in_ok-at.count ≡ c.args.key + length passed =
+    ap (λ (n : ℕ). c.args.key + n)
+    (sym (length-map (take c.in_ok-at.count leading) string_bytes
+    ∙ length-take-le c.in_ok-at.count leading c.in_ok-at.ensures.few)) in
     let same : node_infos old ≡ c.args.self.now = c.self.view_is in
-    let keys : leading ++ c.as_str.result.now ∷ [] ≡ map string_bytes c.args.keys.now =
-    all_keys c.args.keys.now c.in-Some.leading.now c.in-Some.last.now c.as_str.result.now c.in-Some.ensures.cases.0
+    let whole : passed ++ further ≡ map string_bytes leading =
+    ap (λ xs. passed ++ map string_bytes xs) all
+    ∙ sym (map-append string_bytes (take c.in_ok-at.count leading) (drop c.in_ok-at.count leading))
+    ∙ ap (map string_bytes) (take-append-drop c.in_ok-at.count leading) in
+    let keys : (passed ++ further) ++ c.as_str.result.now ∷ [] ≡ map string_bytes c.args.keys.now =
+    ap (λ (ks : List (List ℕ)). ks ++ c.as_str.result.now ∷ []) whole
+    ∙ all_keys c.args.keys.now leading c.in-Some.last.now c.as_str.result.now c.in-Some.ensures.cases.0
     c.as_str.ensures.value in
-    on_ok_weaker c.add_table.result (λ is.
-    table_known old c.deref.result.now c.args.statement c.args.key leading c.in_ok-at.at passes c.as_str.result.now
-    c.in-Some-checked_add.part many d (subst (IsIndexOf d) (sym same) of) numbers (node_infos c.add_table.new.nodes) is
+    on_ok_weaker c.add_tables.result (λ adds.
+    tables_known old c.add_tables.new.nodes c.self.invariant.0 c.deref.result.now c.args.statement c.args.key passed
+    c.in_ok-at.at passes further c.as_str.result.now (c.args.key + c.in_ok-at.count) many adds d
+    (subst (IsIndexOf d) (sym same) of) numbers
     ∙ ap (λ (ks : List (List ℕ)). with_mentions (node_infos old) (said_next d (header ks))) keys
     ∙ ap (λ (t : NodeInfos). with_mentions t (said_next d (header (map string_bytes c.args.keys.now)))) same)
-    c.add_table.ensures.added
+    c.add_tables.ensures.added
