@@ -6,7 +6,7 @@
 --
 -- Theorems: `next_place` and `last_place`: each key has its place; `keys_added`: what has come; `taken_back`: back again.
 use Rattle.std.proofs.Common.{◌≡◌, ℕ, zero, suc, ◌+◌, ◌-◌, ◌<◌, ◌≤◌, List, [], ◌∷◌, ◌++◌, length, get_or, map, set}
-use Rattle.std.proofs.Common.{take, refl, sym, ap, subst, ◌∙◌, arith, None}
+use Rattle.std.proofs.Common.{take, refl, sym, ap, subst, ◌∙◌, arith, None, Some}
 use Rattle.std.specs.Global.{Global}
 use Rattle.std.specs.Prelude.{String, string_bytes}
 use Rattle.std.specs.List.{remove}
@@ -16,11 +16,12 @@ use Rattle.std.proofs.lemmas.List.Edits.{remove-append_right}
 use Rattle.std.proofs.Math.Seq.{take-append_seam, take-set-lt}
 use Rattle.keep_index_store.specs.declared.facts.NodeFacts.{NodeFacts}
 use Rattle.keep_index_store.specs.declared.tree.joining.HeaderFacts.{HeaderFacts}
-use Rattle.keep_index_store.specs.AllNodes.{Node, and_key, no_node, node_at, with_children, with_key_below}
+use Rattle.keep_index_store.specs.AllNodes.{Node, and_item, and_key, no_node, node_at, with_children, with_key_below}
 use Rattle.keep_index_store.specs.Children.{ChildList, Bare, Keyed, Listed, child_ids, child_named, holds_of, named, no_children}
-use Rattle.keep_index_store.specs.KeysBelow.{HasBegun, first_key, last_table, next_facts, with_keys_below}
+use Rattle.keep_index_store.specs.KeysBelow.{HasBegun, first_key, last_table, next_facts, own_holding}
+use Rattle.keep_index_store.specs.KeysBelow.{with_element, with_element_below, with_header_below, with_keys_below}
 use Rattle.keep_index_store.specs.KeysBelow.{with_tables_below}
-use Rattle.keep_index_store.specs.Trie.{Holding, by_key}
+use Rattle.keep_index_store.specs.Trie.{Holding, by_index, by_key}
 use Rattle.keep_index_store.proofs.StoredLemmas.{last_added, length_added}
 
 -- ---- one node
@@ -182,15 +183,87 @@ tables_many nodes parent f (k ∷ ks) =
 pub all_begun : (old : List Node) (parent : ℕ) (facts : HeaderFacts) (ks : List (List ℕ)) (last : List ℕ)
     → HasPlaceFor old parent (first_key ks last)
     → HasBegun old (with_keys_below old parent facts ks last) parent (first_key ks last)
-all_begun old parent facts [] last h = begun_first old parent last by_key facts.own h.within h.keyed
+all_begun old parent facts [] last h =
+    begun_first old parent last (own_holding facts.element) facts.own h.within h.keyed
 all_begun old parent facts (k ∷ ks) last h =
     let mid : List Node = with_key_below old parent k by_key facts.through in
     let any : length old < length mid = omega (arith, one_more old parent k by_key facts.through) in
     begun_more old parent k (with_tables_below mid (length old) (next_facts facts.through) ks)
-    (last_table mid (length old) (next_facts facts.through) ks) last by_key facts.own
+    (last_table mid (length old) (next_facts facts.through) ks) last (own_holding facts.element) facts.own
     (has_begun old parent facts.through (k ∷ ks) last h)
     (omega (arith, any, tables_many mid (length old) (next_facts facts.through) ks))
     (last_later old mid (length old) (next_facts facts.through) ks any (omega arith))
+
+-- ---- the element
+
+-- the node that comes last is bare, and holds what it may
+module _ (nodes : List Node) (parent : ℕ) (facts : HeaderFacts) (ks : List (List ℕ)) (last : List ℕ) where
+  abbrev below : List Node
+  below = with_tables_below nodes parent facts.through ks
+
+  abbrev all : List Node
+  all = with_keys_below nodes parent facts ks last
+
+  last_is : length all - 1 ≡ length below
+  last_is =
+      omega (arith, one_more below (last_table nodes parent facts.through ks) last (own_holding facts.element) facts.own)
+
+  last_row : node_at all (length all - 1) ≡ record {
+    parent = last_table nodes parent facts.through ks;
+    number = length (child_ids (node_at below (last_table nodes parent facts.through ks)).children);
+    children = no_children (own_holding facts.element);
+    facts = facts.own;
+  }
+  last_row =
+      ap (node_at all) last_is
+      ∙ new_node below (last_table nodes parent facts.through ks) last (own_holding facts.element) facts.own
+
+  pub keys_many : length nodes < length all
+  keys_many =
+      omega (
+        arith,
+        one_more below (last_table nodes parent facts.through ks) last (own_holding facts.element) facts.own,
+        tables_many nodes parent facts.through ks,
+      )
+
+  pub array_within : length all - 1 < length all
+  array_within =
+      omega (arith, one_more below (last_table nodes parent facts.through ks) last (own_holding facts.element) facts.own)
+
+  module _ (element : NodeFacts) (is : facts.element ≡ Some element) where
+    pub array_listed : holds_of (node_at all (length all - 1)).children ≡ by_index
+    array_listed =
+        ap (λ (n : Node). holds_of n.children) last_row ∙ ap (λ o. holds_of (no_children (own_holding o))) is
+
+    pub array_bare : child_ids (node_at all (length all - 1)).children ≡ []
+    array_bare = ap (λ (n : Node). child_ids n.children) last_row ∙ ap (λ o. child_ids (no_children (own_holding o))) is
+
+    pub header_is : (new : List Node) → new ≡ with_element_below all (length all - 1) element
+        → new ≡ with_header_below nodes parent facts ks last
+    header_is more new_is = new_is ∙ ap (with_element all) (sym is)
+
+  pub header_bare : facts.element ≡ None → all ≡ with_header_below nodes parent facts ks last
+  header_bare is = ap (with_element all) (sym is)
+
+pub element_begun : (old : List Node) (parent : ℕ) (text : List ℕ) (mid : List Node) (array : ℕ) (facts : NodeFacts)
+    → HasBegun old mid parent text → length old < length mid → length old ≤ array
+    → HasBegun old (with_element_below mid array facts) parent text
+element_begun old parent text mid array facts h any later =
+    let changed : Node = record (node_at mid array) {
+      children = and_item (node_at mid array).children (length mid);
+    } in
+    let row : Node = record { parent = array; number = 0; children = no_children by_key; facts = facts } in
+    let many : length (with_element_below mid array facts) ≡ length mid + 1 = length_added mid array changed row in
+    record {
+      within = h.within;
+      keyed = h.keyed;
+      longer = omega (arith, many, any);
+      none = λ same. absurd (omega (arith, many, same, any));
+      some = λ more.
+          take-append-le (length old) (set mid array changed) (row ∷ [])
+          (omega (arith, any, length-set mid array changed))
+          ∙ take-set-le (length old) mid array changed later ∙ h.some any;
+    }
 
 -- ---- back again
 
@@ -329,14 +402,16 @@ module _ (old : List Node) (parent : ℕ) (facts : HeaderFacts) (keys : List (St
       pub tables_begun : HasBegun old now parent (first_key (map string_bytes keys) last)
       tables_begun = some_begun last (ap (λ ks. first_key ks last) whole)
 
-      pub keys_added : (more : List Node) → more ≡ with_key_below now at last by_key facts.own
+      pub keys_added : (more : List Node) → more ≡ with_key_below now at last (own_holding facts.element) facts.own
           → more ≡ with_keys_below old parent facts (map string_bytes keys) last
       keys_added more new_is =
-          new_is ∙ ap (λ ns. with_key_below ns at last by_key facts.own) is
-          ∙ ap (λ n. with_key_below (with_tables_below old parent facts.through so_far) n last by_key facts.own) at_is
+          new_is ∙ ap (λ ns. with_key_below ns at last (own_holding facts.element) facts.own) is
+          ∙ ap (λ n.
+          with_key_below (with_tables_below old parent facts.through so_far) n last (own_holding facts.element) facts.own)
+          at_is
           ∙ ap (λ ks. with_keys_below old parent facts ks last) whole
 
-      pub keys_begun : (more : List Node) → more ≡ with_key_below now at last by_key facts.own
+      pub keys_begun : (more : List Node) → more ≡ with_key_below now at last (own_holding facts.element) facts.own
           → HasBegun old more parent (first_key (map string_bytes keys) last)
       keys_begun more new_is =
           subst (λ ns. HasBegun old ns parent (first_key (map string_bytes keys) last)) (sym (keys_added more new_is))

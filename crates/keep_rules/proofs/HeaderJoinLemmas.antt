@@ -6,7 +6,7 @@
 -- (`last_entered`).
 --
 -- Theorems: `no_keys_passed`, `through_key` and `past_key`: the keys that have nodes; `element_known`: a whole header
--- `[[..]]`.
+-- `[[..]]` whose array of tables is there.
 use Rattle.std.proofs.Common.{◌≡◌, ℕ, suc, ◌+◌, ◌-◌, ◌<◌, ◌≤◌, true, false, List, [], ◌∷◌, ◌++◌, length, get_or, map}
 use Rattle.std.proofs.Common.{set, take, refl, sym, ap, subst, ◌∙◌, arith, length-append, inl, inr, Option, Some}
 use Rattle.std.proofs.Common.{Result, Ok, Err}
@@ -25,12 +25,12 @@ use Rattle.keep_syntax.specs.Tree.{Document}
 use Rattle.keep_path.specs.NodeInfos.{NodeInfos, no_info}
 use Rattle.keep_path.specs.Path.{Part, key, index}
 use Rattle.keep_meaning.specs.Counts.{Count, Numbered, count_after, count_with_mention, numbered_mentions}
-use Rattle.keep_meaning.specs.Marks.{Mention, begun, element, element_header, elements_of, entered_path}
-use Rattle.keep_meaning.specs.Marks.{header_prefixes, passed, passing_mentions, past, through}
+use Rattle.keep_meaning.specs.Marks.{Mention, element_header, elements_of, entered_path}
+use Rattle.keep_meaning.specs.Marks.{passed, passing_mentions, past, through}
 use Rattle.keep_meaning.specs.Meaning.{mentions_in}
 use Rattle.keep_meaning.specs.Nodes.{children, node_number, node_paths}
 use Rattle.keep_meaning.specs.StatementsMore.{AreNumbersAtEnd, count_at_end, said_next}
-use Rattle.keep_meaning.proofs.Shared.{numbered_mentions-append, paths-nodes_in}
+use Rattle.keep_meaning.proofs.Shared.{paths-nodes_in}
 use Rattle.keep_index_store.specs.declared.facts.NodeFacts.{NodeFacts}
 use Rattle.keep_index_store.specs.declared.tree.joining.Join.{Join}
 use Rattle.keep_index_store.specs.Facts.{info_of, joined_info, named_info, passed_info, unnamed_info}
@@ -47,11 +47,11 @@ use Rattle.keep_rules.specs.ReadDocuments.{IsIndexOf}
 use Rattle.keep_rules.proofs.AddedInfoLemmas.{with_info_fresh, with_info_there}
 use Rattle.keep_rules.proofs.ElementLemmas.{tables_none, tables_some}
 use Rattle.keep_rules.proofs.KeyWalkInfoLemmas.{header_counts}
-use Rattle.keep_rules.proofs.KeyWalkLemmas.{descent_mentions-append, descent_path-append, header_path-split}
-use Rattle.keep_rules.proofs.KeyWalkLemmas.{header_prefixes-split}
+use Rattle.keep_rules.proofs.LastKeyLemmas.{HasGone, begin_known, mentions_then}
+use Rattle.keep_rules.proofs.KeyWalkLemmas.{descent_mentions-append, descent_path-append}
 use Rattle.keep_rules.proofs.LookupLemmas.{count_is, nth_is, number_is, number_some}
-use Rattle.keep_rules.proofs.MentionInfoLemmas.{begun_info, element_info, passed_is_info, past_info}
-use Rattle.keep_rules.proofs.MentionInfoLemmas.{through_info, with_mentions-append}
+use Rattle.keep_rules.proofs.MentionInfoLemmas.{passed_is_info, past_info}
+use Rattle.keep_rules.proofs.MentionInfoLemmas.{through_info}
 use Rattle.keep_rules.proofs.PassLemmas.{entered-none, entered-some, passing-none, passing-some}
 
 -- ---- ascending nodes
@@ -120,15 +120,6 @@ one_joined t trie joins id facts h =
     (joined_all-append t.infos joins (record { id = id; facts = facts } ∷ []))
     ∙ sym (with_info_there (with_joins t joins) (path_at t.trie id) (info_of facts) id trie.distinct
     (omega (arith, h, length-paths_of t.trie trie.root)) refl)
-
--- ---- mentions after others
-
-pub mentions_then : (t : NodeInfos) (c : Count) (ms ns : List Mention)
-    → with_mentions (with_mentions t (numbered_mentions c ms)) (numbered_mentions (count_after c ms) ns)
-    ≡ with_mentions t (numbered_mentions c (ms ++ ns))
-mentions_then t c ms ns =
-    sym (with_mentions-append t (numbered_mentions c ms) (numbered_mentions (count_after c ms) ns))
-    ∙ ap (with_mentions t) (sym (numbered_mentions-append c ms ns))
 
 descent_more : (tables : List (List Part)) (ks : List (List ℕ)) (x : List ℕ)
     → descent_mentions tables [] (ks ++ x ∷ []) ≡ descent_mentions tables [] ks
@@ -360,60 +351,43 @@ key_added old new joins at p state holds facts g infos =
     infos
     ∙ sym (with_info_fresh (with_joins old joins) p (info_of facts) g.fresh)
 
-module _ (t : TrieInfos) (joins : List Join) (statement number : ℕ) (keys : List (List ℕ)) (at : ℕ)
-    (passes : PassesKeys t joins statement number keys at) (text : List ℕ) (part : ℕ)
-    (numbered : part ≡ number + length keys) (d : Document) (of : IsIndexOf d (node_infos t))
-    (numbers : AreNumbersAtEnd d statement number) where
-  -- the whole header `[[..]]`, where its array of tables is there
-  pub element_known : IsTrie t.trie → (array : ℕ) → IsTablesOf t (path_at t.trie at ++ key text ∷ []) array
-      → (facts : NodeFacts) → info_of facts ≡ named_info kind.Tables part origin.Tables → (new : NodeInfos)
-      → new ≡ with_info (with_joins t (joins ++ record { id = array; facts = facts } ∷ []))
-      (path_at t.trie array ++ index (length (children_of t.trie array)) ∷ [])
-      (unnamed_info kind.Table (origin.Element statement))
-      → new ≡ with_mentions (node_infos t) (said_next d (element_header (keys ++ text ∷ [])))
-  element_known trie array tables facts info new added =
-      let ts : List (List Part) = tables_at_end d in
-      let c : Count = count_at_end d in
-      let ms : List Mention = descent_mentions ts [] keys in
-      let count : Count = count_after c ms in
-      let path : List Part = descent_path ts [] keys ++ key text ∷ [] in
-      let own : List Part = path ++ index (elements_of path ts) ∷ [] in
-      let begins : NodeInfo = unnamed_info kind.Table (origin.Element statement) in
-      let m : Mention = record { path = path; kind = element } in
-      let m' : Mention = record { path = own; kind = begun } in
-      let n : Numbered = record { mention = m; before = count } in
-      let n' : Numbered = record { mention = m'; before = count_with_mention count m } in
-      let key_counted : count.keys ≡ part =
-      (header_counts ts [] keys c).keys ∙ ap (λ (k : ℕ). k + length keys) numbers.keys ∙ sym numbered in
-      let counted : count.statements ≡ statement = (header_counts ts [] keys c).statements ∙ numbers.statements in
-      let full : path_at t.trie array ≡ path =
-      tables.here ∙ ap (λ (p : List Part). p ++ key text ∷ []) (passes.leads d of) in
-      added
-      ∙ ap (λ (k : ℕ).
-      with_info (with_joins t (joins ++ record { id = array; facts = facts } ∷ []))
-      (path_at t.trie array ++ index k ∷ []) begins) (sym (tables.counted d of))
-      ∙ ap (λ (s : NodeInfos).
-      with_info s (path_at t.trie array ++ index (elements_of (path_at t.trie array) ts) ∷ []) begins)
-      (one_joined t trie joins array facts tables.within)
-      ∙ ap (λ (p : List Part).
-      with_info (with_info (with_joins t joins) p (info_of facts)) (p ++ index (elements_of p ts) ∷ []) begins) full
-      ∙ ap (λ (i : NodeInfo). with_info (with_info (with_joins t joins) path i) own begins)
-      (info ∙ sym (element_info n part refl key_counted))
-      ∙ ap (λ (s : ℕ).
-      with_info (with_info (with_joins t joins) path (mention_info n)) own (unnamed_info kind.Table (origin.Element s)))
-      (sym counted)
-      ∙ ap (λ (i : NodeInfo). with_info (with_info (with_joins t joins) path (mention_info n)) own i)
-      (sym (begun_info n' refl))
-      ∙ ap (λ (s : NodeInfos). with_mentions s (numbered_mentions count (m ∷ m' ∷ [])))
-      (passes.joined d of c numbers.keys numbers.statements)
-      ∙ mentions_then (node_infos t) c ms (m ∷ m' ∷ [])
-      ∙ ap (λ (w : List Mention). with_mentions (node_infos t) (numbered_mentions c (w ++ m ∷ m' ∷ [])))
-      (sym (header_prefixes-split ts [] keys text))
-      ∙ ap (λ (p : List Part).
-      with_mentions (node_infos t) (numbered_mentions c
-      (header_prefixes ts [] (keys ++ text ∷ []) ++ record { path = p; kind = element }
-      ∷ record { path = p ++ index (elements_of p ts) ∷ []; kind = begun } ∷ [])))
-      (sym (header_path-split ts [] keys text))
+-- the keys but the last have nodes
+pub keys_gone : (t : TrieInfos) (joins : List Join) (statement number : ℕ) (keys : List (List ℕ)) (at : ℕ)
+    → PassesKeys t joins statement number keys at → (d : Document) → IsIndexOf d (node_infos t)
+    → AreNumbersAtEnd d statement number → HasGone d (node_infos t) (with_joins t joins) (path_at t.trie at) keys
+keys_gone t joins statement number keys at passes d of numbers = record {
+  leads = passes.leads d of;
+  said = passes.joined d of (count_at_end d) numbers.keys numbers.statements;
+}
+
+-- the whole header `[[..]]`, where its array of tables is there
+pub element_known : (t : TrieInfos) → IsTrie t.trie → (joins : List Join) (statement number : ℕ) (keys : List (List ℕ))
+    (at : ℕ) → PassesKeys t joins statement number keys at → (text : List ℕ) (part : ℕ)
+    → part ≡ number + length keys → (d : Document) → IsIndexOf d (node_infos t) → AreNumbersAtEnd d statement number
+    → (array : ℕ) → IsTablesOf t (path_at t.trie at ++ key text ∷ []) array → (facts : NodeFacts)
+    → info_of facts ≡ named_info kind.Tables part origin.Tables → (new : NodeInfos)
+    → new ≡ with_info (with_joins t (joins ++ record { id = array; facts = facts } ∷ []))
+    (path_at t.trie array ++ index (length (children_of t.trie array)) ∷ [])
+    (unnamed_info kind.Table (origin.Element statement))
+    → new ≡ with_mentions (node_infos t) (said_next d (element_header (keys ++ text ∷ [])))
+element_known t trie joins statement number keys at passes text part numbered d of numbers array tables facts info new
+    added =
+    let path : List Part = path_at t.trie at ++ key text ∷ [] in
+    let begins : NodeInfo = unnamed_info kind.Table (origin.Element statement) in
+    let many : length (children_of t.trie array) ≡ elements_of path (tables_at_end d) =
+    sym (tables.counted d of) ∙ ap (λ (p : List Part). elements_of p (tables_at_end d)) tables.here in
+    added
+    ∙ ap (λ (s : NodeInfos).
+    with_info s (path_at t.trie array ++ index (length (children_of t.trie array)) ∷ []) begins)
+    (one_joined t trie joins array facts tables.within)
+    ∙ ap (λ (p : List Part).
+    with_info (with_info (with_joins t joins) p (info_of facts))
+    (p ++ index (length (children_of t.trie array)) ∷ []) begins) tables.here
+    ∙ ap (λ (i : NodeInfo).
+    with_info (with_info (with_joins t joins) path i) (path ++ index (length (children_of t.trie array)) ∷ []) begins) info
+    ∙ begin_known d (node_infos t) (with_joins t joins) (path_at t.trie at) keys
+    (keys_gone t joins statement number keys at passes d of numbers) statement number numbers text part numbered
+    (length (children_of t.trie array)) many
 
 -- ---- an array of tables
 

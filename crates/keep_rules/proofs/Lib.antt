@@ -46,6 +46,7 @@ mod ValueNestedLaws
 pub mod LinePlaceLemmas
 mod DocumentLemmas
 mod ElementLemmas
+mod LastKeyLemmas
 mod HeaderJoinLemmas
 mod NewTablesLemmas
 mod RefusalLaws

@@ -9,9 +9,10 @@ use Rattle.keep_meaning.specs.Counts.{Count, numbered_mentions}
 use Rattle.keep_meaning.specs.Marks.{elements_of}
 use Rattle.keep_meaning.specs.StatementsMore.{reading_at_end}
 use Rattle.keep_index_store.specs.declared.tree.joining.Join.{Join}
-use Rattle.keep_index_store.specs.Facts.{named_info}
+use Rattle.keep_index_store.specs.declared.tree.joining.HeaderFacts.{HeaderFacts}
+use Rattle.keep_index_store.specs.Facts.{info_of, named_info}
 use Rattle.keep_index_store.specs.Joined.{joined_all}
-use Rattle.keep_index_store.specs.KeysBelow.{first_key}
+use Rattle.keep_index_store.specs.KeysBelow.{AddsKeys, first_key}
 use Rattle.keep_index_store.specs.Tree.{TrieInfos, node_infos}
 use Rattle.keep_index_store.specs.Trie.{by_index, children_of, holds_at, path_at, paths_of}
 use Rattle.keep_rules.specs.Descents.{descent_mentions, descent_path}
@@ -44,21 +45,24 @@ pub record PassesKeys (t : TrieInfos) (joins : List Join) (statement first : ℕ
       → with_joins t joins
       ≡ with_mentions (node_infos t) (numbered_mentions c (descent_mentions (tables_at_end d) [] keys))
 
--- with a table more for each of these keys, each below the one before it and the first below that path: the header goes
--- through those of the leading keys, of which the first has the number `part`, and defines the last
-abbrev pub with_tables : NodeInfos → List Part → ℕ → ℕ → List (List ℕ) → List ℕ → NodeInfos
-with_tables t path part statement [] last =
-    with_info t (path ++ key last ∷ []) (named_info kind.Table part (origin.Header statement))
-with_tables t path part statement (k ∷ ks) last =
-    with_tables (with_info t (path ++ key k ∷ []) (named_info kind.Table part (origin.Through statement)))
-    (path ++ key k ∷ []) (suc part) statement ks last
+-- with a table more for each of these keys, which a header goes through, each below the one before it and the first
+-- below that path; the first key has the number `part`
+abbrev pub with_through : NodeInfos → List Part → ℕ → ℕ → List (List ℕ) → NodeInfos
+with_through t path part statement [] = t
+with_through t path part statement (k ∷ ks) =
+    with_through (with_info t (path ++ key k ∷ []) (named_info kind.Table part (origin.Through statement)))
+    (path ++ key k ∷ []) (suc part) statement ks
 
--- These facts are joined to those of their nodes, and below the node `at`, where the first of these keys had no node,
--- each key has a table.
-pub record AddsTables (old new : TrieInfos) (joins : List Join) (at part statement : ℕ) (leading : List (List ℕ))
-    (last : List ℕ) : Type 0 where
+-- the facts of the tables that a header of that statement goes through, of which the first has that key part
+pub record IsThrough (facts : HeaderFacts) (part statement : ℕ) : Type 0 where
+  pub info : info_of facts.through ≡ named_info kind.Table part (origin.Through statement)
+  pub first : facts.through.key ≡ part
+
+-- These facts are joined to those of their nodes, and each of these keys, of which the first had no node, has one.
+pub record AddsHeader (old new : TrieInfos) (joins : List Join) (at : ℕ) (leading : List (List ℕ)) (last : List ℕ)
+    (facts : HeaderFacts) : Type 0 where
   pub fresh : Contains (paths_of old.trie) (path_at old.trie at ++ key (first_key leading last) ∷ []) → ⊥
-  pub tables : node_infos new ≡ with_tables (with_joins old joins) (path_at old.trie at) part statement leading last
+  pub adds : AddsKeys old new joins at leading last facts
 
 -- the array of tables at a path: it has as many elements as the document has `[[..]]` lines with the path
 pub record IsTablesOf (t : TrieInfos) (path : List Part) (array : ℕ) : Type 0 where

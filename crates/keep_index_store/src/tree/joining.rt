@@ -6,7 +6,7 @@ ghost use Rattle.keep_index_store.specs.Children.{holding};
 ghost use Rattle.keep_index_store.specs.Facts.{info_of};
 ghost use Rattle.keep_index_store.specs.Growth.{Grows};
 ghost use Rattle.keep_index_store.specs.Joined.{AreAscending, AreJoined, HasRole, joined_all, with_all_infos};
-ghost use Rattle.keep_index_store.specs.KeysBelow.{AddsKeys, first_key};
+ghost use Rattle.keep_index_store.specs.KeysBelow.{AddsKeys, first_key, own_holding};
 ghost use Rattle.keep_index_store.specs.Trie.{by_index, by_key, children_of, holds_at, path_at, paths_of, states_of};
 ghost use Rattle.keep_path.specs.Path.{key, index};
 
@@ -25,17 +25,43 @@ pub struct Join {
 }
 
 /// The facts about the nodes that a header names and that are not there yet: those of the first of its leading keys, of
-/// which each further one is the next key part, and those of its last key.
+/// which each further one is the next key part; those of its last key; and, if that is an array of tables, those of
+/// its element.
 #[derive(Clone, Copy)]
 pub struct HeaderFacts {
     pub through: NodeFacts,
     pub own: NodeFacts,
+    pub element: Option<NodeFacts>,
+}
+
+impl HeaderFacts {
+    /// What children the node of the last key may have.
+    pub(crate) fn holds(self) -> Holds
+        ensures { holding result ≡ own_holding self.element }
+    {
+        match self.element {
+            None => Holds::Keys,
+            Some(_) => Holds::Items,
+        }
+    }
 }
 
 impl Tree {
-    /// Joins these facts to those of their nodes, whose roles stay, and adds a table for each of the leading keys and
-    /// for the last one, each below the one before it, and the first below `parent`, where no node has its path yet.
-    /// If memory runs out, nothing is changed.
+    /// Joins these facts to those of their nodes, whose roles stay. If memory runs out, nothing is changed.
+    pub fn join_all(&mut self, joins: &[Join]) -> Result<(), AllocError>
+        requires joins { AreAscending 0 (length self.old.trie) joins.now }
+        ensures same { self.new.trie ≡ self.old.trie }
+        ensures infos { OnOk result (self.new.infos ≡ joined_all self.old.infos joins.now) }
+        ensures refused { OnErr result (self.new ≡ self.old) }
+    {
+        let joined = self.joined_all(joins)?;
+        self.set_all(joined);
+        Ok(())
+    }
+
+    /// Joins these facts to those of their nodes, whose roles stay, and adds a table for each of the leading keys, and a
+    /// table, or an array of tables with one element, for the last one. Each comes below the one before it, and the
+    /// first below `parent`, where no node has its path yet. If memory runs out, nothing is changed.
     pub fn join_and_add_keys(
         &mut self,
         joins: &[Join],
@@ -59,8 +85,9 @@ impl Tree {
         Ok(())
     }
 
-    /// Adds a table for each of the leading keys and for the last one, each below the one before it, and the first
-    /// below `parent`, where no node has its path yet. If memory runs out, nothing is changed.
+    /// Adds a table for each of the leading keys, and a table, or an array of tables with one element, for the last one.
+    /// Each comes below the one before it, and the first below `parent`, where no node has its path yet. If memory runs
+    /// out, nothing is changed.
     fn add_keys(
         &mut self,
         parent: usize,

@@ -1,6 +1,6 @@
 //! The index where a header comes at the end of its document: it changes in place.
-ghost use Rattle.std.specs.Prelude.{◌≡◌, ◌+◌, ◌<◌, ◌≤◌, ◌^◌, ◌∷◌, ◌++◌, [], ℕ, List, IfOk, OnErr, OnOk, length, map};
-ghost use Rattle.std.specs.Prelude.{string_bytes, take};
+ghost use Rattle.std.specs.Prelude.{◌≡◌, ◌+◌, ◌<◌, ◌≤◌, ◌^◌, ◌∷◌, ◌++◌, [], ℕ, List, IfOk, IfSome, IsSome, None, OnErr, OnOk};
+ghost use Rattle.std.specs.Prelude.{length, map, string_bytes, take};
 ghost use Rattle.keep_types.specs.declared.node.Kind.TheVariants as kind;
 ghost use Rattle.keep_types.specs.declared.node.Origin.TheVariants as origin;
 ghost use Rattle.keep_syntax.specs.Tree.{Document};
@@ -11,7 +11,7 @@ ghost use Rattle.keep_index_store.specs.Trie.{IsTrie, by_index, children_of, hol
 ghost use Rattle.keep_meaning.specs.Marks.{element_header, header};
 ghost use Rattle.keep_meaning.specs.StatementsMore.{AreNumbersAtEnd, said_next};
 ghost use Rattle.keep_path.specs.Path.{index};
-ghost use Rattle.keep_rules.specs.HeaderJoins.{AddsTables, AreUpTo, IsTablesOf, PassesKeys, with_joins};
+ghost use Rattle.keep_rules.specs.HeaderJoins.{AddsHeader, AreUpTo, IsTablesOf, IsThrough, PassesKeys, with_joins};
 ghost use Rattle.keep_rules.specs.Lookup.{HasNode};
 ghost use Rattle.keep_rules.specs.MentionInfos.{with_info, with_mentions};
 ghost use Rattle.keep_rules.specs.ReadDocuments.{IsIndexOf};
@@ -49,26 +49,26 @@ impl Index {
         }
         let mut joins = Vec::new(self.nodes.allocator());
         let (at, count) = pass_keys(&self.nodes, &mut joins, leading, statement, key)?;
-        let new = &leading[count..];
-        add_tables(
+        let facts = table_facts(key + count, key + leading.len(), statement);
+        add_header(
             &mut self.nodes,
             &joins,
             at,
-            new,
+            &leading[count..],
             last.as_str(),
-            key + count,
-            statement,
+            facts,
         )
     }
 
     /// A header `[[..]]` with these keys comes after the document, as the statement with that number, whose first key
-    /// part has the number `key`. It begins a further element of an array of tables that is there.
+    /// part has the number `key`. It begins a further element of an array of tables that is there, or the first one of
+    /// one that is not; keys before that may have no node yet.
     ///
     /// # Errors
     ///
-    /// `NotInPlace` where a key has no node, or the last one's is no array of tables, or there is no key; where a
-    /// number would not fit; and where memory was refused. Then nothing has changed, and the index has to be built
-    /// anew.
+    /// `NotInPlace` where the last key has a node that is no array of tables, or a table that the header goes on in
+    /// takes no keys, or there is no key; where a number would not fit; and where memory was refused. Then nothing has
+    /// changed, and the index has to be built anew.
     pub fn append_element(
         &mut self,
         keys: &[String],
@@ -89,8 +89,16 @@ impl Index {
         };
         let mut joins = Vec::new(self.nodes.allocator());
         let (at, count) = pass_keys(&self.nodes, &mut joins, leading, statement, key)?;
-        if count < leading.len() {
-            return Err(NotInPlace);
+        if count < leading.len() || self.nodes.child(at, last.as_str()).is_none() {
+            let facts = array_facts(key + count, part, statement);
+            return add_header(
+                &mut self.nodes,
+                &joins,
+                at,
+                &leading[count..],
+                last.as_str(),
+                facts,
+            );
         }
         let array = tables_below(&self.nodes, at, last.as_str())?;
         let tables = NodeFacts::named(Kind::Tables, part, Origin::Tables);
@@ -164,29 +172,27 @@ fn push_join(joins: &mut Vec<Join>, id: usize, facts: NodeFacts) -> Result<(), N
     Ok(())
 }
 
-/// Joins what a header says of the nodes that it goes through to their facts, and adds a table for each of its further
-/// keys, of which the first has no node yet.
-fn add_tables(
+/// Joins what a header says of the nodes that it goes through to their facts, and adds a node for each of its further
+/// keys, of which the first has none yet.
+fn add_header(
     nodes: &mut Tree,
     joins: &[Join],
     at: usize,
     leading: &[String],
     last: &str,
-    part: usize,
-    statement: usize,
+    facts: HeaderFacts,
 ) -> Result<(), NotInPlace>
     requires node { HasNode nodes.old.trie at }
     requires joins { AreUpTo 0 at joins.now }
-    requires fits { part + length leading.now < 2 ^ 64 }
-    ensures added { OnOk result (AddsTables nodes.old nodes.new joins.now at part statement
-        (map string_bytes leading.now) last.now) }
+    requires fits { facts.through.key + length leading.now < 2 ^ 64 }
+    ensures added { OnOk result (AddsHeader nodes.old nodes.new joins.now at (map string_bytes leading.now) last.now
+        facts) }
     ensures tree { IsTrie nodes.new.trie × (holds_at nodes.new.trie 0 ≡ holds_at nodes.old.trie 0) }
     ensures refused { OnErr result (nodes.new ≡ nodes.old) }
 {
     if !nodes.takes_keys(at) || nodes.child(at, first_of(leading, last)).is_some() {
         return Err(NotInPlace);
     }
-    let facts = header_facts(part, part + leading.len(), statement);
     if nodes
         .join_and_add_keys(joins, at, leading, last, facts)
         .is_err()
@@ -208,20 +214,47 @@ fn first_of<'a>(leading: &'a [String], last: &'a str) -> &'a str
 
 /// The facts about the new nodes of a header `[..]`, of which the first is named by the key part `first`, and its own
 /// by `last`.
-fn header_facts(first: usize, last: usize, statement: usize) -> HeaderFacts
-    ensures through { info_of result.through ≡ named_info kind.Table first (origin.Through statement) }
-    ensures first { result.through.key ≡ first }
+fn table_facts(first: usize, last: usize, statement: usize) -> HeaderFacts
+    ensures through { IsThrough result first statement }
     ensures own { info_of result.own ≡ named_info kind.Table last (origin.Header statement) }
+    ensures element { result.element ≡ None }
 {
     HeaderFacts {
-        through: NodeFacts {
-            role: Some(Role::Through),
-            ..NodeFacts::named(Kind::Table, first, Origin::Through(statement))
-        },
+        through: through_facts(first, statement),
         own: NodeFacts {
             role: Some(Role::Define),
             ..NodeFacts::named(Kind::Table, last, Origin::Header(statement))
         },
+        element: None,
+    }
+}
+
+/// The facts about the new nodes of a header `[[..]]`, of which the first is named by the key part `first`, and the
+/// array of tables by `last`.
+fn array_facts(first: usize, last: usize, statement: usize) -> HeaderFacts
+    ensures through { IsThrough result first statement }
+    ensures own { info_of result.own ≡ named_info kind.Tables last origin.Tables }
+    ensures element { IfSome result.element (λ f. info_of f ≡ unnamed_info kind.Table (origin.Element statement)) }
+    ensures some { IsSome result.element }
+{
+    HeaderFacts {
+        through: through_facts(first, statement),
+        own: NodeFacts {
+            role: Some(Role::Element),
+            ..NodeFacts::named(Kind::Tables, last, Origin::Tables)
+        },
+        element: Some(NodeFacts::unnamed(Kind::Table, Origin::Element(statement))),
+    }
+}
+
+/// The facts about a table that a header goes through, which is named by that key part.
+fn through_facts(part: usize, statement: usize) -> NodeFacts
+    ensures info { info_of result ≡ named_info kind.Table part (origin.Through statement) }
+    ensures key { result.key ≡ part }
+{
+    NodeFacts {
+        role: Some(Role::Through),
+        ..NodeFacts::named(Kind::Table, part, Origin::Through(statement))
     }
 }
 

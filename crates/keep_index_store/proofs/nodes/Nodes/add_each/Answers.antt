@@ -1,10 +1,11 @@
 -- Each key has its place below the table before it, and what was there before stays.
-use Rattle.keep_index_store.proofs.KeysBelowLemmas.{HasPlaceFor, keys_begun, last_place, next_begun, next_last}
+use Rattle.keep_index_store.proofs.KeysBelowLemmas.{keys_begun, last_place, next_begun, next_last}
 use Rattle.keep_index_store.proofs.KeysBelowLemmas.{next_place, next_tables, tables_begun}
 use Rattle.keep_index_store.proofs.TreeLemmas.{on_both}
-use Rattle.std.proofs.Common.{List, map, subst, sym, ap, refl, ◌+◌}
+use Rattle.std.proofs.Common.{List, map, subst, sym, ap, refl, ◌∙◌}
 use Rattle.std.specs.Prelude.{string_bytes}
-use Rattle.keep_index_store.specs.AllNodes.{Node}
+use Rattle.keep_index_store.specs.AllNodes.{Node, with_key_below}
+use Rattle.keep_index_store.specs.Trie.{Holding}
 use Rattle.keep_index_store.specs.KeysBelow.{HasBegun, first_key}
 use Rattle.keep_index_store.proofs.nodes.Nodes.add_each.Goals as goal
 
@@ -79,7 +80,10 @@ returns-clause-begun c =
     keys_begun c.args.self.now.items c.args.parent c.args.facts c.args.leading.now c.args.last.now
     (record { within = c.requires.within; keyed = c.requires.keyed; fresh = c.requires.fresh })
     c.loop-i.i c.loop-i.self.items c.loop-i.at c.loop-i.invariant.0 c.loop-i.invariant.1 c.loop-i-test.false
-    c.add_key-2.new.self.items is)
+    c.add_key-2.new.self.items
+    (is
+    ∙ ap (λ (h : Holding). with_key_below c.loop-i.self.items c.loop-i.at c.args.last.now h c.args.facts.own)
+    c.holds.ensures))
     (λ is.
     subst (λ (ns : List Node).
     HasBegun c.args.self.now.items ns c.args.parent

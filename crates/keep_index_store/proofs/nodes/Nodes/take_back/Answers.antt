@@ -1,5 +1,5 @@
 -- All but one child of one node is as before, and that one is taken away.
-use Rattle.std.proofs.Common.{◌≡◌, ℕ, ◌<◌, ◌∙◌, ap, arith, length, List, sym, take}
+use Rattle.std.proofs.Common.{ℕ, ◌<◌, ◌∙◌, ap, arith, length, List, sym, take}
 use Rattle.keep_index_store.specs.AllNodes.{Node}
 use Rattle.keep_index_store.proofs.KeysBelowLemmas.{taken_back}
 use Rattle.keep_index_store.proofs.nodes.Nodes.take_back.Goals as goal

@@ -1,11 +1,11 @@
 -- The nodes that were there have their roles after the new ones are added, so their facts can be stored then.
-use Rattle.std.proofs.Common.{List, map, ◌∷◌, ◌++◌, [], ◌∙◌, ap, sym, subst}
+use Rattle.std.proofs.Common.{List, map, ◌∷◌, ◌++◌, ◌∙◌, ap, sym, subst}
 use Rattle.std.specs.Prelude.{string_bytes}
 use Rattle.std.proofs.lemmas.List.{append_assoc}
 use Rattle.keep_types.specs.declared.node.NodeInfo.{NodeInfo}
 use Rattle.keep_index_store.specs.Facts.{info_of}
 use Rattle.keep_index_store.specs.Joined.{joined_all, with_all_infos}
-use Rattle.keep_index_store.specs.KeysBelow.{infos_below}
+use Rattle.keep_index_store.specs.KeysBelow.{element_infos, infos_below}
 use Rattle.keep_index_store.specs.Trie.{IsTrie, TrieNode, holds_at, paths_of}
 use Rattle.keep_index_store.proofs.JoinedLemmas.{roles_same}
 use Rattle.keep_index_store.proofs.tree.Tree.join_and_add_keys.Goals as goal
@@ -22,7 +22,7 @@ returns-clause-added c =
     let all = c.in_ok-joined.joined.items in
     let infos : List NodeInfo = c.args.self.now.infos in
     let tables : List NodeInfo = infos_below c.args.facts.through (map string_bytes c.args.leading.now) in
-    let own : List NodeInfo = info_of c.args.facts.own ∷ [] in
+    let own : List NodeInfo = info_of c.args.facts.own ∷ element_infos c.args.facts.element in
     record {
       trie = subst IsTrie (sym same) added.trie;
       paths = ap paths_of same ∙ added.paths;

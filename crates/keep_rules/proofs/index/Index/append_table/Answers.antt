@@ -4,6 +4,9 @@ use Rattle.std.proofs.lemmas.List.{length-map, length-drop, length-take-le, map-
 use Rattle.std.proofs.lemmas.Result.{on_ok_weaker}
 use Rattle.std.specs.Prelude.{string_bytes}
 use Rattle.keep_index_store.specs.declared.tree.joining.Join.{Join}
+use Rattle.keep_types.specs.declared.node.Kind.TheVariants as kind
+use Rattle.keep_types.specs.declared.node.Origin.TheVariants as origin
+use Rattle.keep_index_store.specs.Facts.{named_info}
 use Rattle.keep_index_store.specs.Tree.{node_infos}
 use Rattle.keep_meaning.specs.Marks.{header}
 use Rattle.keep_meaning.specs.StatementsMore.{said_next}
@@ -32,6 +35,14 @@ returns-clause-stated c = λ d of numbers.
     ap (λ (n : ℕ). c.args.key + n)
     (sym (length-map (take c.in_ok-at.count leading) string_bytes
     ∙ length-take-le c.in_ok-at.count leading c.in_ok-at.ensures.few)) in
+    let last_is : c.args.key + length leading ≡ (c.args.key + c.in_ok-at.count) + length further =
+    omega (
+      arith,
+      length-map rest string_bytes,
+      ap length all,
+      length-drop c.in_ok-at.count leading,
+      c.in_ok-at.ensures.few,
+    ) in
     let same : node_infos old ≡ c.args.self.now = c.self.view_is in
     let whole : passed ++ further ≡ map string_bytes leading =
     ap (λ xs. passed ++ map string_bytes xs) all
@@ -41,10 +52,13 @@ returns-clause-stated c = λ d of numbers.
     ap (λ (ks : List (List ℕ)). ks ++ c.as_str.result.now ∷ []) whole
     ∙ all_keys c.args.keys.now leading c.in-Some.last.now c.as_str.result.now c.in-Some.ensures.cases.0
     c.as_str.ensures.value in
-    on_ok_weaker c.add_tables.result (λ adds.
-    tables_known old c.add_tables.new.nodes c.self.invariant.0 c.deref.result.now c.args.statement c.args.key passed
-    c.in_ok-at.at passes further c.as_str.result.now (c.args.key + c.in_ok-at.count) many adds d
-    (subst (IsIndexOf d) (sym same) of) numbers
+    on_ok_weaker c.add_header.result (λ adds.
+    tables_known old c.add_header.new.nodes c.self.invariant.0 c.deref.result.now c.args.statement c.args.key passed
+    c.in_ok-at.at passes further c.as_str.result.now (c.args.key + c.in_ok-at.count) many c.table_facts-facts.result adds
+    c.table_facts-facts.ensures.through d (subst (IsIndexOf d) (sym same) of) numbers
+    c.table_facts-facts.ensures.element
+    (c.table_facts-facts.ensures.own
+    ∙ ap (λ (n : ℕ). named_info kind.Table n (origin.Header c.args.statement)) last_is)
     ∙ ap (λ (ks : List (List ℕ)). with_mentions (node_infos old) (said_next d (header ks))) keys
     ∙ ap (λ (t : NodeInfos). with_mentions t (said_next d (header (map string_bytes c.args.keys.now)))) same)
-    c.add_tables.ensures.added
+    c.add_header.ensures.added
