@@ -67,7 +67,11 @@ IN_PLACE = {
     "remove of a list": ("remove", "path = 't{middle}.l{number}'\n"),
     "remove of an item": ("remove", "path = 't{middle}.c[0]'\n"),
     "table": ("table", "path = 't{middle}.s{number}'\n"),
+    "table below new ones": ("table", "path = 'x{number}.y.z'\n"),
+    "table that a header goes through": ("table", "path = 'p{number}'\n"),
     "element": ("element", "path = 'e'\n"),
+    "element of a new array": ("element", "path = 'n{number}'\n"),
+    "element of a new array below new tables": ("element", "path = 'x{number}.y.z'\n"),
 }
 KEYS = 24
 FEW = 40
@@ -270,7 +274,8 @@ def growths_of_edits(program, refuse, kind, edits, tables):
     keys = "".join(f"k{number} = {number}\nl{number} = [{number}, [1]]\n" for number in range(KEYS))
     keys += f"c = [{', '.join(str(number) for number in range(KEYS))}]\n"
     text = "".join(f"[t{number}]\na = 1\n{keys if number == tables // 2 else ''}b = [1, 2]\n" for number in range(tables))
-    ran, growths = Asked(program, refuse, [b"apply", script.encode()], f"{text}[[e]]\n".encode()).ample()
+    passed = "".join(f"[p{number}.q]\n" for number in range(KEYS))
+    ran, growths = Asked(program, refuse, [b"apply", script.encode()], f"{text}{passed}[[e]]\n".encode()).ample()
     return growths if ran.returncode == 0 else sys.maxsize
 
 

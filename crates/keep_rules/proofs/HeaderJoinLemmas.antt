@@ -5,8 +5,8 @@
 -- (`through_key`) or from its last element (`past_key`). That is its last child, as the nodes are nested
 -- (`last_entered`).
 --
--- Theorems: `no_keys_passed`, `through_key` and `past_key`: the keys that have nodes; `element_known`: a whole header
--- `[[..]]` whose array of tables is there.
+-- Theorems: `no_keys_passed`, `through_key` and `past_key`: the keys that have nodes; `table_known` and `element_known`: a
+-- whole header `[..]` whose table is there, and `[[..]]` whose array of tables is.
 use Rattle.std.proofs.Common.{◌≡◌, ℕ, suc, ◌+◌, ◌-◌, ◌<◌, ◌≤◌, true, false, List, [], ◌∷◌, ◌++◌, length, get_or, map}
 use Rattle.std.proofs.Common.{set, take, refl, sym, ap, subst, ◌∙◌, arith, length-append, inl, inr, Option, Some}
 use Rattle.std.proofs.Common.{Result, Ok, Err}
@@ -26,7 +26,7 @@ use Rattle.keep_path.specs.NodeInfos.{NodeInfos, no_info}
 use Rattle.keep_path.specs.Path.{Part, key, index}
 use Rattle.keep_meaning.specs.Counts.{Count, Numbered, count_after, count_with_mention, numbered_mentions}
 use Rattle.keep_meaning.specs.Marks.{Mention, element_header, elements_of, entered_path}
-use Rattle.keep_meaning.specs.Marks.{passed, passing_mentions, past, through}
+use Rattle.keep_meaning.specs.Marks.{header, passed, passing_mentions, past, through}
 use Rattle.keep_meaning.specs.Meaning.{mentions_in}
 use Rattle.keep_meaning.specs.Nodes.{children, node_number, node_paths}
 use Rattle.keep_meaning.specs.StatementsMore.{AreNumbersAtEnd, count_at_end, said_next}
@@ -47,7 +47,7 @@ use Rattle.keep_rules.specs.ReadDocuments.{IsIndexOf}
 use Rattle.keep_rules.proofs.AddedInfoLemmas.{with_info_fresh, with_info_there}
 use Rattle.keep_rules.proofs.ElementLemmas.{tables_none, tables_some}
 use Rattle.keep_rules.proofs.KeyWalkInfoLemmas.{header_counts}
-use Rattle.keep_rules.proofs.LastKeyLemmas.{HasGone, begin_known, mentions_then}
+use Rattle.keep_rules.proofs.LastKeyLemmas.{HasGone, begin_known, define_known, mentions_then}
 use Rattle.keep_rules.proofs.KeyWalkLemmas.{descent_mentions-append, descent_path-append}
 use Rattle.keep_rules.proofs.LookupLemmas.{count_is, nth_is, number_is, number_some}
 use Rattle.keep_rules.proofs.MentionInfoLemmas.{passed_is_info, past_info}
@@ -72,7 +72,7 @@ are_ascending low at count (j ∷ js) h within =
     (h.0, omega (arith, up_to_low (suc j.id) at js h.1), are_ascending (suc j.id) at count js h.1 within)
 
 -- a child is a later node
-child_later : (nodes : List TrieNode) → IsTrie nodes → (i j : ℕ) (p : Part) → i < length nodes → j < length nodes
+pub child_later : (nodes : List TrieNode) → IsTrie nodes → (i j : ℕ) (p : Part) → i < length nodes → j < length nodes
     → path_at nodes j ≡ path_at nodes i ++ p ∷ [] → i < j
 child_later nodes trie i j p h g is =
     let d : TrieNode = first nodes trie in
@@ -359,6 +359,31 @@ keys_gone t joins statement number keys at passes d of numbers = record {
   leads = passes.leads d of;
   said = passes.joined d of (count_at_end d) numbers.keys numbers.statements;
 }
+
+-- the whole header `[..]`, where its table is there
+pub table_known : (t : TrieInfos) → IsTrie t.trie → (joins : List Join) (statement number : ℕ) (keys : List (List ℕ))
+    (at : ℕ) → PassesKeys t joins statement number keys at → (text : List ℕ) (part : ℕ)
+    → part ≡ number + length keys → (d : Document) → IsIndexOf d (node_infos t) → AreNumbersAtEnd d statement number
+    → (child : ℕ) → child < length t.trie → path_at t.trie child ≡ path_at t.trie at ++ key text ∷ []
+    → (facts : NodeFacts) → info_of facts ≡ named_info kind.Table part (origin.Header statement) → (new : NodeInfos)
+    → new ≡ with_joins t (joins ++ record { id = child; facts = facts } ∷ [])
+    → new ≡ with_mentions (node_infos t) (said_next d (header (keys ++ text ∷ [])))
+table_known t trie joins statement number keys at passes text part numbered d of numbers child within here facts info
+    new added =
+    added ∙ one_joined t trie joins child facts within
+    ∙ ap (λ (p : List Part). with_info (with_joins t joins) p (info_of facts)) here
+    ∙ ap (λ (i : NodeInfo). with_info (with_joins t joins) (path_at t.trie at ++ key text ∷ []) i) info
+    ∙ define_known d (node_infos t) (with_joins t joins) (path_at t.trie at) keys
+    (keys_gone t joins statement number keys at passes d of numbers) statement number numbers text part numbered
+
+-- its joins are of ascending nodes
+pub table_ascends : (t : TrieInfos) → IsTrie t.trie → (joins : List Join) (statement number : ℕ) (keys : List (List ℕ))
+    (at : ℕ) → PassesKeys t joins statement number keys at → (text : List ℕ) (child : ℕ) → child < length t.trie
+    → path_at t.trie child ≡ path_at t.trie at ++ key text ∷ [] → (facts : NodeFacts)
+    → AreUpTo 0 child (joins ++ record { id = child; facts = facts } ∷ [])
+table_ascends t trie joins statement number keys at passes text child within here facts =
+    up_to_more 0 at child joins facts passes.ascending
+    (child_later t.trie trie at child (key text) passes.within within here)
 
 -- the whole header `[[..]]`, where its array of tables is there
 pub element_known : (t : TrieInfos) → IsTrie t.trie → (joins : List Join) (statement number : ℕ) (keys : List (List ℕ))

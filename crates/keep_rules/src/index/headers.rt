@@ -23,13 +23,12 @@ use keep_types::{Kind, Origin, Role};
 
 impl Index {
     /// A header `[..]` with these keys comes after the document, as the statement with that number, whose first key
-    /// part has the number `key`. Keys from one on may have no node yet.
+    /// part has the number `key`. Keys from one on may have no node yet; else earlier headers go through the last one's.
     ///
     /// # Errors
     ///
-    /// `NotInPlace` where the last key has a node, or a table that the header goes on in takes no keys, or there is no
-    /// key; where a number would not fit; and where memory was refused. Then nothing has changed, and the index has to
-    /// be built anew.
+    /// `NotInPlace` where a node that the header goes on from takes no keys, or there is no key; where a number would
+    /// not fit; and where memory was refused. Then nothing has changed, and the index has to be built anew.
     pub fn append_table(
         &mut self,
         keys: &[String],
@@ -44,12 +43,19 @@ impl Index {
         let Some((last, leading)) = keys.split_last() else {
             return Err(NotInPlace);
         };
-        if key.checked_add(leading.len()).is_none() {
+        let Some(part) = key.checked_add(leading.len()) else {
             return Err(NotInPlace);
-        }
+        };
         let mut joins = Vec::new(self.nodes.allocator());
         let (at, count) = pass_keys(&self.nodes, &mut joins, leading, statement, key)?;
-        let facts = table_facts(key + count, key + leading.len(), statement);
+        if count == leading.len() {
+            if let Some(child) = self.nodes.child(at, last.as_str()) {
+                let table = NodeFacts::named(Kind::Table, part, Origin::Header(statement));
+                push_join(&mut joins, child, table)?;
+                return join_all(&mut self.nodes, &joins);
+            }
+        }
+        let facts = table_facts(key + count, part, statement);
         add_header(
             &mut self.nodes,
             &joins,
@@ -167,6 +173,20 @@ fn push_join(joins: &mut Vec<Join>, id: usize, facts: NodeFacts) -> Result<(), N
     ensures { OnOk result (joins.new.items ≡ joins.old.items ++ record { id = id; facts = facts } ∷ []) }
 {
     if joins.push(Join { id, facts }).is_err() {
+        return Err(NotInPlace);
+    }
+    Ok(())
+}
+
+/// Joins what a header says of nodes that are there to their facts.
+fn join_all(nodes: &mut Tree, joins: &[Join]) -> Result<(), NotInPlace>
+    requires trie { IsTrie nodes.old.trie }
+    requires joins { (last : ℕ) × (last < length nodes.old.trie) × AreUpTo 0 last joins.now }
+    ensures joined { OnOk result (node_infos nodes.new ≡ with_joins nodes.old joins.now) }
+    ensures tree { IsTrie nodes.new.trie × (holds_at nodes.new.trie 0 ≡ holds_at nodes.old.trie 0) }
+    ensures refused { OnErr result (nodes.new ≡ nodes.old) }
+{
+    if nodes.join_all(joins).is_err() {
         return Err(NotInPlace);
     }
     Ok(())
