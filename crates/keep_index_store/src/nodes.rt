@@ -350,28 +350,32 @@ impl Nodes {
         above.children.add_item(alloc, child)
     }
 
-    /// How many children of a node that has one come before the first from `at` on, of all but the last.
+    /// How many children of a node that has one come before the first from `at` on, of all but the last. Children
+    /// ascend, so it looks at few of them.
     pub fn children_before(&self, id: usize, at: usize) -> usize
         requires within { id < length self.now.items }
         requires some { 0 < length (child_ids (node_at self.now.items id).children) }
+        requires stored { IsStored self.now.items }
         ensures within { result < length (child_ids (node_at self.now.items id).children) }
         ensures before { (k : ℕ) → k < result
             → slice_index_or (child_ids (node_at self.now.items id).children) k 0 < at }
         ensures stops { result + 1 < length (child_ids (node_at self.now.items id).children)
             → at ≤ slice_index_or (child_ids (node_at self.now.items id).children) result 0 }
     {
-        let others = self.child_count(id) - 1;
-        let mut count = 0;
-        while count < others {
-            let Some(child) = self.child_at(id, count) else {
+        let mut low = 0;
+        let mut high = self.child_count(id) - 1;
+        while low < high {
+            let middle = low + (high - low) / 2;
+            let Some(child) = self.child_at(id, middle) else {
                 unreachable!()
             };
             if child >= at {
-                return count;
+                high = middle;
+            } else {
+                low = middle + 1;
             }
-            count += 1;
         }
-        count
+        low
     }
 
     /// Gives the last node the number `at`, and each from there on the next number; among the children of its parent it

@@ -5,13 +5,13 @@ use Rattle.keep_index_store.specs.Children.{holding}
 use Rattle.keep_index_store.specs.Facts.{info_of}
 use Rattle.keep_index_store.specs.Inserted.{IsInserted}
 use Rattle.keep_index_store.specs.Moved.{IsLast, moved_nodes, reordered}
-use Rattle.keep_index_store.specs.Stored.{trie_of}
+use Rattle.keep_index_store.specs.Stored.{IsStored, trie_of}
 use Rattle.keep_index_store.specs.Tree.{tree_of}
 use Rattle.keep_index_store.specs.Trie.{path_at}
 use Rattle.keep_path.specs.Path.{key}
 use Rattle.keep_index_store.proofs.InsertedLemmas.{IsCounted, is_last_there, key_place, small_there}
 use Rattle.keep_index_store.proofs.InsertedValueLemmas.{is_inserted}
-use Rattle.keep_index_store.proofs.KeyBelowLemmas.{key_fresh, parent_keyed}
+use Rattle.keep_index_store.proofs.KeyBelowLemmas.{key_fresh, key_stored, parent_keyed}
 use Rattle.keep_index_store.proofs.tree.inserting.insert_leaf.Goals as goal
 
 pub add_key-requires-clause-keyed : goal.add_key-requires-clause-keyed
@@ -25,6 +25,17 @@ add_key-requires-clause-fresh c =
     key_fresh _ _ _ _ (holding c.args.holds) c.args.facts
     (key_place c.args.nodes.now.items (tree_of c.args.nodes.now.items) refl c.requires.stored c.args.parent
     c.args.text.now c.args.at c.requires.place (holding c.args.holds) c.args.facts)
+
+pub children_before-place-requires-clause-stored : goal.children_before-place-requires-clause-stored
+children_before-place-requires-clause-stored c =
+    let mid : c.add_key.new.self.items
+    ≡ with_key_below c.args.nodes.now.items c.args.parent c.args.text.now (holding c.args.holds) c.args.facts =
+    search rules in
+    subst (λ (ns : List Node). IsStored ns) (sym mid)
+    (key_stored c.args.nodes.now.items (tree_of c.args.nodes.now.items) c.args.parent c.args.text.now
+    (holding c.args.holds) c.args.facts
+    (key_place c.args.nodes.now.items (tree_of c.args.nodes.now.items) refl c.requires.stored c.args.parent
+    c.args.text.now c.args.at c.requires.place (holding c.args.holds) c.args.facts))
 
 pub move_last-requires-clause-last : goal.move_last-requires-clause-last
 move_last-requires-clause-last c =
