@@ -1,6 +1,6 @@
 -- The facts about all nodes, where each number of a statement, a value or a key part from one on changes, as a line of
 -- one keyval comes or goes.
-use Rattle.std.specs.Prelude.{◌≢◌, ℕ, ◌+◌, ◌^◌, ◌==◌, if◌then◌else◌, List, Option, Some, None, IfSome}
+use Rattle.std.specs.Prelude.{◌≢◌, ℕ, ◌+◌, ◌-◌, ◌^◌, ◌==◌, if◌then◌else◌, List, [], ◌∷◌, Option, Some, None, IfSome}
 use Rattle.std.specs.List.{AllByRecursion}
 use Rattle.keep_types.specs.declared.node.Origin.{Origin}
 use Rattle.keep_types.specs.declared.node.Origin.TheVariants as origin
@@ -28,6 +28,21 @@ number_for line origin_kind.Element = Some line.statement
 number_for line origin_kind.Dotted = Some line.value
 number_for line origin_kind.Through = Some line.statement
 number_for line origin_kind.Tables = None
+
+-- the least number of a place of that kind that changes with the line, or the largest of 64 bits
+abbrev pub least_number : LineNumbers → OriginKind → ℕ
+least_number line origin_kind.Root = 2 ^ 64 - 1
+least_number line origin_kind.Through = line.statement
+least_number line origin_kind.Dotted = line.value
+least_number line origin_kind.Header = line.statement
+least_number line origin_kind.Element = line.statement
+least_number line origin_kind.Tables = 2 ^ 64 - 1
+least_number line origin_kind.Value = line.value
+
+-- the same of all kinds, in their order
+abbrev pub least_numbers : LineNumbers → List ℕ
+least_numbers line =
+    (2 ^ 64 - 1) ∷ line.statement ∷ line.value ∷ line.statement ∷ line.statement ∷ (2 ^ 64 - 1) ∷ line.value ∷ []
 
 -- the line's number of a key part, if one names the node
 abbrev pub key_for : LineNumbers → ℕ → Option ℕ

@@ -2,9 +2,10 @@
 ghost use Rattle.std.specs.Prelude.{◌≡◌, IfNone, IfSome};
 ghost use Rattle.keep_path.specs.NodeInfos as spec;
 ghost use Rattle.keep_index_store.specs.Facts.{info_of};
-ghost use Rattle.keep_index_store.specs.Renumbering.{CanGrow, InfoCanGrow, number_for, renumbered_facts};
+ghost use Rattle.keep_index_store.specs.Renumbering.{CanGrow, InfoCanGrow, least_number, number_for, renumbered_facts};
 
 use crate::facts::{NodeFacts, OriginKind};
+use std::marker::Model;
 
 /// The numbers of a line's statement, of its value, and of its one key part.
 #[derive(Clone, Copy)]
@@ -25,6 +26,75 @@ impl LineNumbers {
             OriginKind::Header | OriginKind::Element | OriginKind::Through => Some(self.statement),
             OriginKind::Root | OriginKind::Tables => None,
         }
+    }
+}
+
+/// The numbers of a line, and for each kind of place the least number there that changes with the line, in the order of
+/// the kinds: so that what a node's place is takes no test where the numbers of all nodes change.
+#[derive(Drop)]
+pub struct LeastNumbers {
+    line: LineNumbers,
+    by_origin: [usize; 7],
+}
+
+impl Model for LeastNumbers {
+    ghost use Rattle.std.specs.Prelude.{◌≡◌};
+    ghost use Rattle.keep_index_store.specs.declared.renumbering.LineNumbers.{LineNumbers};
+    ghost use Rattle.keep_index_store.specs.Renumbering.{least_numbers};
+
+    ghost Value = { LineNumbers };
+
+    ghost view = { λ least. least.line };
+
+    ghost invariant = { λ least. least.by_origin ≡ least_numbers least.line };
+}
+
+impl LeastNumbers {
+    /// Those of a line.
+    pub(crate) fn of(line: LineNumbers) -> LeastNumbers
+        ensures { result ≡ line }
+    {
+        let LineNumbers {
+            statement,
+            value,
+            ..
+        } = line;
+        LeastNumbers {
+            line,
+            by_origin: [
+                usize::MAX,
+                statement,
+                value,
+                statement,
+                statement,
+                usize::MAX,
+                value,
+            ],
+        }
+    }
+
+    /// The least number of a place of that kind that changes; the largest there is, if the place names none.
+    #[inline(always)]
+    pub(crate) fn at(&self, origin: OriginKind) -> usize
+        ensures { result ≡ least_number self.now origin }
+    {
+        self.by_origin[origin as usize]
+    }
+
+    /// The least number of a key part that changes.
+    #[inline(always)]
+    pub(crate) fn key(&self) -> usize
+        ensures { result ≡ self.now.key }
+    {
+        self.line.key
+    }
+
+    /// The numbers of the line.
+    #[inline(always)]
+    pub(crate) fn line(&self) -> LineNumbers
+        ensures { result ≡ self.now }
+    {
+        self.line
     }
 }
 

@@ -4,7 +4,7 @@ ghost use Rattle.keep_path.specs.NodeInfos.{later_number, earlier_number};
 ghost use Rattle.keep_index_store.specs.Renumbering.{NodesCanGrow, StoredCanGrow, renumbered_node, renumbered_stored};
 
 use super::{Node, Nodes};
-use crate::renumbering::LineNumbers;
+use crate::renumbering::{LeastNumbers, LineNumbers};
 
 /// Changes the numbers of the nodes to those once the line is there, up to the first node that has one which can't be
 /// greater by one. How many are changed.
@@ -14,8 +14,9 @@ fn renumber_first_later(nodes: &mut [Node], line: LineNumbers) -> usize
         ≡ map (renumbered_stored later_number line) (take result nodes.old) ++ drop result nodes.old }
     ensures full { result < length nodes.old → StoredCanGrow nodes.old → ⊥ }
 {
+    let least = LeastNumbers::of(line);
     'nodes: for id in 0..nodes.len() {
-        if nodes[id].facts.renumber_later(line).is_none() {
+        if nodes[id].facts.renumber_later(&least).is_none() {
             return id;
         }
     }
@@ -41,8 +42,9 @@ fn renumber_all_later(nodes: &mut [Node], line: LineNumbers) -> Option<()>
 fn renumber_all_earlier(nodes: &mut [Node], line: LineNumbers)
     ensures { nodes.new ≡ map (renumbered_stored earlier_number line) nodes.old }
 {
+    let least = LeastNumbers::of(line);
     'nodes: for id in 0..nodes.len() {
-        nodes[id].facts.renumber_earlier(line);
+        nodes[id].facts.renumber_earlier(&least);
     }
 }
 

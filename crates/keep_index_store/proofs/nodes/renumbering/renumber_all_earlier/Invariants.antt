@@ -6,5 +6,5 @@ use Rattle.keep_index_store.proofs.nodes.renumbering.renumber_all_earlier.Given 
 -- those before this number are changed
 abbrev pub invariant-nodes : goal.invariant-nodes
 invariant-nodes l =
-    take l.id l.nodes ++ map (renumbered_stored earlier_number l.line) (drop l.id l.nodes)
-    ≡ map (renumbered_stored earlier_number l.line) l.fn.nodes
+    take l.id l.nodes ++ map (renumbered_stored earlier_number l.fn.line) (drop l.id l.nodes)
+    ≡ map (renumbered_stored earlier_number l.fn.line) l.fn.nodes

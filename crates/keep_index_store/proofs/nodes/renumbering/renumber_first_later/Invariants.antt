@@ -6,4 +6,4 @@ use Rattle.keep_index_store.proofs.nodes.renumbering.renumber_first_later.Given 
 -- those before this number are changed, and the others are as they were
 abbrev pub invariant-nodes : goal.invariant-nodes
 invariant-nodes l =
-    l.nodes ≡ map (renumbered_stored later_number l.line) (take l.id l.fn.nodes) ++ drop l.id l.fn.nodes
+    l.nodes ≡ map (renumbered_stored later_number l.fn.line) (take l.id l.fn.nodes) ++ drop l.id l.fn.nodes
