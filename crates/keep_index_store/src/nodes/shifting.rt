@@ -4,7 +4,7 @@ ghost use Rattle.keep_index_store.specs.Below.{with_shifted_facts, with_shifted_
 ghost use Rattle.keep_index_store.specs.Shifting.{AllCanShift};
 
 use super::{Node, Nodes};
-use crate::shift::NumberShifts;
+use crate::shift::{FirstNumbers, NumberShifts};
 
 /// Whether the numbers of all nodes have 32 bits at most once they are moved. One that is not moved may be tested as if
 /// it were.
@@ -24,8 +24,9 @@ fn shift_each(nodes: &mut [Node], by: NumberShifts)
     requires { AllCanShift by nodes.old }
     ensures { nodes.new ≡ map (with_shifted_stored by) nodes.old }
 {
+    let first = FirstNumbers::of(by);
     for node in nodes.iter_mut() {
-        node.facts.shift(by);
+        node.facts.shift(&first);
     }
 }
 

@@ -4,7 +4,7 @@ ghost use Rattle.keep_index_store.specs.Below.{shifted_facts};
 ghost use Rattle.keep_index_store.specs.Shifting.{CanShift, ShortCanShift, shifted_short};
 
 use super::{Form, LONG, PackedFacts, ShortFacts};
-use crate::shift::NumberShifts;
+use crate::shift::{FirstNumbers, NumberShifts};
 
 impl ShortFacts {
     /// Whether both numbers have 32 bits at most, moved or not. It does not ask which of them are moved.
@@ -15,28 +15,17 @@ impl ShortFacts {
         self.key < by.keys.limit() && self.number < by.values.limit()
     }
 
-    /// Whether both numbers are less than the first that is moved: then they stay as they are.
-    #[inline(always)]
-    fn is_before_shift(&self, by: NumberShifts) -> bool
-        ensures { result ≡ true → shifted_short by self.now ≡ self.now }
-    {
-        (self.key as usize) < by.keys.from && (self.number as usize) < by.values.from
-    }
-
     /// Moves the numbers, which then have 32 bits at most.
     #[inline(always)]
-    fn shift(&mut self, by: NumberShifts)
-        requires { ShortCanShift by self.old }
-        ensures { self.new ≡ shifted_short by self.old }
+    fn shift(&mut self, by: &FirstNumbers)
+        requires { ShortCanShift by.now self.old }
+        ensures { self.new ≡ shifted_short by.now self.old }
     {
-        if self.is_before_shift(by) {
-            return;
+        if by.at(self.origin) <= self.number as usize {
+            self.number = by.shifts().values.moved(self.number);
         }
-        if self.marks != 0 {
-            self.key = by.keys.apply(self.key as usize) as u32;
-        }
-        if let Some(values) = by.value_shift(self.origin) {
-            self.number = values.apply(self.number as usize) as u32;
+        if by.key() <= self.key as usize && self.marks != 0 {
+            self.key = by.shifts().keys.moved(self.key);
         }
     }
 }
@@ -59,13 +48,13 @@ impl PackedFacts {
 
     /// Moves the numbers, which then have 32 bits at most, in the form that is there, so that it takes no memory.
     #[inline(always)]
-    pub fn shift(&mut self, by: NumberShifts)
-        requires { CanShift by self.old }
-        ensures { self.new ≡ shifted_facts by self.old }
+    pub fn shift(&mut self, by: &FirstNumbers)
+        requires { CanShift by.now self.old }
+        ensures { self.new ≡ shifted_facts by.now self.old }
     {
         match &mut self.form {
             Form::Packed { short, .. } => short.shift(by),
-            Form::Boxed(facts) => **facts = facts.shifted(by),
+            Form::Boxed(facts) => **facts = facts.shifted(by.shifts()),
         }
     }
 }

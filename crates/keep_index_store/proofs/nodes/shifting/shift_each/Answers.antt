@@ -3,6 +3,7 @@ use Rattle.std.proofs.lemmas.List.{get_or_default}
 use Rattle.std.proofs.lemmas.List.Edits.{map_over_more}
 use Rattle.keep_index_store.specs.declared.facts.NodeFacts.{NodeFacts}
 use Rattle.keep_index_store.specs.declared.nodes.Node.{Node as StoredNode}
+use Rattle.keep_index_store.specs.declared.shift.NumberShifts.{NumberShifts}
 use Rattle.keep_index_store.specs.Below.{shifted_facts, with_shifted_stored}
 use Rattle.keep_index_store.specs.Shifting.{CanShift}
 use Rattle.keep_index_store.proofs.MovedListLemmas.{partly_at, partly_count}
@@ -16,7 +17,8 @@ shift-requires c =
     let d : StoredNode = c.node-item.result in
     let same : get_or list i d ≡ get_or now i d =
     partly_at (with_shifted_stored c.args.by) now list i c.loop-node.invariant d c.loop-node-test.true in
-    subst (λ (n : StoredNode). CanShift c.args.by n.facts) (sym same) (c.requires i d c.loop-node-test.true)
+    subst (λ (by : NumberShifts). CanShift by (get_or list i d).facts) (sym c.of-first.ensures)
+    (subst (λ (n : StoredNode). CanShift c.args.by n.facts) (sym same) (c.requires i d c.loop-node-test.true))
 
 pub loop-node-preserved : goal.loop-node-preserved
 loop-node-preserved c =

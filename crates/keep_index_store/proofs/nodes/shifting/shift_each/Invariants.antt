@@ -5,4 +5,4 @@ use Rattle.keep_index_store.proofs.nodes.shifting.shift_each.Given as goal
 
 abbrev pub invariant-loop-node : goal.invariant-loop-node
 invariant-loop-node l =
-    l.nodes ≡ map (with_shifted_stored l.by) (take l.node-index l.fn.nodes) ++ drop l.node-index l.fn.nodes
+    l.nodes ≡ map (with_shifted_stored l.fn.by) (take l.node-index l.fn.nodes) ++ drop l.node-index l.fn.nodes
