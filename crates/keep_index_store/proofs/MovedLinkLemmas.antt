@@ -1,11 +1,13 @@
 -- The packed parent links under other numbers, and with the last one at another place.
 --
 -- Theorems: `links_more`: one step of a loop that gives each link other numbers; `links_moved`: the links with other
--- numbers, the last at its place; `last_fit`: where all links are small, these fit into 32 bits each.
+-- numbers, the last at its place; `sibling_stays`: where the last node stays the last of its siblings, their numbers
+-- stay; `last_fit`: where all links are small, these fit into 32 bits each.
 use Rattle.std.proofs.Common.{◌≡◌, ℕ, ◌+◌, ◌-◌, ◌<◌, ◌≤◌, ◌^◌, All, List, [], ◌∷◌, ◌++◌, length, get_or, set, take}
 use Rattle.std.proofs.Common.{drop}
-use Rattle.std.proofs.Common.{map, refl, sym, ◌∙◌, ap, subst, arith, cond, true, false, length-append}
+use Rattle.std.proofs.Common.{map, refl, sym, ◌∙◌, ap, subst, arith, Bool, cond, inl, inr, true, false, length-append}
 use Rattle.std.specs.Prelude.{◌==◌}
+use Rattle.std.proofs.lemmas.Bool.{cases_eq, eq-eqb, ne_eqb}
 use Rattle.std.proofs.lemmas.List.{append-nil, drop-drop, drop-set-lt, get_or-append_right, get_or-drop, get_or-map}
 use Rattle.std.proofs.lemmas.List.{length-map, map-set}
 use Rattle.std.proofs.lemmas.List.Edits.{map_over_more}
@@ -14,8 +16,9 @@ use Rattle.keep_index_store.specs.declared.links.NewPlace.{NewPlace}
 use Rattle.keep_index_store.specs.declared.links.PackedLink.{PackedLink}
 use Rattle.keep_index_store.specs.declared.links.ParentLink.{ParentLink}
 use Rattle.keep_index_store.specs.Links.{FitsIn32Bits, IsSmall, StartsLarge, link_of, links_in}
-use Rattle.keep_index_store.specs.Moved.{moved_link, moved_number, with_last_at}
-use Rattle.keep_index_store.proofs.MovedListLemmas.{later_most, map-last, moved_most, partly_count}
+use Rattle.keep_index_store.specs.Moved.{NoneComesAfter, moved_link, moved_number, reordered_link, with_last_at}
+use Rattle.keep_index_store.proofs.MovedListLemmas.{later_low, later_most, map-last, moved_last, moved_most}
+use Rattle.keep_index_store.proofs.MovedListLemmas.{moved_other, partly_count}
 
 pub link_same : (old links : List PackedLink) (i : ℕ) (d : PackedLink) → drop i links ≡ drop i old
     → get_or links i d ≡ get_or old i d
@@ -54,6 +57,49 @@ links_moved p old mid links none some by is =
     ∙ ap (λ ls. with_last_at (moved_link p none) ls p.at) by
     ∙ sym (map-last (moved_link p) none (moved_link p none) (map link_of old) p.at
     (omega (arith, some, ap length by, length-map mid link_of, length-map (map link_of old) (moved_link p))))
+
+-- ---- the numbers among siblings
+
+-- where no child of the same node comes after it, a sibling of the last node has the number that it had
+pub sibling_stays : (p : NewPlace) (hs : List ParentLink) → p.number ≡ p.before → NoneComesAfter p hs
+    → (k : ℕ) (d : ParentLink) → k < length hs → ((get_or hs 0 d).parent ≡ p.above → ⊥)
+    → reordered_link p (get_or hs k d) ≡ get_or hs k d
+sibling_stays p hs last none k d low root =
+    let h : ParentLink = get_or hs k d in
+    let with_number = λ (n : ℕ). let next : ParentLink = record { parent = h.parent; number = n } in next in
+    let either = λ (b : Bool). with_number (cond b (moved_number p.before p.number h.number) h.number) in
+    elim (cases_eq h.parent p.above) [
+      | inr far ↦ ap either (ne_eqb h.parent p.above far)
+      | inl near ↦ elim (cases_eq k 0) [
+        | inl first ↦ absurd (root (ap (λ j. (get_or hs j d).parent) (sym first) ∙ near))
+        | inr later ↦
+            let up : h.number ≤ p.before = none k d (omega (arith, later)) low near in
+            let number : moved_number p.before p.number h.number ≡ h.number = elim (cases_eq h.number p.before) [
+              | inl same ↦ moved_last p.before p.number h.number same ∙ last ∙ sym same
+              | inr other ↦
+                  moved_other p.before p.number h.number other
+                  ∙ later_low p.number h.number (omega (arith, up, other, last))
+            ] in
+            ap either (eq-eqb h.parent p.above near) ∙ ap with_number number
+      ]
+    ]
+
+-- the parents are those that they were
+pub parents_stay : (p : NewPlace) (old mid : List PackedLink)
+    → map link_of mid ≡ map (reordered_link p) (map link_of old) → All (λ h. h.parent < 2 ^ 32 - 1) old
+    → All (λ h. h.parent < 2 ^ 32 - 1) mid
+parents_stay p old mid is small k d low =
+    let many : length mid ≡ length old =
+    sym (length-map mid link_of) ∙ ap length is ∙ length-map (map link_of old) (reordered_link p)
+    ∙ length-map old link_of in
+    let low' : k < length old = omega (arith, low, many) in
+    let same : (get_or mid k d).parent ≡ (get_or old k d).parent =
+    ap (λ (h : ParentLink). h.parent) (sym (get_or-map link_of mid k d (link_of d) low)
+    ∙ ap (λ hs. get_or hs k (link_of d)) is
+    ∙ get_or-map (reordered_link p) (map link_of old) k (link_of d) (link_of d)
+    (omega (arith, low', length-map old link_of))
+    ∙ ap (reordered_link p) (get_or-map link_of old k d (link_of d) low')) in
+    omega (arith, same, small k d low')
 
 -- ---- small links
 

@@ -5,7 +5,8 @@
 -- so do those of all links (`links_small`).
 --
 -- Theorems: `all_moved`: row by row these are the moved nodes; `can_place`: the last node can go to that place;
--- `links_small`: where the numbers of all nodes fit with one more, so do those of all links.
+-- `links_small`: where the numbers of all nodes fit with one more, so do those of all links; `none_comes_after`: no
+-- child of the last node's parent comes after it.
 use Rattle.std.proofs.Common.{◌≡◌, ℕ, ◌-◌, ◌<◌, ◌≤◌, List, [], ◌∷◌, length, get_or, set, map, refl, sym, ◌∙◌, ap, subst}
 use Rattle.std.proofs.Common.{arith, Some}
 use Rattle.std.specs.Prelude.{All, slice_get}
@@ -16,14 +17,16 @@ use Rattle.keep_index_store.specs.declared.links.NewPlace.{NewPlace}
 use Rattle.keep_index_store.specs.declared.links.ParentLink.{ParentLink}
 use Rattle.keep_index_store.specs.declared.nodes.Node.{Node as StoredNode}
 use Rattle.keep_index_store.specs.AllNodes.{HasSmallLink, Node, AllNodes, no_node, node_at}
-use Rattle.keep_index_store.specs.Children.{ChildList, Keyed, holds_of, named}
+use Rattle.keep_index_store.specs.Children.{ChildList, Keyed, child_ids, holds_of, named}
 use Rattle.keep_index_store.specs.Links.{IsSmall}
-use Rattle.keep_index_store.specs.Moved.{CanMove, IsLast, with_last_at, moved_number, moved_node, moved_nodes}
+use Rattle.keep_index_store.specs.Moved.{CanMove, IsLast, NoneComesAfter, with_last_at, moved_number, moved_node}
+use Rattle.keep_index_store.specs.Moved.{moved_nodes}
 use Rattle.keep_index_store.specs.Moved.{moved_link, reordered_node, with_keys_reordered, reordered, stored_at}
 use Rattle.keep_index_store.specs.Moved.{with_last_key, with_moved_children}
 use Rattle.keep_index_store.specs.NodeRows.{node_row, node_rows, all_nodes}
 use Rattle.keep_index_store.specs.Trie.{by_key}
 use Rattle.keep_index_store.proofs.NodeRowLemmas.{count_seen, rows_count, rows_at, rows_set, nowhere, nothing}
+use Rattle.keep_index_store.proofs.StoredLemmas.{IsPlaced, node_placed}
 use Rattle.keep_index_store.proofs.MovedListLemmas.{from, length-last, map-last, read_moved}
 use Rattle.keep_index_store.proofs.MovedReadyLemmas.{above_within, can_move, many_kids, own_number}
 
@@ -130,6 +133,21 @@ module _ (list : List StoredNode) (links : List ParentLink) (at n : ℕ) (paired
   pub order : n ≤ p.before
   order = omega (arith, own_number nodes at n r, r.place)
 
+  pub none_after : NoneComesAfter p links
+  none_after k d later low same =
+      let low' : k < length list = omega (arith, low, paired) in
+      let row : node_at nodes k ≡ node_row (get_or list k nothing) (get_or links k d) =
+      rows_at list links k nothing d paired low' in
+      let placed : IsPlaced nodes k no_node = node_placed nodes r.stored k no_node later (omega (arith, low', count)) in
+      let up : (node_at nodes k).parent ≡ p.above = ap (λ (x : Node). x.parent) row ∙ same in
+      omega (
+        arith,
+        placed.low,
+        own_number nodes at n r,
+        ap (λ (x : Node). x.number) row,
+        ap (λ j. length (child_ids (node_at nodes j).children)) up,
+      )
+
   keyed_rows : node_rows keyed links ≡ with_keys_reordered nodes p.above n
   keyed_rows =
       rows_set list links p.above entry nowhere paired
@@ -233,6 +251,12 @@ module _ (list : List StoredNode) (links : List ParentLink) (all : AllNodes) (vi
         each = each list links at n paired r;
       } in
       subst (λ (w : NewPlace). CanPlace list w) (sym (place_is list links at n paired r h i is own)) can
+
+  pub none_comes_after : NoneComesAfter q links
+  none_comes_after =
+      let r = last_of_rows in
+      subst (λ (w : NewPlace). NoneComesAfter w links) (sym (place_is list links at n paired r h i is own))
+      (none_after list links at n paired r)
 
   pub all_moved : (list' : List StoredNode) (links' : List ParentLink)
       → ((none : StoredNode)

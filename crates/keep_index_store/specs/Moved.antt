@@ -96,6 +96,20 @@ moved_link p h = record {
   number = if h.parent == p.above then moved_number p.before p.number h.number else h.number;
 }
 
+-- the same of the number among the children of `above` alone, and of that of the parent alone
+abbrev pub reordered_link : NewPlace → ParentLink → ParentLink
+reordered_link p h =
+    record h { number = if h.parent == p.above then moved_number p.before p.number h.number else h.number }
+
+abbrev pub with_later_parent : ℕ → ParentLink → ParentLink
+with_later_parent at h = record h { parent = later_number at h.parent }
+
+-- no child of `above` comes after the last node there; what the root's link says is never read
+abbrev pub NoneComesAfter : NewPlace → List ParentLink → Type 0
+NoneComesAfter p links =
+    (k : ℕ) (d : ParentLink) → 0 < k → k < length links → (slice_index_or links k d).parent ≡ p.above
+    → (slice_index_or links k d).number ≤ p.before
+
 -- the last node takes that number, and nothing else changes
 pub record MovesLast (old new : List TrieNode) (at : ℕ) : Type 0 where
   pub trie : IsTrie old

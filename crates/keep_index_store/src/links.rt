@@ -3,13 +3,16 @@ ghost use Rattle.std.specs.Prelude.{◌≡◌, ◌≤◌, ◌<◌, ◌^◌, ◌+
 ghost use Rattle.std.specs.Prelude.{◌-◌, ℕ, All, None, Some, false, map, take, true, vec_len};
 ghost use Rattle.std.specs.List.{remove};
 ghost use Rattle.keep_index_store.specs.Links.{FitsIn32Bits, IsSmall, link_of};
-ghost use Rattle.keep_index_store.specs.Moved.{moved_link, moved_number, with_last_at};
+ghost use Rattle.keep_index_store.specs.Moved.{NoneComesAfter, moved_link, moved_number, with_last_at};
+ghost use Rattle.keep_index_store.specs.Moved.{with_later_parent};
 ghost use Rattle.keep_index_store.specs.Removed.{earlier_link};
 ghost use Rattle.keep_path.specs.NodeInfos.{earlier_number, later_number};
 
+mod reordering;
 mod replacing;
 
 use crate::moved::move_last_to;
+use reordering::reorder_siblings;
 pub use replacing::replace_links;
 use std::alloc::{AllocError, Global};
 use std::marker::Model;
@@ -73,18 +76,6 @@ fn packed_link(link: ParentLink) -> Option<PackedLink>
     })
 }
 
-/// Gives the link the numbers that it has once the last node is there.
-fn renumber_link(link: &mut PackedLink, place: NewPlace)
-    requires grows { (link.old.parent < 2 ^ 32 - 1) × (link.old.number < 2 ^ 32 - 1) }
-    requires order { place.number ≤ place.before }
-    ensures { link_of link.new ≡ moved_link place (link_of link.old) }
-{
-    if link.parent as usize == place.above {
-        link.number = later_sibling(link.number, place.before, place.number);
-    }
-    link.parent = later_parent(link.parent, place.at);
-}
-
 /// The number of a parent once a node has the number `at`.
 fn later_parent(parent: u32, at: usize) -> u32
     requires { parent < 2 ^ 32 - 1 }
@@ -112,21 +103,33 @@ fn later_sibling(child: u32, before: usize, number: usize) -> u32
     }
 }
 
-/// Gives each link the numbers that it has then.
+/// Gives each link the number that the parent has once a node has the number `at`.
+fn renumber_parents(links: &mut [PackedLink], at: usize)
+    requires { All (λ h. h.parent < 2 ^ 32 - 1) links.old }
+    ensures { map link_of links.new ≡ map (with_later_parent at) (map link_of links.old) }
+{
+    for link in links.iter_mut() {
+        link.parent = later_parent(link.parent, at);
+    }
+}
+
+/// Gives each link the numbers that it has then: first those of the siblings, of which mostly none changes, so that all
+/// links are gone over for the parents alone.
 fn renumber(links: &mut [PackedLink], place: NewPlace)
     requires grows { All (λ h. (h.parent < 2 ^ 32 - 1) × (h.number < 2 ^ 32 - 1)) links.old }
     requires order { place.number ≤ place.before }
+    requires last { NoneComesAfter place (map link_of links.old) }
     ensures { map link_of links.new ≡ map (moved_link place) (map link_of links.old) }
 {
-    for link in links.iter_mut() {
-        renumber_link(link, place);
-    }
+    reorder_siblings(links, place);
+    renumber_parents(links, place.at);
 }
 
 /// Moves the last link to where its node goes, and gives each the numbers that it has then.
 fn move_last_link(links: &mut Vec<PackedLink>, place: NewPlace)
     requires grows { All (λ h. (h.parent < 2 ^ 32 - 1) × (h.number < 2 ^ 32 - 1)) links.old.items }
     requires order { place.number ≤ place.before }
+    requires last { NoneComesAfter place (map link_of links.old.items) }
     requires within { place.at < vec_len links.old }
     ensures { (none : ParentLink) → map link_of links.new.items
         ≡ map (moved_link place) (with_last_at none (map link_of links.old.items) place.at) }
@@ -227,6 +230,7 @@ impl ParentLinks {
         requires small { All IsSmall self.old }
         requires within { place.at < length self.old }
         requires order { place.number ≤ place.before }
+        requires last { NoneComesAfter place self.old }
         ensures { (none : ParentLink) → self.new ≡ map (moved_link place) (with_last_at none self.old place.at) }
     {
         move_last_link(&mut self.packed, place);

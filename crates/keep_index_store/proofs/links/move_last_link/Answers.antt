@@ -1,10 +1,15 @@
-use Rattle.std.proofs.Common.{◌≡◌, ◌∙◌, List, ap, arith, length, map}
+use Rattle.std.proofs.Common.{◌≡◌, ◌∙◌, List, ap, arith, length, map, subst, sym}
 use Rattle.std.proofs.lemmas.List.{with_items_is}
 use Rattle.keep_index_store.specs.declared.links.PackedLink.{PackedLink}
 use Rattle.keep_index_store.specs.Links.{link_of}
-use Rattle.keep_index_store.specs.Moved.{moved_link, with_last_at}
+use Rattle.keep_index_store.specs.Moved.{NoneComesAfter, moved_link, with_last_at}
 use Rattle.keep_index_store.proofs.MovedLinkLemmas.{links_moved}
 use Rattle.keep_index_store.proofs.links.move_last_link.Goals as goal
+
+pub renumber-requires-clause-last : goal.renumber-requires-clause-last
+renumber-requires-clause-last c =
+    subst (λ (hs : List PackedLink). NoneComesAfter c.args.place (map link_of hs)) (sym c.as_mut_slice.ensures.value)
+    c.requires.last
 
 pub returns : goal.returns
 returns c none =

@@ -1,22 +1,17 @@
-use Rattle.std.proofs.Common.{◌<◌, length, arith, sym, subst}
-use Rattle.keep_index_store.specs.declared.links.PackedLink.{PackedLink}
-use Rattle.keep_index_store.specs.Moved.{moved_link}
-use Rattle.keep_index_store.proofs.MovedLinkLemmas.{link_same, links_more, rest_more}
+-- The one number changes, and then the other.
+use Rattle.std.proofs.Common.{◌∙◌, ap, map}
+use Rattle.std.proofs.lemmas.Simd.{map-map}
+use Rattle.keep_index_store.specs.Links.{link_of}
+use Rattle.keep_index_store.specs.Moved.{reordered_link, with_later_parent}
+use Rattle.keep_index_store.proofs.MovedLinkLemmas.{parents_stay}
 use Rattle.keep_index_store.proofs.links.renumber.Goals as goal
 
-pub renumber_link-requires-clause-grows : goal.renumber_link-requires-clause-grows
-renumber_link-requires-clause-grows c =
-    let d : PackedLink = record { parent = 0; number = 0 } in
-    subst (λ (h : PackedLink). (h.parent < 4294967295) × (h.number < 4294967295))
-    (sym (link_same c.args.links.now c.loop-link.links c.loop-link.link-index d c.loop-link.invariant.1))
-    (c.requires.grows c.loop-link.link-index d (omega (arith, c.loop-link-test.true)))
+pub renumber_parents-requires : goal.renumber_parents-requires
+renumber_parents-requires c k d h =
+    parents_stay c.args.place c.args.links.now c.reorder_siblings.new.links c.reorder_siblings.ensures
+    (λ j e low. (c.requires.grows j e low).0) k d h
 
-pub loop-link-preserved : goal.loop-link-preserved
-loop-link-preserved c =
-    let d : PackedLink = record { parent = 0; number = 0 } in
-    let low : c.loop-link.link-index < length c.args.links.now = omega (arith, c.loop-link-test.true) in (
-      links_more (moved_link c.args.place) c.args.links.now c.loop-link.links c.loop-link.link-index
-          c.renumber_link.new.link d low c.loop-link.invariant.0 c.renumber_link.ensures,
-      rest_more c.args.links.now c.loop-link.links c.loop-link.link-index c.renumber_link.new.link
-          c.loop-link.invariant.1,
-    )
+pub returns : goal.returns
+returns c =
+    c.renumber_parents.ensures ∙ ap (map (with_later_parent c.args.place.at)) c.reorder_siblings.ensures
+    ∙ map-map (with_later_parent c.args.place.at) (reordered_link c.args.place) (map link_of c.args.links.now)

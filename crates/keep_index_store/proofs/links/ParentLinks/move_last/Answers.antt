@@ -1,16 +1,21 @@
 -- All links are packed, since all are small.
-use Rattle.std.proofs.Common.{◌≡◌, ◌∙◌, List, ap, arith, length, map}
+use Rattle.std.proofs.Common.{◌≡◌, ◌∙◌, List, ap, arith, length, map, subst, sym}
 use Rattle.std.proofs.lemmas.List.{append-nil, length-map}
 use Rattle.keep_index_store.specs.declared.links.PackedLink.{PackedLink}
 use Rattle.keep_index_store.specs.declared.links.ParentLink.{ParentLink}
 use Rattle.keep_index_store.specs.Links.{link_of, links_in}
-use Rattle.keep_index_store.specs.Moved.{moved_link, with_last_at}
+use Rattle.keep_index_store.specs.Moved.{NoneComesAfter, moved_link, with_last_at}
 use Rattle.keep_index_store.proofs.MovedLinkLemmas.{each_small, last_fit, none_unpacked, packed_seen, seen_fit}
 use Rattle.keep_index_store.proofs.links.ParentLinks.move_last.Goals as goal
 
 pub move_last_link-requires-clause-grows : goal.move_last_link-requires-clause-grows
 move_last_link-requires-clause-grows c =
     each_small _ _ _ c.self.view_is c.self.invariant.large c.requires.small
+
+pub move_last_link-requires-clause-last : goal.move_last_link-requires-clause-last
+move_last_link-requires-clause-last c =
+    let seen = packed_seen _ _ _ c.self.view_is c.self.invariant.large c.requires.small in
+    subst (λ (hs : List ParentLink). NoneComesAfter c.args.place hs) (sym seen) c.requires.last
 
 pub move_last_link-requires-clause-within : goal.move_last_link-requires-clause-within
 move_last_link-requires-clause-within c =

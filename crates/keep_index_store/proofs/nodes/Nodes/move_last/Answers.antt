@@ -1,5 +1,5 @@
 use Rattle.std.proofs.Common.{◌∙◌, arith}
-use Rattle.keep_index_store.proofs.MovedRowLemmas.{can_place, all_moved, links_count, links_small}
+use Rattle.keep_index_store.proofs.MovedRowLemmas.{can_place, all_moved, links_count, links_small, none_comes_after}
 use Rattle.keep_index_store.proofs.NodeRowLemmas.{links_seen}
 use Rattle.keep_index_store.proofs.nodes.Nodes.move_last.Goals as goal
 
@@ -14,6 +14,11 @@ pub move_last-requires-clause-order : goal.move_last-requires-clause-order
 move_last-requires-clause-order c =
     (can_place _ _ _ c.self.view_is c.self.invariant c.args.at c.args.place c.requires.last c.get-link.result _
     (omega (arith, c.len.ensures, c.self.inside.list.ok.0)) c.get-link.ensures).order
+
+pub move_last-requires-clause-last : goal.move_last-requires-clause-last
+move_last-requires-clause-last c =
+    none_comes_after _ _ _ c.self.view_is c.self.invariant c.args.at c.args.place c.requires.last c.get-link.result _
+    (omega (arith, c.len.ensures, c.self.inside.list.ok.0)) c.get-link.ensures
 
 pub move_last_node-requires-clause-within : goal.move_last_node-requires-clause-within
 move_last_node-requires-clause-within c =

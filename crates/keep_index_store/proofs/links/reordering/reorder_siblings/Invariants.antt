@@ -1,0 +1,11 @@
+-- The links before this one have their new numbers, and the others are as they were.
+use Rattle.std.proofs.Common.{◌≡◌, ◌++◌, map, take, drop}
+use Rattle.keep_index_store.specs.Links.{link_of}
+use Rattle.keep_index_store.specs.Moved.{reordered_link}
+use Rattle.keep_index_store.proofs.links.reordering.reorder_siblings.Given as goal
+
+abbrev pub invariant-loop-link : goal.invariant-loop-link
+invariant-loop-link l =
+    (map link_of l.links ≡ map (reordered_link l.place) (take l.link-index (map link_of l.fn.links))
+    ++ drop l.link-index (map link_of l.fn.links))
+    × (drop l.link-index l.links ≡ drop l.link-index l.fn.links)
