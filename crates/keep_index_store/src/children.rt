@@ -332,11 +332,12 @@ impl Children {
         }
     }
 
-    /// Moves the number of each child. It takes no memory.
+    /// Moves the number of each child. It takes no memory. `by` is a reference, so that no copy of it is made for the
+    /// nodes that are passed over.
     #[inline(always)]
-    pub fn shift(&mut self, by: Shift)
-        requires { CanShiftChildren by self.old }
-        ensures { self.new ≡ shifted_children by self.old }
+    pub fn shift(&mut self, by: &Shift)
+        requires { CanShiftChildren by.now self.old }
+        ensures { self.new ≡ shifted_children by.now self.old }
     {
         if self.can_have_some() {
             self.shift_each(by);
@@ -345,16 +346,16 @@ impl Children {
 
     /// The same, where there can be children.
     #[inline(never)]
-    fn shift_each(&mut self, by: Shift)
-        requires { CanShiftChildren by self.old }
-        ensures { self.new ≡ shifted_children by self.old }
+    fn shift_each(&mut self, by: &Shift)
+        requires { CanShiftChildren by.now self.old }
+        ensures { self.new ≡ shifted_children by.now self.old }
     {
         match &mut self.form {
             Form::Nothing | Form::NoKeys => {}
-            Form::OneKey(only) => only.child = shifted(only.child, by),
-            Form::Keys(keys) => keys.shift(by),
-            Form::Run { len, first } => *first = run::first_shifted(*len, *first, by),
-            Form::Items(items) => shift_ids(items.as_mut_slice(), by),
+            Form::OneKey(only) => only.child = shifted(only.child, *by),
+            Form::Keys(keys) => keys.shift(*by),
+            Form::Run { len, first } => *first = run::first_shifted(*len, *first, *by),
+            Form::Items(items) => shift_ids(items.as_mut_slice(), *by),
         }
     }
 }

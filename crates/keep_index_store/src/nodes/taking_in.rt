@@ -42,7 +42,7 @@ fn shift_children(list: &mut [Node], by: Shift)
         return;
     }
     for node in list.iter_mut() {
-        node.children.shift(by);
+        node.children.shift(&by);
     }
 }
 
