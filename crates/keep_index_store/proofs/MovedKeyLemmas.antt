@@ -4,11 +4,12 @@
 -- loop that gives each entry another number; `keys_moved`: entries with their new numbers are the moved children.
 use Rattle.std.proofs.Common.{◌≡◌, ℕ, zero, suc, ◌+◌, ◌-◌, ◌<◌, List, [], ◌∷◌, ◌++◌, length, get_or, set, take, drop}
 use Rattle.std.proofs.Common.{map, refl, sym, ◌∙◌, ap, arith, Some}
-use Rattle.std.specs.Prelude.{slice_get}
+use Rattle.std.specs.Prelude.{All, slice_get}
 use Rattle.std.specs.List.{insert, remove}
 use Rattle.std.specs.Option.{option_map_or}
 use Rattle.std.proofs.lemmas.List.{append-nil, drop_all, get_or-map, get_or_default}
 use Rattle.std.proofs.lemmas.List.Edits.{map_over_more}
+use Rattle.std.proofs.lemmas.List.Folds.{map_fixed}
 use Rattle.std.proofs.lemmas.Option.{get_or_from_slice_get, slice_get-get_or}
 use Rattle.indexmap.specs.IndexMap.{move_index, set_value_at}
 use Rattle.keep_index_store.specs.Children.{ChildList, Keyed, Listed}
@@ -41,6 +42,13 @@ values_more f xs ys i w h g is value =
     let x : List ℕ × ℕ = get_or ys i ([], 0) in
     value_set ys i w ([], 0) g ∙ ap (λ (v : ℕ). set ys i (x.0, v)) value
     ∙ map_over_more (with_value f) xs ys i x h is (get_or_default ys i ([], 0) x g)
+
+-- entries whose numbers stay
+pub entries_stay : (f : ℕ → ℕ) (es : List (List ℕ × ℕ)) → All (λ e. f e.1 ≡ e.1) es → es ≡ map (with_value f) es
+entries_stay f es stay =
+    sym (map_fixed (with_value f) es (λ k d h.
+    let e : List ℕ × ℕ = get_or es k d in
+    ap (λ (n : ℕ). let next : List ℕ × ℕ = (e.0, n) in next) (stay k d h)))
 
 pub value_read : (es : List (List ℕ × ℕ)) (i v : ℕ) → slice_get (map (λ e. e.1) es) i ≡ Some v → i < length es
     → (get_or es i ([], 0)).1 ≡ v

@@ -32,6 +32,16 @@ moved_last last at n is = ap (λ (b : Bool). cond b at (later_number at n)) (eq-
 pub moved_other : (last at n : ℕ) → (n ≡ last → ⊥) → moved_number last at n ≡ later_number at n
 moved_other last at n other = ap (λ (b : Bool). cond b at (later_number at n)) (ne_eqb n last other)
 
+pub moved_before : (last at n : ℕ) → n < at → at ≤ last → moved_number last at n ≡ n
+moved_before last at n low order =
+    moved_other last at n (λ same. absurd (omega (arith, low, order, same))) ∙ later_low at n low
+
+pub moved_late : (last at n : ℕ) → at ≤ n → at ≤ moved_number last at n
+moved_late last at n late = elim (cases_eq n last) [
+  | inl same ↦ omega (arith, moved_last last at n same)
+  | inr other ↦ omega (arith, late, moved_other last at n other, later_high at n late)
+]
+
 pub later_most : (at n : ℕ) → later_number at n ≤ n + 1
 later_most at n = elim (cases_lt n at) [
   | inl below ↦ omega (arith, later_low at n below)

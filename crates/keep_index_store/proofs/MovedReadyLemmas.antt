@@ -18,15 +18,17 @@ use Rattle.keep_path.specs.Path.{key}
 use Rattle.keep_index_store.specs.AllNodes.{Node, no_node}
 use Rattle.keep_index_store.specs.Children.{ChildList, Keyed, holds_of, named, child_ids}
 use Rattle.keep_index_store.specs.Facts.{info_of}
-use Rattle.keep_index_store.specs.Moved.{CanMove, IsLast, MovesLast, with_last_at, moved_number, reordered_node}
-use Rattle.keep_index_store.specs.Moved.{reordered}
+use Rattle.keep_index_store.specs.Moved.{CanMove, EndsLate, IsLast, MovesLast, with_last_at, moved_number}
+use Rattle.keep_index_store.specs.Moved.{reordered, reordered_node}
 use Rattle.keep_index_store.specs.Stored.{step_at, step_in, trie_node_in, trie_of, infos_of}
 use Rattle.keep_index_store.specs.Trie.{TrieNode, nothing, by_key, by_index, IsTrie, children_from, children_of}
 use Rattle.keep_index_store.proofs.GrowthLemmas.{IsAlike, rest_same, trie_alike, paths_alike, links_alike}
 use Rattle.keep_index_store.proofs.StoredLemmas.{IsPlaced, IsStoredChild, count_named, here, holdings_are, ids_named}
 use Rattle.keep_index_store.proofs.StoredLemmas.{length_trie_of, node_placed, same_trie_node, states_are, step_below}
 use Rattle.keep_index_store.proofs.StoredLemmas.{stored_child}
-use Rattle.keep_index_store.proofs.MovedListLemmas.{from, last_inserted, length-last, map-last, read_moved}
+use Rattle.keep_index_store.proofs.AscendingLemmas.{Ascends, ascend_of}
+use Rattle.keep_index_store.proofs.MovedListLemmas.{from, last_inserted, length-last, map-last, moved_before}
+use Rattle.keep_index_store.proofs.MovedListLemmas.{moved_late, read_moved}
 use Rattle.keep_index_store.proofs.MovedTrieLemmas.{IsMovable, IsAbove, moved_trie, moved_answers}
 use Rattle.keep_index_store.proofs.MovedNodeLemmas.{IsReady, map_through}
 
@@ -56,6 +58,27 @@ split_place low high last at n lows highs within before after =
             ∙ get_or-append_right low high (length low) (length low) 0 refl (omega arith)
             ∙ ap (λ k. get_or high k 0) (let e : length low - length low ≡ 0 = omega arith in e) in
             absurd (omega (arith, own, highs 0 some, before (length low) past))
+      ]
+    ]
+
+-- numbers that ascend once they are renumbered
+ends_late : (last at : ℕ) (ids : List ℕ) → at ≤ last → Ascends (map (moved_number last at) ids) → EndsLate at ids
+ends_late last at ids order ascend k h late =
+    let f = moved_number last at in
+    let end : ℕ = length ids - 1 in
+    let many : length (map f ids) ≡ length ids = length-map ids f in
+    elim (cases_lt k end) [
+      | inr same ↦
+          let is : k ≡ end = omega (arith, same, h) in
+          omega (arith, late, ap (λ j. get_or ids j 0) is)
+      | inl less ↦ elim (cases_lt (get_or ids end 0) at) [
+        | inr more ↦ more
+        | inl early ↦
+            let one : get_or (map f ids) k 0 ≡ f (get_or ids k 0) = get_or-map f ids k 0 0 h in
+            let two : get_or (map f ids) end 0 ≡ f (get_or ids end 0) = get_or-map f ids end 0 0 (omega (arith, h)) in
+            let stays : f (get_or ids end 0) ≡ get_or ids end 0 = moved_before last at (get_or ids end 0) early order in
+            let up : at ≤ f (get_or ids k 0) = moved_late last at (get_or ids k 0) late in
+            absurd (omega (arith, ascend k end 0 less (omega (arith, h, many)), one, two, stays, up, early))
       ]
     ]
 
@@ -440,8 +463,27 @@ module _ (nodes : List Node) (at n : ℕ) (r : IsLast nodes at n) where
         let e : by_index ≡ by_key = sym indexed ∙ ap holds_of (children_other i no_node h far) ∙ keys in
         cc
 
+  -- they ascend once they are renumbered
+  ids_end : (i : ℕ) → i < length nodes → EndsLate at (child_ids (get_or all i no_node).children)
+  ids_end i h =
+      let ids : List ℕ = child_ids (get_or all i no_node).children in
+      let then : List ℕ = map (moved_number (length all - 1) at) ids in
+      let new : List TrieNode = moved_trie (trie_node_in all no_node) (trie_of all) at in
+      elim (cases_lt i (length all - 1)) [
+        | inl before ↦
+            ends_late (length all - 1) at ids (omega (arith, r.within, count))
+            (subst Ascends {x = children_of new (later_number at i)} {y = then} (sym (ready.kids i before))
+            (ascend_of new (later_number at i)))
+        | inr end ↦
+            let is : i ≡ length all - 1 = omega (arith, end, h, count) in
+            let none : ids ≡ [] = ap (λ j. child_ids (get_or all j no_node).children) is ∙ ready.bare in
+            λ k low late. absurd (omega (arith, low, ap length none))
+      ]
+
   pub can_move : (i : ℕ) → i < length nodes → CanMove last at (get_or all i no_node).children
   can_move i h = record {
+    place = omega (arith, r.within);
+    ends = ids_end i h;
     within =
         λ k d low.
         omega (arith, kid_low i k h low, get_or_default (child_ids (get_or all i no_node).children) k d 0 low);

@@ -6,7 +6,7 @@ use Rattle.std.proofs.Common.{arith, inl, inr}
 use Rattle.std.specs.Prelude.{All}
 use Rattle.std.proofs.lemmas.List.{get_or-map, length-map}
 use Rattle.std.proofs.lemmas.Bool.{cases_lt}
-use Rattle.keep_index_store.specs.Moved.{CanMove, IsApart, moved_number}
+use Rattle.keep_index_store.specs.Moved.{CanMove, EndsLate, IsApart, moved_number}
 use Rattle.keep_index_store.specs.Runs.{consecutive}
 use Rattle.keep_index_store.specs.Children.{ChildList, Keyed, Listed}
 use Rattle.keep_index_store.proofs.RunLemmas.{get_or-consecutive}
@@ -77,3 +77,9 @@ keys_within last at c pairs can is k d h =
       can'.within k 0 (omega (arith, h, length-map pairs (λ (e : List ℕ × ℕ). e.1))),
       get_or-map (λ (e : List ℕ × ℕ). e.1) pairs k d 0 h,
     )
+
+pub keys_end : (last at : ℕ) (c : ChildList) (pairs : List (List ℕ × ℕ)) → CanMove last at c → c ≡ Keyed pairs
+    → EndsLate at (map (λ e. e.1) pairs)
+keys_end last at c pairs can is =
+    let can' : CanMove last at (Keyed pairs) = subst (CanMove last at) is can in
+    can'.ends

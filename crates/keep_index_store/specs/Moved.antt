@@ -53,9 +53,16 @@ abbrev pub IsApart : ℕ → List ℕ → Type 0
 IsApart at ids =
     (k : ℕ) → k + 1 < length ids → slice_index_or ids k 0 + 1 ≡ at → slice_index_or ids (k + 1) 0 ≡ at → ⊥
 
+-- if one of the numbers is `at` or after it, so is the last of them
+abbrev pub EndsLate : ℕ → List ℕ → Type 0
+EndsLate at ids =
+    (k : ℕ) → k < length ids → at ≤ slice_index_or ids k 0 → at ≤ slice_index_or ids (length ids - 1) 0
+
 -- the children of a node can have the numbers that they have then
 pub record CanMove (last at : ℕ) (c : ChildList) : Type 0 where
+  pub place : at ≤ last
   pub within : All (λ id. id ≤ last) (child_ids c)
+  pub ends : EndsLate at (child_ids c)
   pub items : holds_of c ≡ by_index → All (λ id. id < last) (child_ids c)
   pub apart : holds_of c ≡ by_index → IsApart at (child_ids c)
 

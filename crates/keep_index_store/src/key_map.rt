@@ -1,12 +1,12 @@
 //! The children of a table by their keys.
 ghost use Rattle.std.specs.Prelude.{◌≡◌, ◌<◌, ◌≤◌, ◌+◌, ◌∷◌, ◌++◌, [], None, IfOk, OnErr, OnOk, bytes_eq, false};
-ghost use Rattle.std.specs.Prelude.{All, length, map, option_copied, option_map, slice_get};
+ghost use Rattle.std.specs.Prelude.{All, length, map, option_copied, option_map, slice_get, true};
 ghost use Rattle.std.specs.List.{remove};
 ghost use Rattle.std.specs.Map.{lookup};
 ghost use Rattle.indexmap.specs.IndexMap.{spare};
 ghost use Rattle.keep_index_store.specs.Below.{shifted_by};
 ghost use Rattle.keep_index_store.specs.KeyMaps.{with_key_at};
-ghost use Rattle.keep_index_store.specs.Moved.{moved_number, with_last_at};
+ghost use Rattle.keep_index_store.specs.Moved.{EndsLate, moved_number, with_last_at};
 ghost use Rattle.keep_index_store.specs.Replacing.{CanShift};
 ghost use Rattle.keep_path.specs.NodeInfos as spec;
 
@@ -131,11 +131,30 @@ impl KeyMap {
         self.table.move_index(last, to);
     }
 
+    /// Whether each child comes before `at`. If one does not, nor does the last, so it looks at that alone.
+    fn ends_before(&self, at: usize) -> bool
+        requires { EndsLate at (map (λ e. e.1) self.now) }
+        ensures { result ≡ true → All (λ e. e.1 < at) self.now }
+    {
+        let Some(last) = self.len().checked_sub(1) else {
+            return true;
+        };
+        let Some(child) = self.child_at(last) else {
+            unreachable!()
+        };
+        child < at
+    }
+
     /// Gives each child the number that it has once the last node has the number `at`.
     pub fn renumber(&mut self, last: usize, at: usize)
-        requires { All (λ e. e.1 ≤ last) self.old }
+        requires within { All (λ e. e.1 ≤ last) self.old }
+        requires place { at ≤ last }
+        requires ends { EndsLate at (map (λ e. e.1) self.old) }
         ensures { self.new ≡ map (λ e. (e.0, moved_number last at e.1)) self.old }
     {
+        if self.ends_before(at) {
+            return;
+        }
         for number in 0..self.table.len() {
             let child = &mut self.table[number];
             *child = number_then(*child, last, at);

@@ -4,13 +4,18 @@ use Rattle.std.proofs.lemmas.List.{with_items_is}
 use Rattle.keep_index_store.specs.ChildForms.{children_in}
 use Rattle.keep_index_store.specs.Runs.{consecutive}
 use Rattle.keep_index_store.proofs.MovedKeyLemmas.{items_moved, keys_moved}
-use Rattle.keep_index_store.proofs.MovedRunLemmas.{keys_within, run_within}
+use Rattle.keep_index_store.proofs.MovedRunLemmas.{keys_end, keys_within, run_within}
 use Rattle.keep_index_store.proofs.children.Children.renumber_each.Goals as goal
 use Rattle.keep_index_store.proofs.children.Children.renumber_each.Goals.{in-Nothing-1, in-NoKeys-1, in-OneKey, in-Keys}
 use Rattle.keep_index_store.proofs.children.Children.renumber_each.Goals.{in-Run, in-Items}
 
-pub renumber-requires : goal.renumber-requires
-renumber-requires c =
+pub renumber-requires-clause-ends : goal.renumber-requires-clause-ends
+renumber-requires-clause-ends c =
+    let is : c.args.self.now ≡ Keyed c.deref_mut-in-Keys.result.now = search rules in
+    keys_end c.args.last c.args.at c.args.self.now c.deref_mut-in-Keys.result.now c.requires is
+
+pub renumber-requires-clause-within : goal.renumber-requires-clause-within
+renumber-requires-clause-within c =
     let is : c.args.self.now ≡ Keyed c.deref_mut-in-Keys.result.now = search rules in
     keys_within c.args.last c.args.at c.args.self.now c.deref_mut-in-Keys.result.now c.requires is
 

@@ -1,8 +1,15 @@
-use Rattle.std.proofs.Common.{◌<◌, ℕ, List, [], length, ap, sym, ◌∙◌, arith}
+use Rattle.std.proofs.Common.{◌<◌, ℕ, List, [], length, get_or, ap, sym, ◌∙◌, arith}
 use Rattle.keep_index_store.specs.Moved.{moved_number}
-use Rattle.keep_index_store.proofs.MovedKeyLemmas.{with_value, value_read, values_more}
-use Rattle.keep_index_store.proofs.MovedListLemmas.{partly_count, partly_at, partly_all}
+use Rattle.keep_index_store.proofs.MovedKeyLemmas.{entries_stay, with_value, value_read, values_more}
+use Rattle.keep_index_store.proofs.MovedListLemmas.{moved_before, partly_count, partly_at, partly_all}
 use Rattle.keep_index_store.proofs.key_map.KeyMap.renumber.Goals as goal
+
+pub returns-then-ends_before : goal.returns-then-ends_before
+returns-then-ends_before c =
+    entries_stay (moved_number c.args.last c.args.at) c.args.self.now
+    (λ k d h.
+    moved_before c.args.last c.args.at (get_or c.args.self.now k d).1
+    (c.ends_before.ensures c.if-ends_before.true k d h) c.requires.place)
 
 pub loop-number-init : goal.loop-number-init
 loop-number-init c = c.self.view_is
@@ -31,7 +38,7 @@ number_then-requires c =
           (omega (arith, low, many)),
       ap (λ (e : List ℕ × ℕ).
           e.1) (partly_at f c.args.self.now _ c.loop-number.number c.loop-number.invariant ([], 0) low),
-      c.requires c.loop-number.number ([], 0) low,
+      c.requires.within c.loop-number.number ([], 0) low,
     )
 
 pub loop-number-preserved : goal.loop-number-preserved
