@@ -175,6 +175,7 @@ module _ (list ins : List StoredNode) (links ins_links : List ParentLink) (all i
         fit =
             λ j e low. inside_number_can (length all.items) id gone (length inside.items) r.within r.some r.few
             (get_or (child_ids (node_at inside.items k).children) j e) ((r.inside_numbers k no_node seen).1 j e low);
+        ends = λ j low _. omega arith;
         sides = λ _ j h before after. omega (arith, before);
       })
 
@@ -189,6 +190,7 @@ module _ (list ins : List StoredNode) (links ins_links : List ParentLink) (all i
         fit =
             λ j e low. beside_can (length all.items) id gone (length inside.items) r.within r.some r.few
             (get_or (child_ids (node_at all.items k).children) j e) ((r.numbers k no_node seen).1 j e low);
+        ends = r.ends k seen;
         sides = r.sides k seen place;
       })
 

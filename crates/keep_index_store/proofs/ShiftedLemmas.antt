@@ -10,7 +10,7 @@ use Rattle.std.proofs.lemmas.List.{get_or-map, length-map}
 use Rattle.keep_index_store.specs.declared.shift.Shift.{Shift}
 use Rattle.keep_index_store.specs.Below.{shifted_by, shifted_children}
 use Rattle.keep_index_store.specs.Children.{ChildList, Keyed, Listed}
-use Rattle.keep_index_store.specs.Moved.{IsApart}
+use Rattle.keep_index_store.specs.Moved.{EndsLate, IsApart}
 use Rattle.keep_index_store.specs.Replacing.{CanShift, CanShiftChildren}
 use Rattle.keep_index_store.specs.Runs.{consecutive}
 use Rattle.keep_index_store.proofs.MovedKeyLemmas.{with_value}
@@ -127,6 +127,12 @@ pub items_can : (by : Shift) (c : ChildList) (ids : List ℕ) → CanShiftChildr
 items_can by c ids can is =
     let can' : CanShiftChildren by (Listed ids) = subst (CanShiftChildren by) is can in
     can'.fit
+
+pub keys_end : (by : Shift) (c : ChildList) (pairs : List (List ℕ × ℕ)) → CanShiftChildren by c → c ≡ Keyed pairs
+    → EndsLate by.from (map (λ e. e.1) pairs)
+keys_end by c pairs can is =
+    let can' : CanShiftChildren by (Keyed pairs) = subst (CanShiftChildren by) is can in
+    can'.ends
 
 pub keys_can : (by : Shift) (c : ChildList) (pairs : List (List ℕ × ℕ)) → CanShiftChildren by c → c ≡ Keyed pairs
     → All (λ e. CanShift by e.1) pairs

@@ -12,7 +12,7 @@ use Rattle.keep_index_store.specs.declared.shift.Shift.{Shift}
 use Rattle.keep_index_store.specs.declared.shift.Totals.{Totals}
 use Rattle.keep_index_store.specs.AllNodes.{Node, node_at, with_children}
 use Rattle.keep_index_store.specs.Children.{ChildList, Bare, Keyed, Listed, child_ids, holds_of}
-use Rattle.keep_index_store.specs.Moved.{IsApart}
+use Rattle.keep_index_store.specs.Moved.{EndsLate, IsApart}
 use Rattle.keep_index_store.specs.Removed.{HasStoredLink}
 use Rattle.keep_index_store.specs.Stored.{IsStored}
 use Rattle.keep_index_store.specs.Trie.{by_key, by_index}
@@ -110,7 +110,8 @@ IsOnOneSide from c = holds_of c ≡ by_index → IsApart from (child_ids c)
 abbrev pub HasNumbersBelow : ℕ → Node → Type 0
 HasNumbersBelow many n = (n.parent < many) × All (λ id. id < many) (child_ids n.children)
 
--- the nodes can give place: numbers are small, and no run of items beside them goes on after them
+-- the nodes can give place: numbers are small, no run of items beside them goes on after them, and where a node has a
+-- child after them, its last child is
 pub record CanReplaceBelow (nodes : List Node) (id gone : ℕ) (inside : List Node) : Type 0 where
   pub within : id + gone < length nodes
   pub some : 0 < length inside
@@ -121,3 +122,4 @@ pub record CanReplaceBelow (nodes : List Node) (id gone : ℕ) (inside : List No
   pub inside_numbers : All (HasNumbersBelow (length inside)) inside
   pub sides : (j : ℕ) → j < length nodes → (j < id) ⊎ (id + gone < j)
       → IsOnOneSide (suc id + gone) (node_at nodes j).children
+  pub ends : (j : ℕ) → j < length nodes → EndsLate (suc id + gone) (child_ids (node_at nodes j).children)

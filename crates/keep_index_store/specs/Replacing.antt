@@ -7,7 +7,7 @@ use Rattle.keep_index_store.specs.declared.shift.Shift.{Shift}
 use Rattle.keep_index_store.specs.Below.{IsOnOneSide, shift_inside, shifted_by, shifted_children}
 use Rattle.keep_index_store.specs.Children.{ChildList, child_ids}
 use Rattle.keep_index_store.specs.Links.{FitsIn32Bits}
-use Rattle.keep_index_store.specs.Moved.{stored_at}
+use Rattle.keep_index_store.specs.Moved.{EndsLate, stored_at}
 
 -- a number that fits into 64 bits where it is moved, and does not fall below 0
 abbrev pub CanShift : Shift → ℕ → Type 0
@@ -16,6 +16,7 @@ CanShift by n = (n + by.new < 2 ^ 64) × (by.from ≤ n → by.old ≤ n + by.ne
 -- the children of a node can have the numbers that they have then
 pub record CanShiftChildren (by : Shift) (c : ChildList) : Type 0 where
   pub fit : All (CanShift by) (child_ids c)
+  pub ends : EndsLate by.from (child_ids c)
   pub sides : IsOnOneSide by.from c
 
 -- a node, where its children have those numbers

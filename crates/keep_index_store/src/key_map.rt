@@ -180,9 +180,13 @@ impl KeyMap {
 
     /// Moves the number of each child.
     pub fn shift(&mut self, by: Shift)
-        requires { All (λ e. CanShift by e.1) self.old }
+        requires fit { All (λ e. CanShift by e.1) self.old }
+        requires ends { EndsLate by.from (map (λ e. e.1) self.old) }
         ensures { self.new ≡ map (λ e. (e.0, shifted_by by e.1)) self.old }
     {
+        if self.ends_before(by.from) {
+            return;
+        }
         for number in 0..self.table.len() {
             let child = &mut self.table[number];
             *child = shifted(*child, by);

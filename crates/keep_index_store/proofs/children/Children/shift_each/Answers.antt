@@ -3,13 +3,19 @@ use Rattle.keep_index_store.specs.Children.{Keyed, Listed}
 use Rattle.std.proofs.lemmas.List.{with_items_is}
 use Rattle.keep_index_store.specs.ChildForms.{children_in}
 use Rattle.keep_index_store.specs.Runs.{consecutive}
-use Rattle.keep_index_store.proofs.ShiftedLemmas.{items_can, items_shifted, keys_can, keys_shifted, run_can, run_sides}
+use Rattle.keep_index_store.proofs.ShiftedLemmas.{items_can, items_shifted, keys_can, keys_end, keys_shifted, run_can}
+use Rattle.keep_index_store.proofs.ShiftedLemmas.{run_sides}
 use Rattle.keep_index_store.proofs.children.Children.shift_each.Goals as goal
 use Rattle.keep_index_store.proofs.children.Children.shift_each.Goals.{in-Nothing-1, in-NoKeys-1, in-OneKey}
 use Rattle.keep_index_store.proofs.children.Children.shift_each.Goals.{in-Keys, in-Run, in-Items}
 
-pub shift-requires : goal.shift-requires
-shift-requires c =
+pub shift-requires-clause-ends : goal.shift-requires-clause-ends
+shift-requires-clause-ends c =
+    let is : c.args.self.now ≡ Keyed c.deref_mut-in-Keys.result.now = search rules in
+    keys_end c.args.by.now c.args.self.now c.deref_mut-in-Keys.result.now c.requires is
+
+pub shift-requires-clause-fit : goal.shift-requires-clause-fit
+shift-requires-clause-fit c =
     let is : c.args.self.now ≡ Keyed c.deref_mut-in-Keys.result.now = search rules in
     keys_can c.args.by.now c.args.self.now c.deref_mut-in-Keys.result.now c.requires is
 

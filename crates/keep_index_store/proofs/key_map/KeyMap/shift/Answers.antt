@@ -1,9 +1,16 @@
-use Rattle.std.proofs.Common.{◌<◌, ℕ, List, [], length, ap, subst, sym, ◌∙◌, arith}
+use Rattle.std.proofs.Common.{◌<◌, ℕ, List, [], length, get_or, ap, subst, sym, ◌∙◌, arith}
 use Rattle.keep_index_store.specs.Below.{shifted_by}
 use Rattle.keep_index_store.specs.Replacing.{CanShift}
-use Rattle.keep_index_store.proofs.MovedKeyLemmas.{with_value, value_read, values_more}
+use Rattle.keep_index_store.proofs.MovedKeyLemmas.{entries_stay, with_value, value_read, values_more}
 use Rattle.keep_index_store.proofs.MovedListLemmas.{partly_count, partly_at, partly_all}
+use Rattle.keep_index_store.proofs.ShiftedLemmas.{shifted_low}
 use Rattle.keep_index_store.proofs.key_map.KeyMap.shift.Goals as goal
+
+pub returns-then-ends_before : goal.returns-then-ends_before
+returns-then-ends_before c =
+    entries_stay (shifted_by c.args.by) c.args.self.now
+    (λ k d h.
+    shifted_low c.args.by (get_or c.args.self.now k d).1 (c.ends_before.ensures c.if-ends_before.true k d h))
 
 pub loop-number-init : goal.loop-number-init
 loop-number-init c = c.self.view_is
@@ -29,7 +36,7 @@ shifted-requires c =
     subst (CanShift c.args.by)
     (sym (ap (λ (e : List ℕ × ℕ). e.1) (partly_at f now entries n c.loop-number.invariant ([], 0) low))
     ∙ value_read entries n _ c.index_mut-child.ensures.value low')
-    (c.requires n ([], 0) low)
+    (c.requires.fit n ([], 0) low)
 
 pub loop-number-preserved : goal.loop-number-preserved
 loop-number-preserved c =
