@@ -5,15 +5,18 @@
 -- are one (`one_list`). So what a node lists is what the tree says, without a look at the order in which the tree
 -- counts them.
 --
--- Theorem: `stored_in_order`.
-use Rattle.std.proofs.Common.{◌≡◌, ℕ, zero, suc, ◌+◌, ◌<◌, ◌≤◌, true, false, cond, List, [], ◌∷◌, length, get_or, drop}
-use Rattle.std.proofs.Common.{map, refl, sym, ◌∙◌, ap, subst, arith}
+-- Theorems: `stored_in_order`; `stored_ascend`: the children of a stored node ascend; `ascending_ends`: where numbers
+-- ascend and one of them is not less than another number, nor is the last of them.
+use Rattle.std.proofs.Common.{◌≡◌, ℕ, zero, suc, ◌+◌, ◌-◌, ◌<◌, ◌≤◌, true, false, cond, List, [], ◌∷◌, length, get_or}
+use Rattle.std.proofs.Common.{drop, map, refl, sym, ◌∙◌, ap, subst, arith, inl, inr}
+use Rattle.std.proofs.lemmas.Bool.{cases_lt}
 use Rattle.std.specs.Prelude.{◌==◌, AllPairs}
 use Rattle.std.proofs.lemmas.List.{get_or_default}
 use Rattle.std.proofs.lemmas.List.Kept.{AllPairs-cons}
 use Rattle.keep_path.specs.Path.{Part}
 use Rattle.keep_index_store.specs.AllNodes.{Node, no_node}
 use Rattle.keep_index_store.specs.Children.{child_ids}
+use Rattle.keep_index_store.specs.Moved.{EndsLate}
 use Rattle.keep_index_store.specs.Stored.{IsStored, trie_node_in, trie_of}
 use Rattle.keep_index_store.specs.Trie.{TrieNode, IsTrie, children_from, children_of, link}
 use Rattle.keep_index_store.proofs.StoredLemmas.{here, length_trie_of}
@@ -57,6 +60,15 @@ one_list (x ∷ xs) (y ∷ ys) a b there back =
     later x xs (get_or ys k 0) m.place
     (omega (arith, same, b 0 (suc k) 0 (omega arith) (omega (arith, h)))) m.nested m.number))
 
+-- if one of them is not less than a number, nor is the last
+pub ascending_ends : (ids : List ℕ) → Ascends ids → (at : ℕ) → EndsLate at ids
+ascending_ends ids ascend at k low late = elim (cases_lt k (length ids - 1)) [
+  | inl less ↦ omega (arith, late, ascend k (length ids - 1) 0 less (omega (arith, low)))
+  | inr same ↦
+      let is : k ≡ length ids - 1 = omega (arith, same, low) in
+      omega (arith, late, ap (λ i. get_or ids i 0) is)
+]
+
 -- ---- the children of a node of a tree
 
 children_ascend : (n i : ℕ) (ls : List (ℕ × Part)) → Ascends (children_from n i ls)
@@ -73,6 +85,10 @@ children_ascend n i (l ∷ ls) =
 
 pub ascend_of : (ts : List TrieNode) (i : ℕ) → Ascends (children_of ts i)
 ascend_of ts i = children_ascend 1 i (drop 1 (map link ts))
+
+pub stored_ascend : (nodes : List Node) → IsStored nodes → (i : ℕ) → i < length nodes
+    → Ascends (child_ids (get_or nodes i no_node).children)
+stored_ascend nodes stored i h = subst Ascends (sym (stored.kids i no_node h)) (ascend_of (trie_of nodes) i)
 
 -- ---- the nodes
 

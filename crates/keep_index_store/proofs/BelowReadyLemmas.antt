@@ -5,19 +5,18 @@
 -- one is below the node that stays, or is that node, which is a child by key.
 --
 -- Theorem: `can_replace`.
-use Rattle.std.proofs.Common.{◌≡◌, ℕ, suc, ◌+◌, ◌-◌, ◌<◌, ◌≤◌, ◌^◌, List, length, get_or, sym, ◌∙◌, ap, arith}
-use Rattle.std.proofs.Common.{◌⊎◌, inl, inr, subst}
+use Rattle.std.proofs.Common.{◌≡◌, ℕ, suc, ◌+◌, ◌<◌, ◌≤◌, ◌^◌, List, length, get_or, sym, ◌∙◌, ap, arith}
+use Rattle.std.proofs.Common.{◌⊎◌, inl, inr}
 use Rattle.std.specs.Prelude.{All}
 use Rattle.std.proofs.lemmas.List.{get_or_default}
 use Rattle.std.proofs.lemmas.Bool.{cases_eq, cases_lt}
 use Rattle.keep_index_store.specs.AllNodes.{Node, no_node, node_at}
 use Rattle.keep_index_store.specs.Below.{CanReplaceBelow, HasNumbersBelow, IsOnOneSide, IsRunBelow}
 use Rattle.keep_index_store.specs.Children.{child_ids, holds_of}
-use Rattle.keep_index_store.specs.Moved.{EndsLate}
 use Rattle.keep_index_store.specs.Removed.{HasStoredLink}
-use Rattle.keep_index_store.specs.Stored.{IsStored, trie_of}
+use Rattle.keep_index_store.specs.Stored.{IsStored}
 use Rattle.keep_index_store.specs.Trie.{by_index, by_key}
-use Rattle.keep_index_store.proofs.AscendingLemmas.{Ascends, ascend_of}
+use Rattle.keep_index_store.proofs.AscendingLemmas.{ascending_ends, stored_ascend}
 use Rattle.keep_index_store.proofs.StoredLemmas.{length_trie_of, node_placed, stored_child}
 
 -- ---- the numbers
@@ -44,19 +43,6 @@ numbers_below nodes stored root k d h =
             (stored_child nodes stored k n d h few).nested,
           ),
     )
-
--- the children of a node ascend, so the last of them is the latest
-ids_end : (nodes : List Node) → IsStored nodes → (at j : ℕ) → j < length nodes
-    → EndsLate at (child_ids (node_at nodes j).children)
-ids_end nodes stored at j h k low late =
-    let ids : List ℕ = child_ids (node_at nodes j).children in
-    let ascend : Ascends ids = subst Ascends (sym (stored.kids j no_node h)) (ascend_of (trie_of nodes) j) in
-    elim (cases_lt k (length ids - 1)) [
-      | inl less ↦ omega (arith, late, ascend k (length ids - 1) 0 less (omega (arith, low)))
-      | inr same ↦
-          let is : k ≡ length ids - 1 = omega (arith, same, low) in
-          omega (arith, late, ap (λ i. get_or ids i 0) is)
-    ]
 
 -- ---- the items
 
@@ -104,5 +90,6 @@ can_replace nodes id gone inside r s few links inside_links root inside_root = r
   numbers = numbers_below nodes r.stored root;
   inside_numbers = numbers_below inside s inside_root;
   sides = sides_apart nodes id gone r;
-  ends = λ j h. ids_end nodes r.stored (suc id + gone) j h;
+  ends = λ j h.
+      ascending_ends (child_ids (node_at nodes j).children) (stored_ascend nodes r.stored j h) (suc id + gone);
 }

@@ -25,6 +25,7 @@ use Rattle.keep_index_store.specs.Trie.{by_key, by_index}
 use Rattle.keep_index_store.proofs.NodeRowLemmas.{count_seen, rows_at, children_read, parent_read, number_read}
 use Rattle.keep_index_store.proofs.NodeRowLemmas.{children_set, nowhere, nothing}
 use Rattle.keep_index_store.proofs.StoredLemmas.{IsPlaced, IsStoredChild, count_named, node_placed, stored_child}
+use Rattle.keep_index_store.proofs.AscendingLemmas.{Ascends, stored_ascend}
 use Rattle.keep_index_store.proofs.RemovedListLemmas.{map-removed}
 
 -- ---- links that are stored in 32 bits
@@ -132,6 +133,14 @@ module _ (list : List StoredNode) (links : List ParentLink) (all : AllNodes) (vi
       let same : x.children ≡ (node_at nodes k).children =
       children_read list links all view paired k seen x (get_or_default list k d x low) in
       subst (λ (c : ChildList). HasNoItem at c) (sym same) (none_at k seen)
+
+  pub ascending : All (λ (x : StoredNode). Ascends (child_ids x.children)) list
+  ascending k d low =
+      let seen : k < length nodes = omega (arith, low, count_seen list links all view paired) in
+      let x : StoredNode = get_or list k d in
+      let same : x.children ≡ (node_at nodes k).children =
+      children_read list links all view paired k seen x (get_or_default list k d x low) in
+      subst (λ (c : ChildList). Ascends (child_ids c)) (sym same) (stored_ascend nodes r.stored k seen)
 
   -- ---- the key gone
 

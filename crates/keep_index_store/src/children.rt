@@ -8,7 +8,7 @@ ghost use Rattle.keep_index_store.specs.Below.{shifted_children};
 ghost use Rattle.keep_index_store.specs.ChildForms.{children_in};
 ghost use Rattle.keep_index_store.specs.Children.{Keyed, holding, no_children, holds_of, named, child_ids, child_named};
 ghost use Rattle.keep_index_store.specs.Children.{Bare, child_numbered};
-ghost use Rattle.keep_index_store.specs.Moved.{CanMove, moved_children, with_last_at};
+ghost use Rattle.keep_index_store.specs.Moved.{CanMove, EndsLate, moved_children, with_last_at};
 ghost use Rattle.keep_index_store.specs.Removed.{HasNoItem, earlier_children};
 ghost use Rattle.keep_index_store.specs.Replacing.{CanShiftChildren};
 ghost use Rattle.keep_index_store.specs.Trie.{by_key, by_index};
@@ -309,7 +309,8 @@ impl Children {
     /// Gives each child the number that it has once the node `at`, which is no item here, is gone. It takes no memory.
     #[inline(always)]
     pub fn renumber_earlier(&mut self, at: usize)
-        requires { HasNoItem at self.old }
+        requires apart { HasNoItem at self.old }
+        requires ends { EndsLate at (child_ids self.old) }
         ensures { self.new ≡ earlier_children at self.old }
     {
         if self.can_have_some() {
@@ -320,7 +321,8 @@ impl Children {
     /// The same, where there can be children.
     #[inline(never)]
     fn renumber_each_earlier(&mut self, at: usize)
-        requires { HasNoItem at self.old }
+        requires apart { HasNoItem at self.old }
+        requires ends { EndsLate at (child_ids self.old) }
         ensures { self.new ≡ earlier_children at self.old }
     {
         match &mut self.form {

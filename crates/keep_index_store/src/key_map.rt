@@ -170,8 +170,12 @@ impl KeyMap {
 
     /// Gives each child the number that it has once the node `at` is gone.
     pub fn renumber_earlier(&mut self, at: usize)
+        requires { EndsLate at (map (λ e. e.1) self.old) }
         ensures { self.new ≡ map (λ e. (e.0, spec.earlier_number at e.1)) self.old }
     {
+        if self.ends_before(at) {
+            return;
+        }
         for number in 0..self.table.len() {
             let child = &mut self.table[number];
             *child = earlier_number(at, *child);

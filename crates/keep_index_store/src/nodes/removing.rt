@@ -1,8 +1,8 @@
 //! The nodes, where one that has no children goes.
-ghost use Rattle.std.specs.Prelude.{◌≡◌, ◌<◌, All, length, map, true};
+ghost use Rattle.std.specs.Prelude.{◌≡◌, ◌<◌, All, AllPairs, length, map, true};
 ghost use Rattle.std.specs.List.{remove};
-ghost use Rattle.keep_index_store.specs.Children.{holds_of, named};
-ghost use Rattle.keep_index_store.specs.Moved.{stored_at};
+ghost use Rattle.keep_index_store.specs.Children.{child_ids, holds_of, named};
+ghost use Rattle.keep_index_store.specs.Moved.{EndsLate, stored_at};
 ghost use Rattle.keep_index_store.specs.Removed.{HasNoItem, HasStoredLink, IsLeaf, removed_nodes};
 ghost use Rattle.keep_index_store.specs.Removed.{with_earlier_children, without_key};
 ghost use Rattle.keep_index_store.specs.Trie.{by_key};
@@ -12,7 +12,8 @@ use crate::links::ParentLink;
 
 /// Gives the children of each node the numbers that they have once the node `at` is gone.
 fn renumber_children_earlier(list: &mut [Node], at: usize)
-    requires { All (λ n. HasNoItem at n.children) list.old }
+    requires apart { All (λ n. HasNoItem at n.children) list.old }
+    requires ends { All (λ n. EndsLate at (child_ids n.children)) list.old }
     ensures { list.new ≡ map (with_earlier_children at) list.old }
 {
     for node in list.iter_mut() {
@@ -27,6 +28,7 @@ fn remove_node(list: &mut Vec<Node>, at: usize, gone: ParentLink)
     requires holds { holds_of (stored_at list.old.items gone.parent).children ≡ by_key }
     requires counted { gone.number < length (named (stored_at list.old.items gone.parent).children) }
     requires each { All (λ n. HasNoItem at n.children) list.old.items }
+    requires ascend { All (λ n. AllPairs (λ a b. a < b) (child_ids n.children)) list.old.items }
     ensures { list.new.items ≡ remove (map (with_earlier_children at) (without_key list.old.items gone)) at }
 {
     let above = &mut list[gone.parent];

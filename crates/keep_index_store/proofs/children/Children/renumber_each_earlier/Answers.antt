@@ -1,5 +1,6 @@
-use Rattle.std.proofs.Common.{◌≡◌, ◌∙◌, List, ℕ, rules}
-use Rattle.keep_index_store.specs.Children.{Keyed, Listed}
+use Rattle.std.proofs.Common.{◌≡◌, ◌∙◌, List, ℕ, rules, subst}
+use Rattle.keep_index_store.specs.Children.{ChildList, Keyed, Listed, child_ids}
+use Rattle.keep_index_store.specs.Moved.{EndsLate}
 use Rattle.std.proofs.lemmas.List.{with_items_is}
 use Rattle.keep_index_store.specs.ChildForms.{children_in}
 use Rattle.keep_index_store.specs.Runs.{consecutive}
@@ -12,7 +13,12 @@ use Rattle.keep_index_store.proofs.children.Children.renumber_each_earlier.Goals
 pub first_earlier-requires-clause-apart : goal.first_earlier-requires-clause-apart
 first_earlier-requires-clause-apart c =
     let is : c.args.self.now ≡ Listed (consecutive c.in-Run.first c.in-Run.len) = search rules in
-    run_apart c.args.at c.args.self.now c.in-Run.first c.in-Run.len c.requires is
+    run_apart c.args.at c.args.self.now c.in-Run.first c.in-Run.len c.requires.apart is
+
+pub renumber_earlier-requires : goal.renumber_earlier-requires
+renumber_earlier-requires c =
+    let is : c.args.self.now ≡ Keyed c.deref_mut-in-Keys.result.now = search rules in
+    subst (λ (k : ChildList). EndsLate c.args.at (child_ids k)) is c.requires.ends
 
 pub returns : goal.returns
 returns c = elim c.match-self.branch [

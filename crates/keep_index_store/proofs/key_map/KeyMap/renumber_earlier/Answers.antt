@@ -1,8 +1,16 @@
-use Rattle.std.proofs.Common.{◌<◌, ℕ, List, length, ap, sym, ◌∙◌, arith}
+use Rattle.std.proofs.Common.{◌<◌, ℕ, List, length, get_or, ap, sym, ◌∙◌, arith}
 use Rattle.keep_path.specs.NodeInfos.{earlier_number}
-use Rattle.keep_index_store.proofs.MovedKeyLemmas.{with_value, value_read, values_more}
+use Rattle.keep_index_store.proofs.MovedKeyLemmas.{entries_stay, with_value, value_read, values_more}
 use Rattle.keep_index_store.proofs.MovedListLemmas.{partly_count, partly_all}
+use Rattle.keep_index_store.proofs.RemovedListLemmas.{earlier_low}
 use Rattle.keep_index_store.proofs.key_map.KeyMap.renumber_earlier.Goals as goal
+
+pub returns-then-ends_before : goal.returns-then-ends_before
+returns-then-ends_before c =
+    entries_stay (earlier_number c.args.at) c.args.self.now
+    (λ k d h.
+    earlier_low c.args.at (get_or c.args.self.now k d).1
+    (omega (arith, c.ends_before.ensures c.if-ends_before.true k d h)))
 
 pub loop-number-init : goal.loop-number-init
 loop-number-init c = c.self.view_is

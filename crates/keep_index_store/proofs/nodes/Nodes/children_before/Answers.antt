@@ -1,10 +1,9 @@
 -- The children ascend, so all before `low` come before.
 use Rattle.std.proofs.Common.{◌≡◌, ◌<◌, ◌≤◌, ◌-◌, ℕ, List, arith, get_or, length, inl, inr, sym, subst}
 use Rattle.std.proofs.lemmas.Bool.{cases_lt}
-use Rattle.keep_index_store.specs.AllNodes.{node_at, no_node}
+use Rattle.keep_index_store.specs.AllNodes.{node_at}
 use Rattle.keep_index_store.specs.Children.{child_ids}
-use Rattle.keep_index_store.specs.Stored.{trie_of}
-use Rattle.keep_index_store.proofs.AscendingLemmas.{Ascends, ascend_of}
+use Rattle.keep_index_store.proofs.AscendingLemmas.{Ascends, stored_ascend}
 use Rattle.keep_index_store.proofs.nodes.Nodes.children_before.Goals as goal
 
 -- if the last of the first `low` elements is less than `at`, all of them are
@@ -23,7 +22,7 @@ returns-clause-before c =
     let nodes = c.args.self.now.items in
     let id : ℕ = c.args.id in
     let ascend : Ascends (child_ids (node_at nodes id).children) =
-    subst Ascends (sym (c.requires.stored.kids id no_node c.requires.within)) (ascend_of (trie_of nodes) id) in
+    stored_ascend nodes c.requires.stored id c.requires.within in
     let i = c.loop-low.invariant in
     all_less (child_ids (node_at nodes id).children) ascend c.loop-low.low c.args.at
     (omega (arith, i.0, i.1)) i.2

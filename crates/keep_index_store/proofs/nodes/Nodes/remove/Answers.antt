@@ -1,7 +1,7 @@
 use Rattle.std.proofs.Common.{arith}
 use Rattle.keep_index_store.proofs.NodeRowLemmas.{links_seen}
-use Rattle.keep_index_store.proofs.RemovedRowLemmas.{above_low, at_low, counted, counts, each, holds, links_fit}
-use Rattle.keep_index_store.proofs.RemovedRowLemmas.{rows_gone}
+use Rattle.keep_index_store.proofs.RemovedRowLemmas.{above_low, ascending, at_low, counted, counts, each, holds}
+use Rattle.keep_index_store.proofs.RemovedRowLemmas.{links_fit, rows_gone}
 use Rattle.keep_index_store.proofs.nodes.Nodes.remove.Goals as goal
 
 pub remove-gone-requires-clause-small : goal.remove-gone-requires-clause-small
@@ -29,6 +29,10 @@ remove_node-requires-clause-counted c =
 pub remove_node-requires-clause-each : goal.remove_node-requires-clause-each
 remove_node-requires-clause-each c =
     each _ _ _ c.self.view_is c.self.invariant _ c.requires.leaf _ c.remove-gone.ensures.gone
+
+pub remove_node-requires-clause-ascend : goal.remove_node-requires-clause-ascend
+remove_node-requires-clause-ascend c =
+    ascending _ _ _ c.self.view_is c.self.invariant _ c.requires.leaf _ c.remove-gone.ensures.gone
 
 pub invariant_of-self : goal.invariant_of-self
 invariant_of-self c =
