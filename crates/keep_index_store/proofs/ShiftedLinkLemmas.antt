@@ -10,7 +10,7 @@ use Rattle.keep_path.specs.NodesBelow.{spliced}
 use Rattle.keep_index_store.specs.declared.links.PackedLink.{PackedLink}
 use Rattle.keep_index_store.specs.declared.links.ParentLink.{ParentLink}
 use Rattle.keep_index_store.specs.declared.shift.Shift.{Shift}
-use Rattle.keep_index_store.specs.Below.{shift_inside, shifted_by}
+use Rattle.keep_index_store.specs.Below.{shift_inside}
 use Rattle.keep_index_store.specs.Links.{FitsIn32Bits, link_of}
 use Rattle.keep_index_store.specs.Replacing.{CanShiftLink, link_at, replaced_links, shifted_link}
 use Rattle.keep_index_store.proofs.MovedLinkLemmas.{link_same}
@@ -28,12 +28,6 @@ pub can_here : (by : Shift) (old links : List PackedLink) (i : ℕ) (d : PackedL
     → CanShiftLink by (link_of (get_or links i d))
 can_here by old links i d can same low =
     subst (λ (h : PackedLink). CanShiftLink by (link_of h)) (sym (link_same old links i d same)) (can i d low)
-
-pub link_next : (by : Shift) (h next : PackedLink) → next.parent ≡ shifted_by by h.parent → next.number ≡ h.number
-    → link_of next ≡ shifted_link by (link_of h)
-link_next by h next parent number =
-    ap (λ p. let l : ParentLink = record { parent = p; number = next.number } in l) parent
-    ∙ ap (λ n. let l : ParentLink = record { parent = shifted_by by h.parent; number = n } in l) number
 
 -- ---- the links, where some give place to others
 

@@ -7,10 +7,20 @@ ghost use Rattle.keep_index_store.specs.Replacing.{CanShiftLink, replaced_links,
 ghost use Rattle.keep_index_store.specs.declared.links.ParentLink.{ParentLink as Link};
 
 use super::{PackedLink, ParentLinks};
-use crate::replaced::shifted;
 use crate::shift::Shift;
 use crate::splicing::splice_in;
 use std::alloc::Global;
+
+/// Gives the link the number that the parent has then. It is written only where it is another.
+fn shift_link(link: &mut PackedLink, by: Shift)
+    requires { CanShiftLink by (link_of link.old) }
+    ensures { link_of link.new ≡ shifted_link by (link_of link.old) }
+{
+    let parent = link.parent as usize;
+    if by.from <= parent {
+        link.parent = (parent + by.new - by.old) as u32;
+    }
+}
 
 /// Gives each link the number that the parent has then: its own, where as many nodes come as go.
 fn shift_links(links: &mut [PackedLink], by: Shift)
@@ -21,7 +31,7 @@ fn shift_links(links: &mut [PackedLink], by: Shift)
         return;
     }
     for link in links.iter_mut() {
-        link.parent = shifted(link.parent as usize, by) as u32;
+        shift_link(link, by);
     }
 }
 
