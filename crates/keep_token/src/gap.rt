@@ -8,7 +8,7 @@ ghost use Rattle.keep_token.specs.Abnf as abnf;
 ghost use Rattle.keep_token.specs.Leaves.{GapLeaf};
 ghost use Rattle.keep_token.specs.Scanning.{gap_at, moved};
 
-use crate::bytes::{is_ws, ws_run};
+use crate::bytes::{byte_at, is_ws, ws_run};
 use crate::comment::comment_len;
 use keep_types::Leaf;
 
@@ -52,7 +52,8 @@ pub fn scan_gap(text: &str, at: usize) -> Option<(Leaf, usize)>
     Some((leaf, at + len))
 }
 
-/// The byte at which white space ends that begins at the byte `at`.
+/// The byte at which white space ends that begins at the byte `at`. The first byte is white space, and mostly the only
+/// one, so the next is looked at before a run is counted.
 #[inline(always)]
 pub fn ws_end(text: &str, at: usize) -> usize
     requires bound { IsCharBoundary text.now at }
@@ -62,5 +63,10 @@ pub fn ws_end(text: &str, at: usize) -> usize
     // the result by the function on lists, for proofs above
     ensures value { moved at (gap_at (drop at text.now)) ≡ Some (leaf.Ws, result) }
 {
-    at + ws_run(&text.as_bytes()[at..])
+    let bytes = text.as_bytes();
+    let next = at + 1;
+    if !is_ws(byte_at(bytes, next)) {
+        return next;
+    }
+    next + ws_run(&bytes[next..])
 }
