@@ -22,7 +22,7 @@ use Rattle.keep_syntax_store.specs.Flat.{Flat}
 use Rattle.keep_syntax_store.proofs.Shared.{same_flat}
 use Rattle.keep_syntax.specs.Growth.{only, Fails, SpaceRead}
 use Rattle.keep_syntax.specs.FlatLines.{ContentIs, CommentRead, newline_by, NewlineRead, EndRead, LineRead}
-use Rattle.keep_syntax.specs.FlatLines.{with_statements}
+use Rattle.keep_syntax.specs.FlatLines.{NewlineOrEndRead, with_statements}
 use Rattle.keep_syntax.proofs.LoopLaws.{ok_is}
 use Rattle.keep_syntax.proofs.GrowthLaws.{grown_keys, grown_values, grown_statements}
 use Rattle.keep_syntax.proofs.GapCodeLaws.{fails_through}
@@ -48,12 +48,13 @@ after_bad prefix l (c ∷ cs) d some e = by (gap_cases (c ∷ cs))
     by (nothing r f) = let is : Bad ≡ d = (let bad = rw r at e in cc) in rw (r, sym is) refl
 
 -- the text ends after the comment
-pub end_at_end : (text : List ℕ) (at end : ℕ) (old new : Flat) → CommentRead text at old new (Ok end)
-    → end ≡ length text → EndRead text at old new (Ok None)
-end_at_end text at end old new k is = subst (λ (m : ℕ). CommentRead text at old new (Ok m)) is k
+end_at_end : (text : List ℕ) (at end : ℕ) (old mid new : Flat) → CommentRead text at old mid (Ok end)
+    → end ≡ length text → new ≡ mid → EndRead text at old new (Ok None)
+end_at_end text at end old mid new k is same =
+    rw (sym same) at (subst (λ (m : ℕ). CommentRead text at old mid (Ok m)) is k)
 
 -- neither a newline nor the end follows
-pub end_refused : (text : List ℕ) (at end : ℕ) (old mid new : Flat) (e : ReadFault)
+end_refused : (text : List ℕ) (at end : ℕ) (old mid new : Flat) (e : ReadFault)
     → CommentRead text at old mid (Ok end) → (end ≡ length text → ⊥) → NewlineRead text end mid new (Err e)
     → EndRead text at old new (Err e)
 end_refused text at end old mid new e k more nl = λ prefix l.
@@ -63,6 +64,14 @@ end_refused text at end old mid new e k more nl = λ prefix l.
     let some : 0 < length rest = omega (arith, length-drop end text, k.bound.0, more) in
     fails_through text e (newline_by rest (gap_at rest)) (after_line prefix l (comment_at (drop at text)).1)
     (λ d h. ap (after_line prefix l) after ∙ after_bad prefix l rest d some h) nl
+
+-- what ends the line follows the comment
+pub line_ends : (text : List ℕ) (at end : ℕ) (old mid new : Flat) (r : Result (Option ℕ) ReadFault)
+    → CommentRead text at old mid (Ok end) → NewlineOrEndRead text end mid new r → EndRead text at old new r
+line_ends text at end old mid new (Ok (Some next)) k s =
+    record { close = end; mid = mid; comment = k; newline = s }
+line_ends text at end old mid new (Ok None) k s = end_at_end text at end old mid new k s.0 s.1
+line_ends text at end old mid new (Err e) k s = end_refused text at end old mid new e k s.0 s.1
 
 -- ---- a line
 

@@ -75,6 +75,12 @@ abbrev pub NewlineRead : List ℕ → ℕ → Flat → Flat → Result ℕ ReadF
 NewlineRead text at old new r =
     PartRead text at 1 (newline_by (drop at text) (gap_at (drop at text))) (λ w. only (w ∷ [])) old new r
 
+-- a newline, or the end of the text, and where the next line begins, if one does
+abbrev pub NewlineOrEndRead : List ℕ → ℕ → Flat → Flat → Result (Option ℕ) ReadFault → Type 0
+NewlineOrEndRead text at old new (Ok (Some next)) = NewlineRead text at old new (Ok next)
+NewlineOrEndRead text at old new (Ok None) = (at ≡ length text) × (new ≡ old)
+NewlineOrEndRead text at old new (Err e) = (at ≡ length text → ⊥) × NewlineRead text at old new (Err e)
+
 -- a comment, if there is one, and the newline after it
 pub record EndIs (text : List ℕ) (at : ℕ) (old new : Flat) (next : ℕ) : Type 0 where
   pub close : ℕ

@@ -26,9 +26,8 @@ pub fn space(text: &str, at: usize, out: &mut Parts) -> Result<usize, ReadFault>
     if !is_ws(byte_at(text, at)) {
         return Ok(at);
     }
-    let end = ws_end(text, at);
     out.push_token(Leaf::Ws, at)?;
-    Ok(end)
+    Ok(ws_end(text, at))
 }
 
 /// `ws-comment-newline`: white space, newlines and comments from the byte `at` on, and where they end.

@@ -25,11 +25,18 @@ pub struct Head {
     value: Option<usize>,
 }
 
-/// Whether the content of a line cannot begin with this byte: a newline, a comment, and 0 for the text's end.
+/// Whether the content of a line cannot begin with this byte: a newline, a comment, and 0 for the text's end. Most
+/// contents begin with a byte above all of these, so that is the first test.
 fn is_line_end(byte: u8) -> bool
     ensures { result ≡ is_line_end byte }
 {
-    byte == 0 || byte == b'\n' || byte == b'\r' || byte == b'#'
+    if byte > b'#' {
+        false
+    } else if byte > b'\r' {
+        byte == b'#'
+    } else {
+        byte == 0 || byte == b'\n' || byte == b'\r'
+    }
 }
 
 /// `keyval` from `start` on, and where it ends.
@@ -175,6 +182,44 @@ fn newline(text: &str, at: usize, out: &mut Parts) -> Result<usize, ReadFault>
     }
 }
 
+/// The line feed at the byte `at`. Where the next line begins.
+#[inline(always)]
+fn line_feed(text: &str, at: usize, out: &mut Parts) -> Result<Option<usize>, ReadFault>
+    requires bound { IsCharBoundary text.now at }
+    requires feed { slice_index text.now at ≡ 0x0A }
+    ensures { lines_spec.NewlineOrEndRead text.now at (spec.flat out.old) (spec.flat out.new) result }
+{
+    let next = punctuation(text, at, 1, Leaf::Newline, out)?;
+    Ok(Some(next))
+}
+
+/// A newline at the byte `at`, or the end of the text. Where the next line begins, or `None` if the text ends. A
+/// function of its own, since few lines end without a line feed alone.
+#[inline(never)]
+fn rare_end(text: &str, at: usize, out: &mut Parts) -> Result<Option<usize>, ReadFault>
+    requires { IsCharBoundary text.now at }
+    ensures { lines_spec.NewlineOrEndRead text.now at (spec.flat out.old) (spec.flat out.new) result }
+{
+    if at == text.len() {
+        return Ok(None);
+    }
+    let next = newline(text, at, out)?;
+    Ok(Some(next))
+}
+
+/// A newline at the byte `at`, or the end of the text. Where the next line begins, or `None` if the text ends.
+#[inline(always)]
+fn newline_or_end(text: &str, at: usize, out: &mut Parts) -> Result<Option<usize>, ReadFault>
+    requires { IsCharBoundary text.now at }
+    ensures { lines_spec.NewlineOrEndRead text.now at (spec.flat out.old) (spec.flat out.new) result }
+{
+    if byte_at(text, at) == b'\n' {
+        line_feed(text, at, out)
+    } else {
+        rare_end(text, at, out)
+    }
+}
+
 /// `[ comment ]` at the byte `at`, and the newline after it. Where the next line begins, or `None` if the text ends.
 #[inline(always)]
 fn line_end(text: &str, at: usize, out: &mut Parts) -> Result<Option<usize>, ReadFault>
@@ -182,11 +227,7 @@ fn line_end(text: &str, at: usize, out: &mut Parts) -> Result<Option<usize>, Rea
     ensures { lines_spec.EndRead text.now at (spec.flat out.old) (spec.flat out.new) result }
 {
     let end = comment(text, at, out)?;
-    if end == text.len() {
-        return Ok(None);
-    }
-    let next = newline(text, end, out)?;
-    Ok(Some(next))
+    newline_or_end(text, end, out)
 }
 
 /// The statement at the byte `begin` of a line that begins at the byte `at`, and the rest of the line. Where the next
@@ -233,6 +274,7 @@ fn statement(
 }
 
 /// `expression` and its newline: the line at the byte `at`. Where the next line begins, or `None` if the text ends.
+/// Most lines without a statement are empty, so a line feed is looked for before all else.
 #[inline(always)]
 fn line(text: &str, at: usize, limits: Limits, out: &mut Parts) -> Result<Option<usize>, ReadFault>
     requires { IsCharBoundary text.now at }
@@ -240,7 +282,10 @@ fn line(text: &str, at: usize, limits: Limits, out: &mut Parts) -> Result<Option
         (spec.flat out.new) result }
 {
     let begin = space(text, at, out)?;
-    if is_line_end(byte_at(text, begin)) {
+    let byte = byte_at(text, begin);
+    if byte == b'\n' {
+        line_feed(text, begin, out)
+    } else if is_line_end(byte) {
         line_end(text, begin, out)
     } else {
         statement(text, at, begin, limits, out)

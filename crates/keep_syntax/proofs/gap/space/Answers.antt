@@ -10,5 +10,5 @@ returns-then-not-is_ws c =
 
 pub returns : goal.returns
 returns c =
-    white_leaf c.args.text.now c.args.at (flat c.args.out.now) (flat c.push_token.new.self) c.ws_end-end.result
-    c.requires c.ws_end-end.ensures.ends (sym c.ws_end-end.ensures.value) c.in_ok-push_token.ensures.ok
+    white_leaf c.args.text.now c.args.at (flat c.args.out.now) (flat c.push_token.new.self) c.ws_end.result
+    c.requires c.ws_end.ensures.ends (sym c.ws_end.ensures.value) c.in_ok-push_token.ensures.ok
