@@ -6,8 +6,9 @@
 -- bytes that the code tests are those of the grammar, which is computed for each of the 256 bytes (`upto`). Digits have
 -- a mask of their own (`block_non_digits`), and where it is 0 they go through the block (`digits_through`).
 --
--- Theorems: `block_ends`, `run_through`, `run_stops`, and `comment_class`, `basic_class` and `literal_class`; for
--- digits `block_non_digits` and `digits_through`.
+-- Theorems: `block_ends`, `run_through`, `run_stops`, and `comment_class`, `basic_class` and `literal_class`, with
+-- `comment_ends`, `basic_ends` and `literal_ends` where a block has the end; for digits `block_non_digits` and
+-- `digits_through`.
 use Rattle.std.proofs.Common.{◌≡◌, ℕ, zero, suc, ◌+◌, ◌*◌, ◌%◌, ◌^◌, ◌<◌, ◌≤◌, Bool, true, false, not, cond, eqb, ltb}
 use Rattle.std.proofs.Common.{List, [], ◌∷◌, map, length, drop, take, take-add, replicate, bit_and, inl, inr, subst}
 use Rattle.std.proofs.Common.{refl, sym, ap, ap₂, ◌∙◌, arith, w8, Fits}
@@ -16,7 +17,7 @@ use Rattle.std.specs.Char.{is_ascii_digit}
 use Rattle.std.specs.List.{list_all, prefix_len}
 use Rattle.std.proofs.lemmas.Bool.{and_parts, cases_Bool, cases_lt, eq-eqb, ne_eqb, eqb-true, eqb-false}
 use Rattle.std.proofs.lemmas.Bool.Decides.{leb_tells, nat_tests}
-use Rattle.std.proofs.lemmas.List.{length-map, length-drop, drop-drop}
+use Rattle.std.proofs.lemmas.List.{length-map, length-drop}
 use Rattle.std.proofs.lemmas.List.Folds.{list_all-append, prefix_len-append}
 use Rattle.std.proofs.lemmas.List.Sums.{prefix_len-drop_all, prefix_len-drop_no, prefix_len-le-length, prefix_len_stops}
 use Rattle.std.proofs.lemmas.Simd.{zip2_splat, zip2_splat_left, zip2-map, mask_l-mod, chunk-drop, length-chunk}
@@ -234,14 +235,12 @@ after_run p xs = elim (cases_lt (prefix_len p xs) (length xs)) [
   | inr past ↦ prefix_len-drop_all p xs (prefix_len p xs) past
 ]
 
--- a run that goes through so many bytes, and then through n to its end
-pub run_whole : (p : ℕ → Bool) (d : List ℕ) (at n : ℕ) → prefix_len p d ≡ at + prefix_len p (drop at d)
-    → prefix_len p (drop at d) ≡ n → prefix_len p d ≡ at + n + prefix_len p (drop (at + n) d)
-run_whole p d at n run is =
-    let none : prefix_len p (drop n (drop at d)) ≡ 0 =
-    subst (λ (k : ℕ). prefix_len p (drop k (drop at d)) ≡ 0) is (after_run p (drop at d)) in
-    let rest : prefix_len p (drop (at + n) d) ≡ 0 = ap (prefix_len p) (sym (drop-drop n at d)) ∙ none in
-    omega (arith, run, is, rest)
+-- a run of n bytes, and none after it
+pub run_whole : (p : ℕ → Bool) (d : List ℕ) (n : ℕ) → prefix_len p d ≡ n
+    → prefix_len p d ≡ n + prefix_len p (drop n d)
+run_whole p d n is =
+    let none : prefix_len p (drop n d) ≡ 0 = subst (λ (k : ℕ). prefix_len p (drop k d) ≡ 0) is (after_run p d) in
+    omega (arith, is, none)
 
 pub run_bound : (q : ℕ → Bool) (d : List ℕ) (i : ℕ) → i ≤ length d → i + prefix_len q (drop i d) ≤ length d
 run_bound q d i h = omega (arith, prefix_len-le-length q (drop i d), length-drop i d)
@@ -320,20 +319,34 @@ module _ (q : ℕ → Bool) (a b : ℕ) (bytes : upto (λ x. same (is_plain 9 a 
       one_run (is_plain 9 a b) q bytes (λ x far. plain_over 9 a b x (omega arith) far) none in
       sym (same_run d) ∙ run ∙ ap (λ (n : ℕ). i + n) (same_run (drop i d))
 
+  -- and so where a run of plain bytes is known to end
+  pub class_ends : (d : List ℕ) (n : ℕ) → prefix_len (is_plain 9 a b) d ≡ n → prefix_len q d ≡ n
+  class_ends d n is =
+      sym (one_run (is_plain 9 a b) q bytes (λ x far. plain_over 9 a b x (omega arith) far) none d) ∙ is
+
 pub comment_class : (d : List ℕ) (i : ℕ)
     → prefix_len (is_plain 9 0x7F 0x7F) d ≡ i + prefix_len (is_plain 9 0x7F 0x7F) (drop i d)
     → prefix_len is_comment d ≡ i + prefix_len is_comment (drop i d)
 comment_class = class_run is_comment 0x7F 0x7F refl comment_over
+
+pub comment_ends : (d : List ℕ) (n : ℕ) → prefix_len (is_plain 9 0x7F 0x7F) d ≡ n → prefix_len is_comment d ≡ n
+comment_ends = class_ends is_comment 0x7F 0x7F refl comment_over
 
 pub basic_class : (d : List ℕ) (i : ℕ)
     → prefix_len (is_plain 9 0x22 0x5C) d ≡ i + prefix_len (is_plain 9 0x22 0x5C) (drop i d)
     → prefix_len is_basic d ≡ i + prefix_len is_basic (drop i d)
 basic_class = class_run is_basic 0x22 0x5C refl basic_over
 
+pub basic_ends : (d : List ℕ) (n : ℕ) → prefix_len (is_plain 9 0x22 0x5C) d ≡ n → prefix_len is_basic d ≡ n
+basic_ends = class_ends is_basic 0x22 0x5C refl basic_over
+
 pub literal_class : (d : List ℕ) (i : ℕ)
     → prefix_len (is_plain 9 0x27 0x27) d ≡ i + prefix_len (is_plain 9 0x27 0x27) (drop i d)
     → prefix_len is_literal d ≡ i + prefix_len is_literal (drop i d)
 literal_class = class_run is_literal 0x27 0x27 refl literal_over
+
+pub literal_ends : (d : List ℕ) (n : ℕ) → prefix_len (is_plain 9 0x27 0x27) d ≡ n → prefix_len is_literal d ≡ n
+literal_ends = class_ends is_literal 0x27 0x27 refl literal_over
 
 -- ---- over many lines
 

@@ -1,5 +1,5 @@
 //! How far a run of bytes goes, sixteen bytes at a time.
-ghost use Rattle.std.specs.Prelude.{◌≡◌, ◌+◌, ◌≤◌, true, drop, length, map, take};
+ghost use Rattle.std.specs.Prelude.{◌≡◌, ◌+◌, ◌≤◌, true, drop, length, map, take, MatchResult};
 ghost use Rattle.std.specs.Char.{is_ascii_digit};
 ghost use Rattle.std.specs.List.{list_all, prefix_len};
 ghost use Rattle.std.specs.Simd.Lanes.{mask_l};
@@ -21,6 +21,27 @@ fn ends(block: u8x16, also: u8, a: u8, b: u8) -> u64
     (control | marks).to_bitmask()
 }
 
+/// How many bytes come before a control character but for the tab and `also`, or before one of two marks: `Ok` where a
+/// block has that byte, and else `Err` with how far whole blocks go, as a search says where it would go on.
+#[inline(always)]
+pub(crate) fn run_by_blocks(bytes: &[u8], also: u8, a: u8, b: u8) -> Result<usize, usize>
+    ensures run { MatchResult result
+        (λ len. prefix_len (is_plain also a b) bytes.now ≡ len)
+        (λ at. prefix_len (is_plain also a b) bytes.now
+        ≡ at + prefix_len (is_plain also a b) (drop at bytes.now)) }
+    ensures within { MatchResult result (λ len. len ≤ length bytes.now) (λ at. at ≤ length bytes.now) }
+{
+    let mut at = 0;
+    while bytes.len() - at >= BLOCK {
+        let found = ends(u8x16::from_slice(&bytes[at..]), also, a, b);
+        if found != 0 {
+            return Ok(at + found.trailing_zeros() as usize);
+        }
+        at += BLOCK;
+    }
+    Err(at)
+}
+
 /// How many bytes come before a control character but for the tab and `also`, or before one of two marks, as far as
 /// whole blocks go.
 #[inline(always)]
@@ -29,15 +50,10 @@ pub(crate) fn run_in_blocks(bytes: &[u8], also: u8, a: u8, b: u8) -> usize
         ≡ result + prefix_len (is_plain also a b) (drop result bytes.now) }
     ensures within { result ≤ length bytes.now }
 {
-    let mut at = 0;
-    while bytes.len() - at >= BLOCK {
-        let found = ends(u8x16::from_slice(&bytes[at..]), also, a, b);
-        if found != 0 {
-            return at + found.trailing_zeros() as usize;
-        }
-        at += BLOCK;
+    match run_by_blocks(bytes, also, a, b) {
+        Ok(len) => len,
+        Err(at) => at,
     }
-    at
 }
 
 /// A bit for each byte that is no digit.

@@ -7,7 +7,7 @@ ghost use Rattle.keep_token.specs.Numbers as numbers;
 ghost use Rattle.keep_token.specs.Strings as strings;
 ghost use Rattle.keep_token.specs.Words as words;
 
-use crate::blocks::run_in_blocks;
+use crate::blocks::run_by_blocks;
 
 const COMMENT: u8 = 1;
 
@@ -158,8 +158,10 @@ pub(crate) fn basic_run(bytes: &[u8]) -> usize
     ensures len { result ≡ prefix_len strings.is_basic bytes.now }
     ensures within { result ≤ length bytes.now }
 {
-    let at = run_in_blocks(bytes, b'\t', b'"', b'\\');
-    at + basic_tail(&bytes[at..])
+    match run_by_blocks(bytes, b'\t', b'"', b'\\') {
+        Ok(len) => len,
+        Err(at) => at + basic_tail(&bytes[at..]),
+    }
 }
 
 /// How many bytes at the start stand for themselves in a literal string, byte by byte.
@@ -175,6 +177,8 @@ pub(crate) fn literal_run(bytes: &[u8]) -> usize
     ensures len { result ≡ prefix_len strings.is_literal bytes.now }
     ensures within { result ≤ length bytes.now }
 {
-    let at = run_in_blocks(bytes, b'\t', b'\'', b'\'');
-    at + literal_tail(&bytes[at..])
+    match run_by_blocks(bytes, b'\t', b'\'', b'\'') {
+        Ok(len) => len,
+        Err(at) => at + literal_tail(&bytes[at..]),
+    }
 }

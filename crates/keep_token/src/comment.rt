@@ -3,7 +3,7 @@ ghost use Rattle.std.specs.Prelude.{◌≡◌, ◌≤◌, length};
 ghost use Rattle.std.specs.List.{prefix_len};
 ghost use Rattle.keep_token.specs.Abnf.{is_comment};
 
-use crate::blocks::run_in_blocks;
+use crate::blocks::run_by_blocks;
 use crate::bytes::comment_run;
 
 /// How many bytes of a comment come first.
@@ -13,6 +13,8 @@ pub(crate) fn comment_len(bytes: &[u8]) -> usize
     ensures within { result ≤ length bytes.now }
 {
     // 0x7F ends a comment too
-    let at = run_in_blocks(bytes, b'\t', 0x7F, 0x7F);
-    at + comment_run(&bytes[at..])
+    match run_by_blocks(bytes, b'\t', 0x7F, 0x7F) {
+        Ok(len) => len,
+        Err(at) => at + comment_run(&bytes[at..]),
+    }
 }

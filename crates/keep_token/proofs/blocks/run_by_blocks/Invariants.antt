@@ -1,7 +1,7 @@
 use Rattle.std.proofs.Common.{◌≡◌, ◌+◌, ◌-◌, ◌≤◌, length, drop}
 use Rattle.std.specs.List.{prefix_len}
 use Rattle.keep_token.specs.Blocks.{is_plain}
-use Rattle.keep_token.proofs.blocks.run_in_blocks.Given as goal
+use Rattle.keep_token.proofs.blocks.run_by_blocks.Given as goal
 
 abbrev pub invariant-loop-at : goal.invariant-loop-at
 invariant-loop-at l =
