@@ -126,23 +126,32 @@ pub fn fits_u32(number: u32, old: usize, new: usize) -> bool
 
 /// What has numbers of 32 bits that grow as more comes before.
 pub trait Grow: Copy {
+    ghost use Rattle.std.specs.Prelude.{◌↔◌};
+
     ghost IsSmallFrom: { ℕ → Self → Type 0 };
 
     /// Whether its numbers have 31 bits, and it is stored with no place before this one.
     fn is_small_from(self, at: usize) -> bool
         ensures { Decides result (IsSmallFrom at self) };
+
+    /// One that is small exactly if both are.
+    fn joined(self, other: Self) -> Self
+        ensures { (at : ℕ) → IsSmallFrom at result ↔ (IsSmallFrom at self × IsSmallFrom at other) };
 }
 
-/// Whether all from a number on are small, and stored with no place before this one.
+/// Whether all from a number on are small, and stored with no place before this one. All are joined into one, which is
+/// tested once: nearly always they are small, and a loop that does not stop is run over several elements at a time.
 pub fn all_are_small_from<T: Grow>(items: &[T], from: usize, at: usize) -> bool
     ensures { Decides result (AllByRecursion (T.IsSmallFrom at) (drop from items.now)) }
 {
-    'items: for number in from..items.len() {
-        if !items[number].is_small_from(at) {
-            return false;
-        }
+    if items.len() <= from {
+        return true;
     }
-    true
+    let mut all = items[from];
+    'items: for number in from + 1..items.len() {
+        all = all.joined(items[number]);
+    }
+    all.is_small_from(at)
 }
 
 /// Whether a text of `len` bytes is shorter than 4 GiB, also once what is after a place is moved to after another.

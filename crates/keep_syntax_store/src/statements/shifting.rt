@@ -36,4 +36,13 @@ impl Grow for PackedStatement {
     fn is_small_from(self, _at: usize) -> bool {
         either_u32(self.first_key, self.value) <= SMALL
     }
+
+    #[inline(always)]
+    fn joined(self, other: PackedStatement) -> PackedStatement {
+        PackedStatement {
+            first_key: either_u32(self.first_key, other.first_key),
+            value: either_u32(self.value, other.value),
+            ..self
+        }
+    }
 }

@@ -64,4 +64,14 @@ impl Grow for PackedValue {
     fn is_small_from(self, at: usize) -> bool {
         at <= self.anchor as usize && either_u32(self.owner, self.first_key) <= SMALL
     }
+
+    #[inline(always)]
+    fn joined(self, other: PackedValue) -> PackedValue {
+        PackedValue {
+            anchor: self.anchor.min(other.anchor),
+            owner: either_u32(self.owner, other.owner),
+            first_key: either_u32(self.first_key, other.first_key),
+            ..self
+        }
+    }
 }
