@@ -4,11 +4,25 @@ ghost use Rattle.std.specs.List.{prefix_len};
 ghost use Rattle.keep_token.specs.Abnf.{is_comment};
 
 use crate::blocks::run_by_blocks;
-use crate::bytes::comment_run;
+use crate::bytes::{byte_at, comment_run};
 
-/// How many bytes of a comment come first.
-#[inline(never)]
+/// How many bytes of a comment come first. A line feed is looked for before a block is read: comments that only set
+/// others apart are empty.
+#[inline(always)]
 pub(crate) fn comment_len(bytes: &[u8]) -> usize
+    ensures len { result ≡ prefix_len is_comment bytes.now }
+    ensures within { result ≤ length bytes.now }
+{
+    if byte_at(bytes, 0) == b'\n' {
+        0
+    } else {
+        long_comment_len(bytes)
+    }
+}
+
+/// How many bytes of a comment come first, found sixteen at a time.
+#[inline(never)]
+fn long_comment_len(bytes: &[u8]) -> usize
     ensures len { result ≡ prefix_len is_comment bytes.now }
     ensures within { result ≤ length bytes.now }
 {
