@@ -73,7 +73,9 @@ pub fn all_can_shift<T: Shift>(items: &[T], from: usize, old: &Counts, new: &Cou
     true
 }
 
-/// Moves the numbers of all elements of a slice from a number on.
+/// Moves the numbers of all elements of a slice from a number on. A function of its own, since the compiler then knows
+/// how often the loop runs, and takes several short elements at a time.
+#[inline(never)]
 fn shift_rest<T: Shift>(items: &mut [T], from: usize, old: &Counts, new: &Counts)
     requires within { from ≤ length items.old }
     requires can { AllByRecursion (T.CanShift old.now new.now) (drop from items.old) }
@@ -141,6 +143,7 @@ pub trait Grow: Copy {
 
 /// Whether all from a number on are small, and stored with no place before this one. All are joined into one, which is
 /// tested once: nearly always they are small, and a loop that does not stop is run over several elements at a time.
+#[inline(never)]
 pub fn all_are_small_from<T: Grow>(items: &[T], from: usize, at: usize) -> bool
     ensures { Decides result (AllByRecursion (T.IsSmallFrom at) (drop from items.now)) }
 {
