@@ -240,7 +240,8 @@ impl Starts {
     }
 
     /// Stores one more place. After a refusal those before are stored. A place before the last one is refused: a text
-    /// that is read from its start on has none.
+    /// that is read from its start on has none. Room is made apart, so that what is left of a push is short enough to
+    /// be no call.
     #[inline(always)]
     pub fn push(&mut self, at: usize) -> Result<(), AllocError>
         ensures ok { OnOk result (self.new ≡ self.old ++ at ∷ []) }
@@ -250,7 +251,8 @@ impl Starts {
         if at < last || at - last >= FAR as usize {
             return self.push_far(at);
         }
-        self.steps.push((at - last) as u8)?;
+        self.steps.reserve(1)?;
+        self.steps.push_reserved((at - last) as u8);
         self.last = at;
         Ok(())
     }
