@@ -4,20 +4,23 @@
 -- (`next_ready`); one key more is one node more (`tables_more`); and what was there before the first of them stays but
 -- for one child more of one node (`has_begun`), so it can be made again.
 --
--- Theorems: `next_place` and `last_place`: each key has its place; `keys_added`: what has come; `taken_back`: back again.
+-- Theorems: `next_place` and `last_place`: each key has its place; `keys_added`: what has come; `taken_back`: back
+-- again.
 use Rattle.std.proofs.Common.{◌≡◌, ℕ, zero, suc, ◌+◌, ◌-◌, ◌<◌, ◌≤◌, List, [], ◌∷◌, ◌++◌, length, get_or, map, set}
 use Rattle.std.proofs.Common.{take, refl, sym, ap, subst, ◌∙◌, arith, None, Some}
 use Rattle.std.specs.Global.{Global}
 use Rattle.std.specs.Prelude.{String, string_bytes}
 use Rattle.std.specs.List.{remove}
 use Rattle.std.proofs.lemmas.List.{get_or-set_same, get_or-take, length-set, set-get_or, set-set}
-use Rattle.std.proofs.lemmas.List.{append-nil, length-append, length-map, length-take-le, map-append, take-append-le, take-set-le, take_all, take_more}
+use Rattle.std.proofs.lemmas.List.{append-nil, length-append, length-map, length-take-le, map-append, take-append-le}
+use Rattle.std.proofs.lemmas.List.{take-set-le, take_all, take_more}
 use Rattle.std.proofs.lemmas.List.Edits.{remove-append_right}
 use Rattle.std.proofs.Math.Seq.{take-append_seam, take-set-lt}
 use Rattle.keep_index_store.specs.declared.facts.NodeFacts.{NodeFacts}
 use Rattle.keep_index_store.specs.declared.tree.joining.HeaderFacts.{HeaderFacts}
 use Rattle.keep_index_store.specs.AllNodes.{Node, and_item, and_key, no_node, node_at, with_children, with_key_below}
-use Rattle.keep_index_store.specs.Children.{ChildList, Bare, Keyed, Listed, child_ids, child_named, holds_of, named, no_children}
+use Rattle.keep_index_store.specs.Children.{ChildList, Bare, Keyed, Listed, child_ids, child_named, holds_of, named}
+use Rattle.keep_index_store.specs.Children.{no_children}
 use Rattle.keep_index_store.specs.KeysBelow.{HasBegun, first_key, last_table, next_facts, own_holding}
 use Rattle.keep_index_store.specs.KeysBelow.{with_element, with_element_below, with_header_below, with_keys_below}
 use Rattle.keep_index_store.specs.KeysBelow.{with_tables_below}
@@ -206,7 +209,10 @@ module _ (nodes : List Node) (parent : ℕ) (facts : HeaderFacts) (ks : List (Li
 
   last_is : length all - 1 ≡ length below
   last_is =
-      omega (arith, one_more below (last_table nodes parent facts.through ks) last (own_holding facts.element) facts.own)
+      omega (
+        arith,
+        one_more below (last_table nodes parent facts.through ks) last (own_holding facts.element) facts.own,
+      )
 
   last_row : node_at all (length all - 1) ≡ record {
     parent = last_table nodes parent facts.through ks;
@@ -228,7 +234,10 @@ module _ (nodes : List Node) (parent : ℕ) (facts : HeaderFacts) (ks : List (Li
 
   pub array_within : length all - 1 < length all
   array_within =
-      omega (arith, one_more below (last_table nodes parent facts.through ks) last (own_holding facts.element) facts.own)
+      omega (
+        arith,
+        one_more below (last_table nodes parent facts.through ks) last (own_holding facts.element) facts.own,
+      )
 
   module _ (element : NodeFacts) (is : facts.element ≡ Some element) where
     pub array_listed : holds_of (node_at all (length all - 1)).children ≡ by_index
@@ -407,8 +416,8 @@ module _ (old : List Node) (parent : ℕ) (facts : HeaderFacts) (keys : List (St
       keys_added more new_is =
           new_is ∙ ap (λ ns. with_key_below ns at last (own_holding facts.element) facts.own) is
           ∙ ap (λ n.
-          with_key_below (with_tables_below old parent facts.through so_far) n last (own_holding facts.element) facts.own)
-          at_is
+          with_key_below (with_tables_below old parent facts.through so_far) n last (own_holding facts.element)
+          facts.own) at_is
           ∙ ap (λ ks. with_keys_below old parent facts ks last) whole
 
       pub keys_begun : (more : List Node) → more ≡ with_key_below now at last (own_holding facts.element) facts.own

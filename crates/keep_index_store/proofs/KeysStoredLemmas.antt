@@ -232,7 +232,8 @@ module _ (nodes : List Node) (parent : ℕ) (facts : HeaderFacts) (leading : Lis
         stored = element_stored all array element base.stored within listed none;
         paths =
             g.paths
-            ∙ ap (λ p. paths_of (trie_of all) ++ (p ++ index 0 ∷ []) ∷ []) (last_path all base.stored front path base.paths)
+            ∙ ap (λ p. paths_of (trie_of all) ++ (p ++ index 0 ∷ []) ∷ [])
+            (last_path all base.stored front path base.paths)
             ∙ ap (λ ps. ps ++ (path ++ index 0 ∷ []) ∷ []) base.paths
             ∙ append_assoc front (path ∷ []) ((path ++ index 0 ∷ []) ∷ []);
         infos =

@@ -5,8 +5,8 @@
 -- (`through_key`) or from its last element (`past_key`). That is its last child, as the nodes are nested
 -- (`last_entered`).
 --
--- Theorems: `no_keys_passed`, `through_key` and `past_key`: the keys that have nodes; `table_known` and `element_known`: a
--- whole header `[..]` whose table is there, and `[[..]]` whose array of tables is.
+-- Theorems: `no_keys_passed`, `through_key` and `past_key`: the keys that have nodes; `table_known` and
+-- `element_known`: a whole header `[..]` whose table is there, and `[[..]]` whose array of tables is.
 use Rattle.std.proofs.Common.{◌≡◌, ℕ, suc, ◌+◌, ◌-◌, ◌<◌, ◌≤◌, true, false, List, [], ◌∷◌, ◌++◌, length, get_or, map}
 use Rattle.std.proofs.Common.{set, take, refl, sym, ap, subst, ◌∙◌, arith, length-append, inl, inr, Option, Some}
 use Rattle.std.proofs.Common.{Result, Ok, Err}
@@ -409,7 +409,8 @@ element_known t trie joins statement number keys at passes text part numbered d 
     with_info (with_info (with_joins t joins) p (info_of facts))
     (p ++ index (length (children_of t.trie array)) ∷ []) begins) tables.here
     ∙ ap (λ (i : NodeInfo).
-    with_info (with_info (with_joins t joins) path i) (path ++ index (length (children_of t.trie array)) ∷ []) begins) info
+    with_info (with_info (with_joins t joins) path i) (path ++ index (length (children_of t.trie array)) ∷ []) begins)
+    info
     ∙ begin_known d (node_infos t) (with_joins t joins) (path_at t.trie at) keys
     (keys_gone t joins statement number keys at passes d of numbers) statement number numbers text part numbered
     (length (children_of t.trie array)) many

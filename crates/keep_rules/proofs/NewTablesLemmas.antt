@@ -2,8 +2,8 @@
 --
 -- Below a path without a node there is none, so no `[[..]]` line has such a path (`none_below`), and the header goes
 -- through each of its further keys as through a table. By induction over these keys, what their new nodes are known by
--- is what the header says of them (`through_said`), and is what the new nodes in the tree have (`through_are`). What the
--- last key says comes after that.
+-- is what the header says of them (`through_said`), and is what the new nodes in the tree have (`through_are`). What
+-- the last key says comes after that.
 --
 -- Theorems: `tables_known` and `array_known`: a whole header `[..]` and `[[..]]`.
 use Rattle.std.proofs.Common.{◌≡◌, ◌≢◌, ℕ, suc, ◌+◌, List, [], ◌∷◌, ◌++◌, length, get_or, refl, sym, ap, subst, ◌∙◌}
@@ -61,7 +61,8 @@ none_here : (tables : List (List Part)) (path : List Part) (leading : List (List
     → HasNone tables path leading last
     → elements_of (path ++ key (first_key leading last) ∷ []) tables ≡ 0
 none_here tables path leading last none =
-    ap (λ (p : List Part). elements_of p tables) (sym (append-nil (path ++ key (first_key leading last) ∷ []))) ∙ none []
+    ap (λ (p : List Part). elements_of p tables) (sym (append-nil (path ++ key (first_key leading last) ∷ [])))
+    ∙ none []
 
 -- so none has the header's own path
 none_last : (tables : List (List Part)) (path : List Part) (leading : List (List ℕ)) (last : List ℕ)
@@ -207,7 +208,8 @@ module _ (t new : TrieInfos) (trie : IsTrie t.trie) (joins : List Join) (stateme
         said =
             through_said (with_joins t joins) ts path part statement leading last (count_after c ms) none_below
             key_counted counted
-            ∙ ap (λ (s : NodeInfos). with_mentions s (numbered_mentions (count_after c ms) (descent_mentions ts path leading)))
+            ∙ ap (λ (s : NodeInfos).
+            with_mentions s (numbered_mentions (count_after c ms) (descent_mentions ts path leading)))
             gone.said
             ∙ mentions_then (node_infos t) c ms (descent_mentions ts path leading)
             ∙ ap (λ (p : List Part).
@@ -265,7 +267,8 @@ module _ (t new : TrieInfos) (trie : IsTrie t.trie) (joins : List Join) (stateme
   array_known f some own_is element_is =
       let before : NodeInfos = with_tables (with_joins t joins) path facts.through leading in
       let place : List Part = own ++ index 0 ∷ [] in
-      let mid : NodeInfos = record { paths = before.paths ++ own ∷ []; infos = before.infos ++ info_of facts.own ∷ [] } in
+      let mid : NodeInfos =
+      record { paths = before.paths ++ own ∷ []; infos = before.infos ++ info_of facts.own ∷ [] } in
       let distinct : AllPairs (λ p q. p ≢ q) (before.paths ++ (own ∷ place ∷ [])) =
       subst (λ (o : Option NodeFacts). AllPairs (λ p q. p ≢ q) (before.paths ++ (own ∷ element_paths own o))) some
       all_distinct in

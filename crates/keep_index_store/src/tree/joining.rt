@@ -59,8 +59,8 @@ impl Tree {
         Ok(())
     }
 
-    /// Joins these facts to those of their nodes, whose roles stay, and adds a table for each of the leading keys, and a
-    /// table, or an array of tables with one element, for the last one. Each comes below the one before it, and the
+    /// Joins these facts to those of their nodes, whose roles stay, and adds a table for each of the leading keys, and
+    /// a table, or an array of tables with one element, for the last one. Each comes below the one before it, and the
     /// first below `parent`, where no node has its path yet. If memory runs out, nothing is changed.
     pub fn join_and_add_keys(
         &mut self,
@@ -85,9 +85,9 @@ impl Tree {
         Ok(())
     }
 
-    /// Adds a table for each of the leading keys, and a table, or an array of tables with one element, for the last one.
-    /// Each comes below the one before it, and the first below `parent`, where no node has its path yet. If memory runs
-    /// out, nothing is changed.
+    /// Adds a table for each of the leading keys, and a table, or an array of tables with one element, for the last
+    /// one. Each comes below the one before it, and the first below `parent`, where no node has its path yet. If memory
+    /// runs out, nothing is changed.
     fn add_keys(
         &mut self,
         parent: usize,

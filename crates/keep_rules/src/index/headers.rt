@@ -1,6 +1,6 @@
 //! The index where a header comes at the end of its document: it changes in place.
-ghost use Rattle.std.specs.Prelude.{◌≡◌, ◌+◌, ◌<◌, ◌≤◌, ◌^◌, ◌∷◌, ◌++◌, [], ℕ, List, IfOk, IfSome, IsSome, None, OnErr, OnOk};
-ghost use Rattle.std.specs.Prelude.{length, map, string_bytes, take};
+ghost use Rattle.std.specs.Prelude.{◌≡◌, ◌+◌, ◌<◌, ◌≤◌, ◌^◌, ◌∷◌, ◌++◌, [], ℕ, List, IfOk, IfSome, IsSome, None, OnErr};
+ghost use Rattle.std.specs.Prelude.{OnOk, length, map, string_bytes, take};
 ghost use Rattle.keep_types.specs.declared.node.Kind.TheVariants as kind;
 ghost use Rattle.keep_types.specs.declared.node.Origin.TheVariants as origin;
 ghost use Rattle.keep_syntax.specs.Tree.{Document};
@@ -23,7 +23,8 @@ use keep_types::{Kind, Origin, Role};
 
 impl Index {
     /// A header `[..]` with these keys comes after the document, as the statement with that number, whose first key
-    /// part has the number `key`. Keys from one on may have no node yet; else earlier headers go through the last one's.
+    /// part has the number `key`. Keys from one on may have no node yet; else earlier headers go through the last
+    /// one's.
     ///
     /// # Errors
     ///

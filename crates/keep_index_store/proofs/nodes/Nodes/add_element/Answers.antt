@@ -16,7 +16,8 @@ pub returns-clause-ok : goal.returns-clause-ok
 returns-clause-ok c =
     let nodes : List Node = c.args.self.now.items in
     let pushed : List Node = c.push.new.self.items in
-    let row : Node = record { parent = c.args.array; number = 0; children = no_children by_key; facts = c.args.facts } in
+    let row : Node =
+    record { parent = c.args.array; number = 0; children = no_children by_key; facts = c.args.facts } in
     let above : ChildList = (node_at nodes c.args.array).children in
     c.in_default.ensures.ok
     ∙ ap (λ (x : Node). with_children pushed c.args.array (and_item x.children c.len-id.result))

@@ -39,7 +39,8 @@ returns-clause-stated c = λ d of numbers.
     take_all c.in_ok-at.count c.in-Some.leading.now (omega (arith, c.if-count-leading.false)) in
     let passes : PassesKeys old joins c.args.statement c.args.key leading c.in_ok-at.at =
     subst (λ (ks : List (String Global)).
-    PassesKeys old joins c.args.statement c.args.key (map string_bytes ks) c.in_ok-at.at) all c.in_ok-at.ensures.passes in
+    PassesKeys old joins c.args.statement c.args.key (map string_bytes ks) c.in_ok-at.at) all
+    c.in_ok-at.ensures.passes in
     let many : c.in-Some-checked_add.part ≡ c.args.key + length leading =
     omega (arith, length-map c.in-Some.leading.now string_bytes) in
     let same : node_infos old ≡ c.args.self.now = c.self.view_is in

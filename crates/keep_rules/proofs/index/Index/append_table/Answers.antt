@@ -1,5 +1,6 @@
 -- What is joined to the nodes that the header goes through, and what its new nodes have, is what the header says.
-use Rattle.std.proofs.Common.{◌≡◌, ◌+◌, ◌-◌, ◌∷◌, ◌++◌, [], List, ℕ, drop, length, map, take, ◌∙◌, ap, arith, subst, sym}
+use Rattle.std.proofs.Common.{◌≡◌, ◌+◌, ◌-◌, ◌∷◌, ◌++◌, [], List, ℕ, drop, length, map, take, ◌∙◌, ap, arith, subst}
+use Rattle.std.proofs.Common.{sym}
 use Rattle.std.proofs.lemmas.List.{length-map, length-drop, length-take-le, map-append, take-append-drop, take_all}
 use Rattle.std.proofs.lemmas.Result.{on_ok_weaker}
 use Rattle.std.specs.Global.{Global}
@@ -55,8 +56,8 @@ returns-clause-stated c = λ d of numbers.
     c.as_str-2.ensures.value in
     on_ok_weaker c.add_header.result (λ adds.
     tables_known old c.add_header.new.nodes c.self.invariant.0 c.deref-2.result.now c.args.statement c.args.key passed
-    c.in_ok-at.at passes further c.as_str-2.result.now (c.args.key + c.in_ok-at.count) many c.table_facts-facts.result adds
-    c.table_facts-facts.ensures.through d (subst (IsIndexOf d) (sym same) of) numbers
+    c.in_ok-at.at passes further c.as_str-2.result.now (c.args.key + c.in_ok-at.count) many c.table_facts-facts.result
+    adds c.table_facts-facts.ensures.through d (subst (IsIndexOf d) (sym same) of) numbers
     c.table_facts-facts.ensures.element
     (c.table_facts-facts.ensures.own
     ∙ ap (λ (n : ℕ). named_info kind.Table n (origin.Header c.args.statement)) last_is)
@@ -71,7 +72,8 @@ join_all-requires-clause-joins c = (
   subst (AreUpTo 0 c.in-Some-child.child) (sym (c.deref.ensures.value ∙ c.in_ok-push_join.ensures))
       (table_ascends c.self.inside.nodes c.self.invariant.0 c.pass_keys.new.joins.items c.args.statement c.args.key
       (map string_bytes (take c.in_ok-at.count c.in-Some.leading.now)) c.in_ok-at.at c.in_ok-at.ensures.passes
-      c.as_str.result.now c.in-Some-child.child c.in-Some-child.ensures.0 c.in-Some-child.ensures.1 c.named-table.result),
+      c.as_str.result.now c.in-Some-child.child c.in-Some-child.ensures.0 c.in-Some-child.ensures.1
+      c.named-table.result),
 )
 
 pub returns-in-Some-child-clause-stated : goal.returns-in-Some-child-clause-stated
@@ -83,7 +85,8 @@ returns-in-Some-child-clause-stated c = λ d of numbers.
     take_all c.in_ok-at.count c.in-Some.leading.now (omega (arith, c.if-count-leading.true)) in
     let passes : PassesKeys old joins c.args.statement c.args.key leading c.in_ok-at.at =
     subst (λ (ks : List (String Global)).
-    PassesKeys old joins c.args.statement c.args.key (map string_bytes ks) c.in_ok-at.at) all c.in_ok-at.ensures.passes in
+    PassesKeys old joins c.args.statement c.args.key (map string_bytes ks) c.in_ok-at.at) all
+    c.in_ok-at.ensures.passes in
     let many : c.in-Some-checked_add.part ≡ c.args.key + length leading =
     omega (arith, length-map c.in-Some.leading.now string_bytes) in
     let same : node_infos old ≡ c.args.self.now = c.self.view_is in
