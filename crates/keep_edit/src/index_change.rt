@@ -31,7 +31,7 @@ pub(crate) struct NewText<'a> {
 }
 
 /// Whether a change of an index was made where it is. If not, the index is as before: memory was refused, nodes can't
-/// come between the others or go from there, a value is most of its text, or a header says more than can be added.
+/// come between the others or go from there, or a value is most of its text.
 pub(crate) fn change_index(index: &mut Index, change: IndexChange<'_>, new: NewText<'_>) -> bool
     requires { CanChange index.old change }
     ensures changed { (d : tree.Document) → IsReadAs new.entry.profile new.entry.text.now new.entry.syntax.now d
