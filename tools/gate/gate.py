@@ -8,7 +8,8 @@ the tests and the programs. When several proofs are ready, it gives most of them
 many others wait for would take twice the time that they need. So each crate is first proved by an `rt ci` of its own, once
 those below it are. Those with most behind them get two processors there; the others get one, since the same proof takes a fifth
 more work on two. The kit keeps what such a run passed, by the sums of all that it read, so the run over all takes it from
-there. That run gives the verdict, and proves what was not kept.
+there. That run gives the verdict, and proves what was not kept. Some kits keep nothing: where one says so, or proves a crate
+again that an earlier run had proved, the runs of single crates are ended, and the run over all begins.
 
 Beside them, as soon as the crates below a crate are proved, that crate's edits are tried over them, many in one check
 (tools/gate/edits.py); `rt ci` would try each alone. The proofs go first, since each crate waits for those below it: the edits step
@@ -271,16 +272,30 @@ class Proofs:
         copied_alone([*all_below(crate, self.below), crate], folder)
 
         def heard(line):
-            self.keeps = self.keeps and not KEEPS_NOT.match(line)
+            if self.keeps and (KEEPS_NOT.match(line) or self.is_proved_again(crate, line)):
+                self.keeps = False
+                self.end_runs()
             if not TOLD_LATER.match(line):
                 self.says(line)
 
         left = sorted((it for it in self.below if it not in self.edits.proved), key=self.behind.get, reverse=True)
         how = {} if crate in left[:PRESSING] else {"level": BACK, "more": ON_ONE}
-        if self.ran(folder, heard, **how):
+        status = self.ran(folder, heard, **how)
+        if self.keeps and status:
             self.says(f"{crate}: its run failed\n")
         elif self.keeps:
             self.has_proved(crate, folder)
+
+    def is_proved_again(self, crate, line):
+        """Whether the run of a crate says that it proved one which an earlier run had proved: then that was not kept."""
+        found = PROVED.match(line)
+        return bool(found) and found[2] == "proved" and found[1] != crate and found[1] in self.edits.proved
+
+    def end_runs(self):
+        """Ends the runs of single crates: where nothing is kept, the one over all proves each crate anew."""
+        for pid in [*self.running]:
+            with contextlib.suppress(ProcessLookupError):
+                os.killpg(pid, signal.SIGTERM)
 
     def prove_each(self):
         """Proves each crate by a run of its own, as far as they are kept for later runs."""
@@ -307,9 +322,7 @@ class Proofs:
 
     def stopped(self, number, _):
         """Ends all that runs, and the gate with it; the checks of edits end with the gate."""
-        for pid in [*self.running]:
-            with contextlib.suppress(ProcessLookupError):
-                os.killpg(pid, signal.SIGTERM)
+        self.end_runs()
         shutil.rmtree(self.room, ignore_errors=True)
         os._exit(128 + number)
 

@@ -1,5 +1,5 @@
 #!/usr/bin/env python3
-"""Shows that the gate passes where all is proved and refused, and not in seven cases where something is not.
+"""Shows that the gate passes where all is proved and refused, and not in eight cases where something is not.
 
     tools/gate/gate_test.py
 
@@ -28,8 +28,10 @@ ABOVE_SPLICE = [it for it in CRATES if edits_of(it) and "keep_edit_plan" in all_
 CASES = [
     ("all is proved", {}, True, []),
     ("nothing is kept for later runs", {"KEEPS": "no"}, True, []),
+    ("nothing is kept, and that is not said", {"KEEPS": "unsaid"}, True, []),
     ("a crate is not proved", {"FAILS": "keep_edit_plan"}, False, ABOVE_SPLICE),
     ("a crate is not proved, and nothing is kept", {"FAILS": "keep_edit_plan", "KEEPS": "no"}, False, ABOVE_SPLICE),
+    ("a crate is not proved, and that nothing is kept is not said", {"FAILS": "keep_edit_plan", "KEEPS": "unsaid"}, False, ABOVE_SPLICE),
     ("the lowest crate is not proved", {"FAILS": "keep_types"}, False, [it for it in CRATES if edits_of(it) and CRATES[it]]),
     ("the last crate is not proved", {"FAILS": "keep_test_streams"}, False, []),
     ("a crate is not proved in the run over all alone", {"ALL_FAILS": "keep_toml", "KEEPS": "no"}, False, []),
