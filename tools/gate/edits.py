@@ -13,6 +13,8 @@ An edit is refused there if a goal of its function is. Where all that is said of
 not proved, its edit is tried again, without that other's. An edit outside of its function's body (a table, a constant) has a
 check of its own, with all bodies.
 
+An edit of a function of the module `tests`, which is there in a crate's tests alone, has a check of the crate with them.
+
 An edit without that line is of a definition or a proof, on which much may rest. It is made alone, and the whole crate is
 checked.
 
@@ -39,6 +41,8 @@ from quick import all_below, crates, static_libraries
 ROOT = Path(__file__).resolve().parents[2]
 PARTS = ("src", "specs", "proofs")
 FUNCTION = "# refused in: "
+# How the path of a function begins that a check reads with the crate's tests alone.
+TESTS = "tests::"
 # What the prover says of a text that it could not read, of a function that it proved, by holes or not, of one that calls another
 # which it refused, of one of which it could not prove a goal, and where a proof names what is no longer there.
 NO_TERM = re.compile(r"is not in scope|has no field|is no name|operand is missing|expected the end|cannot continue")
@@ -166,6 +170,7 @@ class Checks:
     def run_only(self, functions, texts, has_all_bodies, edits=()):
         """What a check of these functions alone says, with these texts, and with all bodies or theirs alone."""
         words = [word for it in functions for word in ("--only", it)]
+        words += ["--test"] if any(it.startswith(TESTS) for it in functions) else []
         if has_all_bodies:
             return self.run(texts, *words, edits=edits)[1]
         return self.run(texts, "--allow-holes", *words, bodies=functions, edits=edits)[1]
