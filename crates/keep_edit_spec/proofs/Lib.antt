@@ -8,6 +8,7 @@ pub mod Growth
 pub mod Touched
 pub mod Values
 pub mod EditLaws
+pub mod Lists
 pub mod Rows
 pub mod AnswerRows
 pub mod Shared

@@ -41,7 +41,7 @@ pub use Rattle.keep_edit_spec.proofs.Insert.Origins.{IsDottedNode, dotted_ends, 
 pub use Rattle.keep_edit_spec.proofs.Insert.Origins.{unsaid_of_none}
 pub use Rattle.keep_edit_spec.proofs.Insert.HolderFacts.{no_bracket_element}
 pub use Rattle.keep_edit_spec.proofs.Common.FromMarksLines.{path_ends}
-pub use Rattle.keep_edit_spec.proofs.EditLaws.{insert_lawful, remove_lawful, rename_lawful, set_lawful}
+pub use Rattle.keep_edit_spec.proofs.EditLaws.{change_put, insert_lawful, remove_lawful, rename_lawful, set_lawful}
 pub use Rattle.keep_edit_spec.proofs.Common.Marks.{rules_of_document}
 pub use Rattle.keep_edit_spec.proofs.Remove.KeyvalMentions.{mentioned_below, mentions_keyval}
 pub use Rattle.keep_edit_spec.proofs.Remove.RemoveWhole.{shared_define}
@@ -76,3 +76,22 @@ pub use Rattle.keep_edit_spec.proofs.Insert.InsertDottedPlace.{IsBaseAt, IsDotte
 pub use Rattle.keep_edit_spec.proofs.Common.Texts.{text_of-append}
 pub use Rattle.keep_edit_spec.proofs.Touched.FitLaws.{touched_lines_are_lines}
 pub use Rattle.keep_edit_spec.proofs.Touched.TouchedCuts.{IsCut, touched_in_new_cut}
+pub use Rattle.keep_edit_spec.proofs.Lists.MergedLines.{ascend_with}
+pub use Rattle.keep_edit_spec.proofs.Lists.RunLaws.{none_is_run, run_goes_on}
+pub use Rattle.keep_edit_spec.proofs.Lists.StillAdds.{still_adds}
+pub use Rattle.keep_edit_spec.proofs.Lists.ItemRunLaws.{item_run_goes_on, none_is_item_run}
+pub use Rattle.keep_edit_spec.proofs.Lists.MoreItems.{keys_same, prefixes_alike}
+pub use Rattle.keep_edit_spec.proofs.Lists.NextItem.{not_before, not_empty}
+pub use Rattle.keep_edit_spec.proofs.Lists.CutLines.{follow_more}
+pub use Rattle.keep_edit_spec.proofs.Lists.CutRunLaws.{cut_run_goes_on, none_is_cut_run}
+pub use Rattle.keep_edit_spec.proofs.Lists.RemovedPlaces.{line_has_bytes, lines_apart}
+pub use Rattle.keep_edit_spec.proofs.Lists.StillRemoves.{still_removes}
+pub use Rattle.keep_edit_spec.proofs.Common.DoneAtValue.{EachOf}
+pub use Rattle.keep_edit_spec.proofs.Common.Runs.{same_path-refl}
+pub use Rattle.keep_edit_spec.proofs.Common.ValueThere.{IsSome}
+pub use Rattle.keep_edit_spec.proofs.Insert.ItemThere.{IsGranted, granted}
+pub use Rattle.keep_edit_spec.proofs.Insert.LinesNamed.{some_among}
+pub use Rattle.keep_edit_spec.proofs.Insert.NewPath.{new_path}
+pub use Rattle.keep_edit_spec.proofs.Remove.RemoveLinePlace.{IsCleared, IsOwnLine, cleared_lines, head_line}
+pub use Rattle.keep_edit_spec.proofs.Remove.RemoveLinePlace.{lines_split, page_line, rest_valid, tail_lines, without}
+pub use Rattle.keep_edit_spec.proofs.Remove.RemoveSectionPlace.{none_some}

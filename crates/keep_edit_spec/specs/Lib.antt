@@ -14,3 +14,6 @@ pub mod Removal
 pub mod Insertion
 pub mod TextEnds
 pub mod Headers
+pub mod AddedItems
+pub mod RemovedLines
+pub mod AddedLines

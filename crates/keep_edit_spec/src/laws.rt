@@ -1,7 +1,10 @@
 //! Laws of the edits, each the contract of a function that does nothing.
+ghost use Rattle.keep_edit_spec.specs.AddedItems as items;
+ghost use Rattle.keep_edit_spec.specs.AddedLines as added;
 ghost use Rattle.keep_edit_spec.specs.AppendedStatements as headers;
 ghost use Rattle.keep_edit_spec.specs.KeyvalLines as keyvals;
 ghost use Rattle.keep_edit_spec.specs.Laws as spec;
+ghost use Rattle.keep_edit_spec.specs.RemovedLines as removed;
 ghost use Rattle.keep_edit_spec.specs.TouchedLines as touched;
 
 /// A `set` that is not refused changes the document as it is stated: in its text, its tree and its size.
@@ -86,4 +89,23 @@ pub fn remove_takes_value()
 pub fn append_adds_statement()
     ensures table { headers.AppendTableAddsStatement }
     ensures element { headers.AppendElementAddsStatement }
+{}
+
+/// An `insert` that adds a line to a document adds the same one after another, of another path, added its line. So a
+/// run of such inserts is known by the document before it: none is refused, and the text is that one's with all the
+/// lines.
+pub fn inserts_add_lines()
+    ensures still { added.StillAddsLine }
+    ensures run { added.RunGoesOn }
+{}
+
+/// So is a run of inserts that each add the next item of one array.
+pub fn inserts_add_items()
+    ensures { items.ItemRunGoesOn }
+{}
+
+/// And so is a run of removes that each take a line.
+pub fn removes_take_lines()
+    ensures still { removed.StillRemovesLine }
+    ensures run { removed.CutRunGoesOn }
 {}

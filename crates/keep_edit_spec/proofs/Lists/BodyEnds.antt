@@ -1,0 +1,347 @@
+-- Where bodies end after an insert that adds a line.
+--
+-- The insert puts one keyval line before the line at which its holder's body ends (`edited_is` of Places). A body's
+-- length is counted up to a header, so of the bodies only the holder's can become longer: each other body ends before
+-- a header at or before that line, or begins after it (`cut_at`). So an end moves as a line does (`end_moves`).
+--
+-- Theorems: `end_stays`, `closed_stays`.
+use Rattle.std.proofs.Common.{◌≡◌, ℕ, zero, suc, ◌+◌, ◌<◌, ◌≤◌, Bool, true, false, cond, List, [], ◌∷◌, ◌++◌, length}
+use Rattle.std.proofs.Common.{map, take, drop, refl, sym, ap, ap₂, ◌∙◌, append_assoc, length-append, arith}
+use Rattle.std.proofs.Common.{Option, Some, None, inl, inr}
+use Rattle.std.specs.Prelude.{⊤}
+use Rattle.std.specs.Option.{option_map}
+use Rattle.std.proofs.lemmas.Bool.{and_parts, cases_lt, lt-ltb, le-ltb}
+use Rattle.std.proofs.lemmas.List.{take-append-drop, length-take-le, drop_at}
+use Rattle.keep_types.specs.declared.leaf.Profile.{Profile}
+use Rattle.keep_syntax.specs.Tree.{Name, Value, Content, blank, keyval, header, element, Line, Ended, Document}
+use Rattle.keep_path.specs.Path.{Part, same_path}
+use Rattle.keep_meaning.specs.Marks.{Reading, start}
+use Rattle.keep_meaning.specs.Meaning.{after_line, reading_after_lines, line_of, lines, mentions_in}
+use Rattle.keep_edit_spec.specs.Edits.{edited_document, end_of, insert, name_with}
+use Rattle.keep_edit_spec.specs.Lines.{last_line, begins, is_header, body_length, body_end}
+use Rattle.keep_edit_spec.specs.Lines.{more_lines, plain_line, new_line, newline_of}
+use Rattle.keep_edit_spec.specs.Look.{holder}
+use Rattle.keep_edit_spec.proofs.Common.BodyEnd.{last_found, drop_after, take_before, body_few}
+use Rattle.keep_edit_spec.specs.AddedLines.{AddedLine, AddsLine}
+use Rattle.keep_edit_spec.proofs.Lists.Places.{edited_is, later_line}
+
+pub later_before : (n i : ℕ) → i < n → later_line n i ≡ i
+later_before n i h = rw (lt-ltb i n h) refl
+
+pub later_from : (n i : ℕ) → n ≤ i → later_line n i ≡ suc i
+later_from n i h = rw (le-ltb i n h) refl
+
+pub later_suc : (n i : ℕ) → suc (later_line n i) ≡ later_line (suc n) (suc i)
+later_suc n i = elim (cases_lt i n) [
+  | inl l ↦ ap suc (later_before n i l) ∙ sym (later_before (suc n) (suc i) (omega (arith, l)))
+  | inr g ↦ ap suc (later_from n i g) ∙ sym (later_from (suc n) (suc i) (omega (arith, g)))
+]
+
+later_few : (n i m : ℕ) → i ≤ m → later_line n i ≤ suc m
+later_few n i m h = elim (cases_lt i n) [
+  | inl l ↦ omega (arith, h, later_before n i l)
+  | inr g ↦ omega (arith, h, later_from n i g)
+]
+
+-- ---- the document after the insert
+
+lines_put : (n : ℕ) (k : Ended) (es : List Ended) (last : Line) → n ≤ length es
+    → map line_of (take n es ++ k ∷ drop n es) ++ last ∷ []
+    ≡ take n (map line_of es ++ last ∷ []) ++ line_of k ∷ drop n (map line_of es ++ last ∷ [])
+lines_put zero k [] last h = refl
+lines_put (suc n) k [] last h = absurd (let few : suc n ≤ 0 = h in omega (arith, few))
+lines_put zero k (e ∷ es) last h = refl
+lines_put (suc n) k (e ∷ es) last h =
+    ap (λ (ls : List Line). e.line ∷ ls)
+    (lines_put n k es last (let few : suc n ≤ suc (length es) = h in omega (arith, few)))
+
+-- ---- one line more, and a body's length
+
+-- of lines, from that of the lines after the first
+abbrev length_after : Content → ℕ → ℕ
+length_after x n = elim x [
+  | blank ↦ more_lines false n
+  | keyval name value ↦ more_lines true n
+  | header before k after ↦ 0
+  | element before k after ↦ 0
+]
+
+after_few : (x : Content) (m n : ℕ) → m ≤ n → length_after x m ≤ suc n
+after_few blank zero n h = omega arith
+after_few blank (suc m) n h = omega (arith, h)
+after_few (keyval name v) m n h = omega (arith, h)
+after_few (header b k a) m n h = omega arith
+after_few (element b k a) m n h = omega arith
+
+header_none : (x : Content) (m : ℕ) → is_header x ≡ true → length_after x m ≡ 0
+header_none blank m h = absurd cc
+header_none (keyval name v) m h = absurd cc
+header_none (header b k a) m h = refl
+header_none (element b k a) m h = refl
+
+-- Before a header it is the same, whatever comes after that.
+header_few : (pre : List Line) (l : Line) (ls : List Line) → is_header l.content ≡ true
+    → body_length (pre ++ l ∷ ls) ≤ length pre
+header_few [] l ls h = omega (arith, header_none l.content (body_length ls) h)
+header_few (x ∷ pre) l ls h = after_few x.content (body_length (pre ++ l ∷ ls)) (length pre) (header_few pre l ls h)
+
+header_same : (pre : List Line) (l : Line) (ls more : List Line) → is_header l.content ≡ true
+    → body_length (pre ++ l ∷ ls) ≡ body_length (pre ++ l ∷ more)
+header_same [] l ls more h =
+    header_none l.content (body_length ls) h ∙ sym (header_none l.content (body_length more) h)
+header_same (x ∷ pre) l ls more h = ap (length_after x.content) (header_same pre l ls more h)
+
+-- Lines that are all of their body: so are those after the first, and they still are with one more.
+later_end : (x : Content) (m k n : ℕ) → (m ≡ n → k ≡ suc n) → length_after x m ≡ suc n → length_after x k ≡ suc (suc n)
+later_end blank zero k n go h = absurd cc
+later_end blank (suc m) k n go h = ap (more_lines false) (go cc)
+later_end (keyval name v) m k n go h = ap suc (go cc)
+later_end (header b x a) m k n go h = absurd cc
+later_end (element b x a) m k n go h = absurd cc
+
+earlier_end : (x : Content) (m n : ℕ) → length_after x m ≡ suc n → m ≡ n
+earlier_end blank zero n h = absurd cc
+earlier_end blank (suc m) n h = cc
+earlier_end (keyval name v) m n h = cc
+earlier_end (header b x a) m n h = absurd cc
+earlier_end (element b x a) m n h = absurd cc
+
+-- ---- the end of a path's body among lines
+
+drop_none : (ls : List Line) → drop 0 ls ≡ ls
+drop_none [] = refl
+drop_none (l ∷ ls) = refl
+
+abbrev end_at : List Line → Option ℕ → Option ℕ
+end_at ls o = elim o [ None ↦ None | Some i ↦ Some (body_end i ls) ]
+
+-- for a path that is not the root
+abbrev end_in : List Part → Reading → List Line → Option ℕ
+end_in a r ls = end_at ls (last_line (begins a) r ls)
+
+-- from the end among the lines after one line: that, or the end of the body which the line begins
+abbrev end_or : Bool → ℕ → Option ℕ → Option ℕ
+end_or b m None = cond b (Some (suc m)) None
+end_or b m (Some n) = Some (suc n)
+
+end_cons : (a : List Part) (r : Reading) (l : Line) (ls : List Line)
+    → end_in a r (l ∷ ls) ≡ end_or (begins a r l) (body_length ls) (end_in a (after_line r l) ls)
+end_cons a r l ls = by (last_line (begins a) (after_line r l) ls) (begins a r l)
+  where
+    by : (o : Option ℕ) (b : Bool)
+        → end_at (l ∷ ls) (elim o [ Some n ↦ Some (suc n) | None ↦ cond b (Some zero) None ])
+        ≡ end_or b (body_length ls) (end_at ls o)
+    by None false = refl
+    by None true = ap (λ (m : ℕ). Some m)
+        (let same : body_length (drop 0 ls) ≡ body_length ls = ap body_length (drop_none ls) in
+        let first : 1 + body_length (drop 0 ls) ≡ suc (body_length ls) = omega (arith, same) in first)
+    by (Some n) b = ap (λ (m : ℕ). Some m)
+        (let m : ℕ = body_length (drop (suc n) ls) in
+        let next : suc (suc n) + m ≡ suc (suc n + m) = omega arith in next)
+
+-- ---- one line more, and the ends of bodies
+
+module _ (name : Name) (v : Value) where
+  abbrev added : Line
+  added = plain_line (keyval name v)
+
+  -- The length of the body that these lines begin moves as the number of a line.
+  abbrev Moves : List Line → List Line → Type 0
+  Moves ls more = body_length (ls ++ added ∷ more) ≡ later_line (length ls) (body_length (ls ++ more))
+
+  -- and so does that of each body that begins among them
+  abbrev EachMoves : List Line → List Line → Type 0
+  EachMoves [] more = ⊤
+  EachMoves (l ∷ ls) more = (is_header l.content ≡ true → Moves ls more) × EachMoves ls more
+
+  at_end : (ls more : List Line) → body_length (ls ++ more) ≡ length ls
+      → body_length (ls ++ added ∷ more) ≡ suc (length ls)
+  at_end [] more h = ap suc h
+  at_end (l ∷ ls) more h =
+      later_end l.content (body_length (ls ++ more)) (body_length (ls ++ added ∷ more)) (length ls) (at_end ls more) h
+
+  moves_at_end : (ls more : List Line) → body_length (ls ++ more) ≡ length ls → Moves ls more
+  moves_at_end ls more h =
+      at_end ls more h ∙ ap suc (sym h) ∙ sym (later_from (length ls) (body_length (ls ++ more)) (omega (arith, h)))
+
+  each_at_end : (ls more : List Line) → body_length (ls ++ more) ≡ length ls → EachMoves ls more
+  each_at_end [] more h = tt
+  each_at_end (l ∷ ls) more h =
+      let m : ℕ = body_length (ls ++ more) in
+      let all : length_after l.content m ≡ suc (length ls) = h in (
+        λ is. absurd (let none : length_after l.content m ≡ 0 = header_none l.content m is in omega (arith, all, none)),
+        each_at_end ls more (earlier_end l.content m (length ls) h),
+      )
+
+  -- the lines up to the end of the last header's body
+  module _ (l : Line) (ls more : List Line) (is : is_header l.content ≡ true)
+      (ends : body_length (ls ++ more) ≡ length ls) where
+    moves_after : (pre : List Line) → Moves (pre ++ l ∷ ls) more
+    moves_after pre =
+        let few : body_length (pre ++ l ∷ (ls ++ more)) ≤ length pre = header_few pre l (ls ++ more) is in
+        let m : ℕ = body_length ((pre ++ l ∷ ls) ++ more) in
+        let same : m ≡ body_length (pre ++ l ∷ (ls ++ more)) = ap body_length (append_assoc pre (l ∷ ls) more) in
+        ap body_length (append_assoc pre (l ∷ ls) (added ∷ more))
+        ∙ header_same pre l (ls ++ added ∷ more) (ls ++ more) is
+        ∙ sym same
+        ∙ sym (later_before (length (pre ++ l ∷ ls)) m (omega (arith, few, same, length-append pre (l ∷ ls))))
+
+    each_after : (pre : List Line) → EachMoves (pre ++ l ∷ ls) more
+    each_after [] = (λ _. moves_at_end ls more ends, each_at_end ls more ends)
+    each_after (x ∷ pre) = (λ _. moves_after pre, each_after pre)
+
+  end_moves_in : (a : List Part) (r : Reading) (ls more : List Line) → EachMoves ls more
+      → end_in a r (ls ++ added ∷ more) ≡ option_map (later_line (length ls)) (end_in a r (ls ++ more))
+  end_moves_in a r [] more h = end_cons a r added more ∙ by (end_in a r more)
+    where
+      by : (o : Option ℕ) → end_or false (body_length more) o ≡ option_map (later_line 0) o
+      by None = refl
+      by (Some n) = ap (λ (m : ℕ). Some m) (sym (later_from 0 n (omega arith)))
+  end_moves_in a r (l ∷ ls) more h =
+      end_cons a r l (ls ++ added ∷ more)
+      ∙ ap (end_or (begins a r l) (body_length (ls ++ added ∷ more))) (end_moves_in a (after_line r l) ls more h.1)
+      ∙ by (end_in a (after_line r l) (ls ++ more)) (begins a r l)
+      (λ e. h.0 (and_parts (is_header l.content) (same_path (after_line r l).body a) e).0)
+      ∙ ap (option_map (later_line (suc (length ls)))) (sym (end_cons a r l (ls ++ more)))
+    where
+      by : (o : Option ℕ) (b : Bool) → (b ≡ true → Moves ls more)
+          → end_or b (body_length (ls ++ added ∷ more)) (option_map (later_line (length ls)) o)
+          ≡ option_map (later_line (suc (length ls))) (end_or b (body_length (ls ++ more)) o)
+      by None false m = refl
+      by None true m = ap (λ (k : ℕ). Some k) (ap suc (m refl) ∙ later_suc (length ls) (body_length (ls ++ more)))
+      by (Some n) b m = ap (λ (k : ℕ). Some k) (later_suc (length ls) n)
+
+-- ---- the line at which a body ends
+
+-- a body, cut at its end
+record IsBodyCut (ls : List Line) : Type 0 where
+  body : List Line
+  more : List Line
+  was : ls ≡ body ++ more
+  number : body_length ls ≡ length body
+  ends : body_length (body ++ more) ≡ length body
+
+body_cut : (ls : List Line) → IsBodyCut ls
+body_cut ls =
+    let n : ℕ = body_length ls in
+    let number : n ≡ length (take n ls) = sym (length-take-le n ls (body_few ls)) in
+    record {
+      body = take n ls;
+      more = drop n ls;
+      was = sym (take-append-drop n ls);
+      number = number;
+      ends = ap body_length (take-append-drop n ls) ∙ number;
+    }
+
+-- lines cut at a line: with one more there, the ends of bodies move
+record IsCut (name : Name) (v : Value) (ls : List Line) (n : ℕ) : Type 0 where
+  first : List Line
+  more : List Line
+  was : ls ≡ first ++ more
+  number : n ≡ length first
+  moves : Moves name v first more
+  each : EachMoves name v first more
+
+module _ (name : Name) (v : Value) where
+  cut_after : (a : List Part) (ls : List Line) (o : Option ℕ) (n : ℕ) → last_line (begins a) start ls ≡ o
+      → end_at ls o ≡ Some n → IsCut name v ls n
+  cut_after a ls None n e h = absurd cc
+  cut_after a ls (Some i) n e h =
+      let f = last_found (begins a) start ls i e in
+      let r : Reading = reading_after_lines start f.pre in
+      let is : is_header f.here.content ≡ true =
+      (and_parts (is_header f.here.content) (same_path (after_line r f.here).body a) f.passes).0 in
+      let c : IsBodyCut f.post = body_cut f.post in
+      let number : n ≡ body_end i ls = cc in
+      let post : drop (suc i) ls ≡ f.post =
+      ap (λ (k : ℕ). drop (suc k) ls) f.number ∙ ap (drop (suc (length f.pre))) f.was
+      ∙ drop_after f.pre f.here f.post in
+      record {
+        first = f.pre ++ f.here ∷ c.body;
+        more = c.more;
+        was = f.was ∙ ap (λ (x : List Line). f.pre ++ f.here ∷ x) c.was
+            ∙ sym (append_assoc f.pre (f.here ∷ c.body) c.more);
+        number = omega (
+          arith,
+          number,
+          f.number,
+          ap body_length post,
+          c.number,
+          length-append f.pre (f.here ∷ c.body),
+        );
+        moves = moves_after name v f.here c.body c.more is c.ends f.pre;
+        each = each_after name v f.here c.body c.more is c.ends f.pre;
+      }
+
+  cut_at : (s : Document) (a : List Part) (n : ℕ) → end_of s a ≡ Some n → IsCut name v (lines s) n
+  cut_at s [] n h =
+      let c : IsBodyCut (lines s) = body_cut (lines s) in
+      let same : n ≡ body_length (lines s) = cc in
+      record {
+        first = c.body;
+        more = c.more;
+        was = c.was;
+        number = same ∙ c.number;
+        moves = moves_at_end name v c.body c.more c.ends;
+        each = each_at_end name v c.body c.more c.ends;
+      }
+  cut_at s (p ∷ ps) n h = cut_after (p ∷ ps) (lines s) (last_line (begins (p ∷ ps)) start (lines s)) n refl h
+
+  -- for any path
+  abbrev end_among : List Part → List Line → Option ℕ
+  end_among [] ls = Some (body_length ls)
+  end_among (p ∷ ps) ls = end_in (p ∷ ps) start ls
+
+  end_is_among : (s : Document) (a : List Part) → end_of s a ≡ end_among a (lines s)
+  end_is_among s [] = refl
+  end_is_among s (p ∷ ps) = refl
+
+  end_moves_among : (a : List Part) (ls : List Line) (n : ℕ) → (c : IsCut name v ls n)
+      → end_among a (c.first ++ added name v ∷ c.more)
+      ≡ option_map (later_line (length c.first)) (end_among a (c.first ++ c.more))
+  end_moves_among [] ls n c = ap (λ (m : ℕ). Some m) c.moves
+  end_moves_among (p ∷ ps) ls n c = end_moves_in name v (p ∷ ps) start c.first c.more c.each
+
+  -- A document with one more line at the end of a body: each end is later as that line makes it.
+  pub end_moves : (s to : Document) (a : List Part) (n : ℕ) (other : List Part) (m : ℕ) → end_of s a ≡ Some n
+      → lines to ≡ take n (lines s) ++ added name v ∷ drop n (lines s) → end_of s other ≡ Some m
+      → end_of to other ≡ Some (later_line n m)
+  end_moves s to a n other m ends are before =
+      let c : IsCut name v (lines s) n = cut_at s a n ends in
+      let first : take n (lines s) ≡ c.first =
+      ap₂ (λ (k : ℕ) (ls : List Line). take k ls) c.number c.was ∙ take_before c.first c.more in
+      let more : drop n (lines s) ≡ c.more =
+      ap (drop n) c.was ∙ drop_at c.first c.more n (sym c.number) in
+      end_is_among to other
+      ∙ ap (end_among other) (are ∙ ap₂ (λ (x y : List Line). x ++ added name v ∷ y) first more)
+      ∙ end_moves_among other (lines s) n c
+      ∙ ap₂ (λ (k : ℕ) (ls : List Line). option_map (later_line k) (end_among other ls)) (sym c.number) (sym c.was)
+      ∙ ap (option_map (later_line n)) (sym (end_is_among s other) ∙ before)
+
+pub end_stays : (profile : Profile) (limit : ℕ) (s : Document) (path : List Part) (value : Value) (l : AddedLine)
+    (other : List Part) (more : Value) (m : AddedLine)
+    → (h : AddsLine profile limit s path value l) → (k : AddsLine profile limit s other more m)
+    → end_of (edited_document s (insert path value)) (holder other (mentions_in s))
+    ≡ Some (later_line h.number k.number)
+end_stays profile limit s path value l other more m h k =
+    end_moves (name_with (h.text ∷ [])) value s (edited_document s (insert path value)) (holder path (mentions_in s))
+    h.number (holder other (mentions_in s)) k.number h.ends
+    (ap lines (edited_is profile limit s path value l h)
+    ∙ lines_put h.number (new_line (newline_of s) (keyval (name_with (h.text ∷ [])) value)) s.ended s.last h.closed)
+    k.ends
+
+pub closed_stays : (profile : Profile) (limit : ℕ) (s : Document) (path : List Part) (value : Value) (l : AddedLine)
+    (other : List Part) (more : Value) (m : AddedLine)
+    → (h : AddsLine profile limit s path value l) → (k : AddsLine profile limit s other more m)
+    → later_line h.number k.number ≤ length (edited_document s (insert path value)).ended
+closed_stays profile limit s path value l other more m h k =
+    let new : Ended = new_line (newline_of s) (keyval (name_with (h.text ∷ [])) value) in
+    let es : List Ended = s.ended in
+    omega (
+      arith,
+      later_few h.number k.number (length es) k.closed,
+      ap (λ (d : Document). length d.ended) (edited_is profile limit s path value l h),
+      length-append (take h.number es) (new ∷ drop h.number es),
+      length-append (take h.number es) (drop h.number es),
+      ap (λ (x : List Ended). length x) (take-append-drop h.number es),
+    )

@@ -1,0 +1,387 @@
+-- What an insert that adds a line writes, and where: the same line after another such insert, at the moved place.
+--
+-- An insert at the end of a body puts a line in before line n, so its place is the length of the lines before it
+-- (`put_here`). One more line before line n leaves the lines before line i as they are if i comes before n, and else
+-- makes them longer by that line (`later_width`). A line has at least one byte, so their lengths are in the order of
+-- their numbers (`width_grows`, `width_stays`). The newline is the document's first, so it is the same if the new value
+-- has none in it, or if a line comes before the new one.
+--
+-- Theorems: `place_is`, `edited_is`, `newline_stays`, `place_stays`; `place_moves`: the same of any insert that leaves
+-- the newline; `scalar_quiet`: a scalar has no newline in it.
+use Rattle.std.proofs.Common.{◌≡◌, ℕ, zero, suc, ◌+◌, ◌<◌, ◌≤◌, Bool, true, false, cond, List, [], ◌∷◌, ◌++◌, length}
+use Rattle.std.proofs.Common.{take, drop, refl, sym, ap, subst, ◌∙◌, append_assoc, length-append, arith, Option, Some}
+use Rattle.std.proofs.Common.{None, inl, inr}
+use Rattle.std.specs.Prelude.{codes, IsTrue, nat_lt, if◌then◌else◌, ◌⊎◌}
+use Rattle.std.specs.List.{AllByRecursion, flat_map}
+use Rattle.std.proofs.lemmas.Bool.{lt-ltb, le-ltb, ltb-true, ltb-false}
+use Rattle.std.proofs.lemmas.List.{append-nil}
+use Rattle.keep_types.specs.declared.leaf.Profile.{Profile}
+use Rattle.keep_types.specs.declared.leaf.Leaf.{Leaf}
+use Rattle.keep_types.specs.declared.leaf.Leaf.TheVariants as leaf
+use Rattle.keep_syntax.specs.Tree.{Written, Value, Line, Ended, Document, keyval, bom_leaves, ended_leaves, leaves}
+use Rattle.keep_syntax.specs.Tree.{line_leaves, name_leaves, text_of, token, value_leaves, scalar, Entries, none, entry}
+use Rattle.keep_syntax.specs.Grammar.{IsEnded, IsValue}
+use Rattle.keep_path.specs.Path.{Part, key, last_part}
+use Rattle.keep_path.proofs.Shared.{last_pushed}
+use Rattle.keep_token.specs.Leaves.{is_scalar_leaf}
+use Rattle.keep_token.specs.Encoded.{encoded_key, is_bare_text}
+use Rattle.keep_meaning.specs.Marks.{Mention}
+use Rattle.keep_meaning.specs.Meaning.{mentions_in}
+use Rattle.keep_edit_spec.specs.Changed.{Changed, Place, place_of}
+use Rattle.keep_edit_spec.specs.Edits.{at_line, change, changed_or_same, edited_document, end_of, insert, name_with}
+use Rattle.keep_edit_spec.specs.Edits.{new_keyval, place}
+use Rattle.keep_edit_spec.specs.Insertion.{put_in}
+use Rattle.keep_edit_spec.specs.Laws.{IsEditable}
+use Rattle.keep_edit_spec.specs.Lines.{Page, ended_text, first_newline, new_line, newline_of, put_lines}
+use Rattle.keep_edit_spec.specs.Look.{holder, item_number}
+use Rattle.keep_edit_spec.proofs.Common.LineEnds.{ended_ends}
+use Rattle.keep_edit_spec.proofs.Common.NewLines.{newline_is}
+use Rattle.keep_edit_spec.proofs.Common.Texts.{text_of-append}
+use Rattle.keep_edit_spec.proofs.Insert.InsertLine.{change_here}
+use Rattle.keep_edit_spec.proofs.Insert.NewPath.{drop_prefix_parts}
+use Rattle.keep_edit_spec.specs.AddedLines.{AddedLine, AddsLine, moved_by}
+
+-- where the line of that number is once there is one more before line n
+abbrev pub later_line : ℕ → ℕ → ℕ
+later_line n i = if nat_lt i n then i else suc i
+
+-- a path that ends in a key is of no item
+item_none : (path a : List Part) (text : List ℕ) → path ≡ a ++ key text ∷ [] → (ms : List Mention)
+    → item_number path ms ≡ None
+item_none path a text one ms = rw (ap last_part one ∙ last_pushed a (key text), item_number) refl
+
+-- ---- lines put in before the last
+
+record IsPutHere (n : ℕ) (more : List Ended) (newline : Written) (es : List Ended) (last : Line) : Type 0 where
+  to : (put_lines n more newline es last).to ≡ record { ended = take n es ++ (more ++ drop n es); last = last }
+  before : (put_lines n more newline es last).before ≡ ended_text (take n es)
+  old : (put_lines n more newline es last).old ≡ []
+  new : (put_lines n more newline es last).new ≡ ended_text more
+
+put_here : (n : ℕ) (more : List Ended) (newline : Written) (es : List Ended) (last : Line) → n ≤ length es
+    → IsPutHere n more newline es last
+put_here zero more newline [] last h = record {
+  to = ap (λ (l : List Ended). record { ended = l; last = last }) (sym (append-nil more));
+  before = refl;
+  old = refl;
+  new = refl;
+}
+put_here (suc m) more newline [] last h = absurd (omega (arith, h))
+put_here zero more newline (e ∷ es) last h = record { to = refl; before = refl; old = refl; new = refl }
+put_here (suc m) more newline (e ∷ es) last h =
+    let p : IsPutHere m more newline es last = put_here m more newline es last (omega (arith, h)) in
+    record {
+      to = ap (λ (b : Page). record { ended = e ∷ b.ended; last = b.last }) p.to;
+      before = ap (λ (t : List ℕ). text_of (ended_leaves e) ++ t) p.before
+          ∙ sym (text_of-append (ended_leaves e) (flat_map ended_leaves (take m es)));
+      old = p.old;
+      new = p.new;
+    }
+
+-- ---- what an insert at the end of a body writes
+
+module _ (s : Document) (path : List Part) (value : Value) (text : List ℕ) (n : ℕ)
+    (no_item : item_number path (mentions_in s) ≡ None)
+    (one : path ≡ holder path (mentions_in s) ++ key text ∷ [])
+    (ends : end_of s (holder path (mentions_in s)) ≡ Some n) (few : n ≤ length s.ended) where
+  abbrev line : Ended
+  line = new_line (newline_of s) (keyval (name_with (text ∷ [])) value)
+
+  here : IsPutHere n (line ∷ []) (newline_of s) s.ended s.last
+  here = put_here n (line ∷ []) (newline_of s) s.ended s.last few
+
+  changes : change s (insert path value) ≡ at_line s n (keyval (name_with (text ∷ [])) value ∷ [])
+  changes = change_here s path value n no_item ends
+      ∙ ap (λ (ps : List Part). at_line s n (new_keyval ps value ∷ []))
+      (ap (drop (length (holder path (mentions_in s)))) one
+      ∙ drop_prefix_parts (holder path (mentions_in s)) (key text ∷ []))
+
+  abbrev placed : List ℕ → List ℕ → List ℕ → Place
+  placed b o w =
+      let at : ℕ = length (text_of (bom_leaves s.bom) ++ b) in record { start = at; end = at + length o; new = w }
+
+  pub place_is : place s (insert path value)
+      ≡ put_in (length (text_of (bom_leaves s.bom) ++ ended_text (take n s.ended))) (text_of (ended_leaves line))
+  place_is =
+      let bom : List ℕ = text_of (bom_leaves s.bom) in
+      let at : ℕ = length (bom ++ ended_text (take n s.ended)) in
+      ap (λ (c : Option (Changed Document)). place_of (changed_or_same s c)) changes
+      ∙ ap (λ (b : List ℕ). placed b (put_lines n (line ∷ []) (newline_of s) s.ended s.last).old
+      (put_lines n (line ∷ []) (newline_of s) s.ended s.last).new) here.before
+      ∙ ap (λ (o : List ℕ). placed (ended_text (take n s.ended)) o
+      (put_lines n (line ∷ []) (newline_of s) s.ended s.last).new) here.old
+      ∙ ap (placed (ended_text (take n s.ended)) []) (here.new ∙ ap text_of (append-nil (ended_leaves line)))
+      ∙ ap (λ (z : ℕ). record { start = at; end = z; new = text_of (ended_leaves line) }) (omega arith)
+
+  pub put_is : edited_document s (insert path value)
+      ≡ record { bom = s.bom; ended = take n s.ended ++ line ∷ drop n s.ended; last = s.last }
+  put_is = ap (λ (c : Option (Changed Document)). (changed_or_same s c).to) changes
+      ∙ ap (λ (b : Page). record { bom = s.bom; ended = b.ended; last = b.last }) here.to
+
+-- ---- the lengths of the lines before one
+
+abbrev pub size : Ended → ℕ
+size e = length (text_of (ended_leaves e))
+
+abbrev pub width : List Ended → ℕ
+width es = length (ended_text es)
+
+pub width_more : (e : Ended) (es : List Ended) → width (e ∷ es) ≡ size e + width es
+width_more e es =
+    ap (λ (t : List ℕ). length t) (text_of-append (ended_leaves e) (flat_map ended_leaves es))
+    ∙ length-append (text_of (ended_leaves e)) (ended_text es)
+
+take_none : (es : List Ended) → take 0 es ≡ []
+take_none [] = refl
+take_none (e ∷ es) = refl
+
+drop_none : (es : List Ended) → drop 0 es ≡ es
+drop_none [] = refl
+drop_none (e ∷ es) = refl
+
+-- the lines before line i, with one more before line n
+earlier : (n i : ℕ) (x : Ended) (es : List Ended) → i < n → n ≤ length es
+    → take i (take n es ++ x ∷ drop n es) ≡ take i es
+earlier zero i x es h few = absurd (omega (arith, h))
+earlier (suc n) i x [] h few = absurd (omega (arith, few))
+earlier (suc n) zero x (e ∷ es) h few = refl
+earlier (suc n) (suc i) x (e ∷ es) h few =
+    ap (λ (l : List Ended). e ∷ l) (earlier n i x es (omega (arith, h)) (omega (arith, few)))
+
+later_width : (n i : ℕ) (x : Ended) (es : List Ended) → n ≤ i → i ≤ length es
+    → width (take (suc i) (take n es ++ x ∷ drop n es)) ≡ width (take i es) + size x
+later_width zero i x es h few =
+    ap (λ (l : List Ended). width (take (suc i) (l ++ x ∷ drop 0 es))) (take_none es)
+    ∙ ap (λ (l : List Ended). width (x ∷ take i l)) (drop_none es)
+    ∙ width_more x (take i es) ∙ omega arith
+later_width (suc n) zero x es h few = absurd (omega (arith, h))
+later_width (suc n) (suc i) x [] h few = absurd (omega (arith, few))
+later_width (suc n) (suc i) x (e ∷ es) h few =
+    omega (
+      arith,
+      width_more e (take (suc i) (take n es ++ x ∷ drop n es)),
+      width_more e (take i es),
+      later_width n i x es (omega (arith, h)) (omega (arith, few)),
+    )
+
+-- Each line has bytes, so more lines are longer.
+module _ (profile : Profile) where
+  pub width_grows : (n i : ℕ) (es : List Ended) → AllByRecursion (IsEnded profile) es → i < n → n ≤ length es
+      → width (take i es) < width (take n es)
+  width_grows zero i es valid h few = absurd (omega (arith, h))
+  width_grows (suc n) i [] valid h few = absurd (omega (arith, few))
+  width_grows (suc n) zero (e ∷ es) valid h few =
+      omega (arith, width_more e (take n es), (ended_ends profile e valid.0).0)
+  width_grows (suc n) (suc i) (e ∷ es) valid h few =
+      let less : width (take i es) < width (take n es) =
+      width_grows n i es valid.1 (omega (arith, h)) (omega (arith, few)) in
+      omega (arith, width_more e (take n es), width_more e (take i es), less)
+
+pub width_stays : (n i : ℕ) (es : List Ended) → n ≤ i → width (take n es) ≤ width (take i es)
+width_stays zero i es h = omega (arith, ap width (take_none es))
+width_stays (suc n) zero es h = absurd (omega (arith, h))
+width_stays (suc n) (suc i) [] h = omega arith
+width_stays (suc n) (suc i) (e ∷ es) h =
+    omega (arith, width_more e (take n es), width_more e (take i es), width_stays n i es (omega (arith, h)))
+
+-- ---- the newline
+
+-- what comes after a newline does not matter
+up_to_newline : (ws : List Written) (w : Written) (more others : List Written) → w.leaf ≡ leaf.Newline
+    → first_newline (ws ++ w ∷ more) ≡ first_newline (ws ++ w ∷ others)
+up_to_newline [] w more others h =
+    subst (λ (l : Leaf). elim l [ leaf.Newline ↦ Some w | _ ↦ first_newline more ]
+    ≡ elim l [ leaf.Newline ↦ Some w | _ ↦ first_newline others ]) (sym h) refl
+up_to_newline (v ∷ ws) w more others h =
+    ap (λ (o : Option Written). elim v.leaf [ leaf.Newline ↦ Some v | _ ↦ o ]) (up_to_newline ws w more others h)
+
+abbrev newline_or : Written → Option Written → Leaf → Option Written
+newline_or w rest l = elim l [ leaf.Newline ↦ Some w | _ ↦ rest ]
+
+none_before : (ws more : List Written) → first_newline ws ≡ None → first_newline (ws ++ more) ≡ first_newline more
+none_before [] more h = refl
+none_before (w ∷ ws) more h = by w.leaf h (none_before ws more)
+  where
+    by : (l : Leaf) → newline_or w (first_newline ws) l ≡ None
+        → (first_newline ws ≡ None → first_newline (ws ++ more) ≡ first_newline more)
+        → newline_or w (first_newline (ws ++ more)) l ≡ first_newline more
+    by leaf.Newline k rest = absurd cc
+    by _ k rest = rest k
+
+at_newline : (ws : List Written) (w : Written) (more : List Written) → w.leaf ≡ leaf.Newline → first_newline ws ≡ None
+    → first_newline (ws ++ w ∷ more) ≡ Some w
+at_newline ws w more h quiet =
+    none_before ws (w ∷ more) quiet
+    ∙ ap (λ (l : Leaf). elim l [ leaf.Newline ↦ Some w | _ ↦ first_newline more ]) h
+
+bom_none : (b : Bool) → first_newline (bom_leaves b) ≡ None
+bom_none true = refl
+bom_none false = refl
+
+name_none : (text : List ℕ) → first_newline (name_leaves (name_with (text ∷ []))) ≡ None
+name_none text = by (is_bare_text text)
+  where
+    by : (b : Bool) → first_newline (record { leaf = cond b leaf.BareKey leaf.Basic; text = encoded_key text } ∷ [])
+        ≡ None
+    by true = refl
+    by false = refl
+
+-- A scalar has none.
+pub scalar_quiet : (profile : Profile) (w : Written) (nested : Entries)
+    → IsValue profile (record { body = scalar w; nested = nested })
+    → first_newline (value_leaves (record { body = scalar w; nested = nested })) ≡ None
+scalar_quiet profile w none h = by w.leaf h.body.0
+  where
+    by : (l : Leaf) → IsTrue (is_scalar_leaf l) → newline_or w None l ≡ None
+    by leaf.Newline k = absurd (let z : false ≡ true = k in cc)
+    by _ k = refl
+scalar_quiet profile w (entry None body nested after comma rest) h = absurd h.nested.0
+scalar_quiet profile w (entry (Some n) body nested after comma rest) h = absurd h.nested.0
+
+-- the leaves of a document that has an ended line, up to that line's newline
+first_line : (bom : Bool) (e : Ended) (es : List Ended) (last : Line)
+    → leaves (record { bom = bom; ended = e ∷ es; last = last })
+    ≡ (bom_leaves bom ++ line_leaves e.line) ++ e.newline ∷ (flat_map ended_leaves es
+    ++ (line_leaves last ++ token leaf.End []))
+first_line bom e es last = simp append_assoc refl
+
+abbrev or_line_feed : Option Written → Written
+or_line_feed o = elim o [ Some w ↦ w | None ↦ record { leaf = leaf.Newline; text = codes "\n" } ]
+
+abbrev with_line_before : ℕ → Ended → Document → Document
+with_line_before n x s = record { bom = s.bom; ended = take n s.ended ++ x ∷ drop n s.ended; last = s.last }
+
+module _ (profile : Profile) (bom : Bool) (last : Line) (x : Ended) where
+  newline_by : (n : ℕ) (es : List Ended)
+      → (let s : Document = record { bom = bom; ended = es; last = last } in
+      AllByRecursion (IsEnded profile) es → n ≤ length es → x.newline ≡ newline_of s
+      → x.newline.leaf ≡ leaf.Newline → (first_newline (line_leaves x.line) ≡ None) ⊎ (0 < n)
+      → newline_of (with_line_before n x s) ≡ newline_of s)
+  newline_by zero es valid few same kind (inl quiet) =
+      let rest : List Written = flat_map ended_leaves es ++ (line_leaves last ++ token leaf.End []) in
+      ap (λ (l : List Ended). newline_of (record { bom = bom; ended = l ++ x ∷ drop 0 es; last = last })) (take_none es)
+      ∙ ap (λ (l : List Ended). newline_of (record { bom = bom; ended = x ∷ l; last = last })) (drop_none es)
+      ∙ ap (λ (ws : List Written). or_line_feed (first_newline ws)) (first_line bom x es last)
+      ∙ ap or_line_feed (at_newline (bom_leaves bom ++ line_leaves x.line) x.newline rest kind
+      (none_before (bom_leaves bom) (line_leaves x.line) (bom_none bom) ∙ quiet))
+      ∙ same
+  newline_by zero es valid few same kind (inr past) = absurd (omega (arith, past))
+  newline_by (suc n) [] valid few same kind first = absurd (omega (arith, few))
+  newline_by (suc n) (e ∷ es) valid few same kind first =
+      let rest : List Ended → List Written =
+      λ l. flat_map ended_leaves l ++ (line_leaves last ++ token leaf.End []) in
+      ap (λ (ws : List Written). or_line_feed (first_newline ws)) (first_line bom e (take n es ++ x ∷ drop n es) last)
+      ∙ ap or_line_feed (up_to_newline (bom_leaves bom ++ line_leaves e.line) e.newline
+      (rest (take n es ++ x ∷ drop n es)) (rest es) valid.0.kind)
+      ∙ ap (λ (ws : List Written). or_line_feed (first_newline ws)) (sym (first_line bom e es last))
+
+-- ---- after an insert that adds a line
+
+module _ (profile : Profile) (limit : ℕ) (s : Document) (path : List Part) (value : Value) (l : AddedLine)
+    (h : AddsLine profile limit s path value l) where
+  abbrev added : Ended
+  added = new_line (newline_of s) (keyval (name_with (h.text ∷ [])) value)
+
+  no_item : item_number path (mentions_in s) ≡ None
+  no_item = item_none path (holder path (mentions_in s)) h.text h.one (mentions_in s)
+
+  pub edited_is : edited_document s (insert path value) ≡ with_line_before h.number added s
+  edited_is = put_is s path value h.text h.number no_item h.one h.ends h.closed
+
+  placed_at : place s (insert path value) ≡ put_in
+      (length (text_of (bom_leaves s.bom) ++ ended_text (take h.number s.ended))) (text_of (ended_leaves added))
+  placed_at = place_is s path value h.text h.number no_item h.one h.ends h.closed
+
+  at_is : l.at ≡ length (text_of (bom_leaves s.bom)) + width (take h.number s.ended)
+  at_is = ap (λ (p : Place). p.start) (sym h.is ∙ placed_at)
+      ∙ length-append (text_of (bom_leaves s.bom)) (ended_text (take h.number s.ended))
+
+  line_is : l.line ≡ text_of (ended_leaves added)
+  line_is = ap (λ (p : Place). p.new) (sym h.is ∙ placed_at)
+
+  pub newline_stays : IsEditable profile limit s → (first_newline (value_leaves value) ≡ None) ⊎ (0 < h.number)
+      → newline_of (edited_document s (insert path value)) ≡ newline_of s
+  newline_stays fine quiet =
+      ap newline_of edited_is
+      ∙ newline_by profile s.bom s.last added h.number s.ended fine.valid.ended h.closed refl
+      (newline_is profile s fine.valid).kind (by quiet)
+    where
+      by : (first_newline (value_leaves value) ≡ None) ⊎ (0 < h.number)
+          → (first_newline (line_leaves added.line) ≡ None) ⊎ (0 < h.number)
+      by (inl clear) =
+          inl (ap first_newline (append-nil (name_leaves (name_with (h.text ∷ [])) ++ value_leaves value))
+          ∙ none_before (name_leaves (name_with (h.text ∷ []))) (value_leaves value) (name_none h.text) ∙ clear)
+      by (inr past) = inr past
+
+module _ (profile : Profile) (limit : ℕ) (s : Document) (path : List Part) (value : Value) (l : AddedLine)
+    (other : List Part) (more : Value) (m : AddedLine) (fine : IsEditable profile limit s)
+    (h : AddsLine profile limit s path value l) (k : AddsLine profile limit s other more m) where
+  abbrev now : Document
+  now = edited_document s (insert path value)
+
+  abbrev bom : List ℕ
+  bom = text_of (bom_leaves s.bom)
+
+  abbrev x : Ended
+  x = added profile limit s path value l h
+
+  abbrev before : ℕ → List Ended
+  before j = take j (take h.number s.ended ++ x ∷ drop h.number s.ended)
+
+  moves_by : (b : Bool) → nat_lt k.number h.number ≡ b
+      → length (bom ++ ended_text (before (cond b k.number (suc k.number)))) ≡ moved_by l m.at
+  moves_by true e =
+      let less : k.number < h.number = ltb-true k.number h.number e in
+      let earlier_at : nat_lt m.at l.at ≡ true =
+      lt-ltb m.at l.at (omega (
+        arith,
+        at_is profile limit s path value l h,
+        at_is profile limit s other more m k,
+        width_grows profile h.number k.number s.ended fine.valid.ended less h.closed,
+      )) in
+      length-append bom (ended_text (before k.number))
+      ∙ ap (λ (es : List Ended). length bom + width es) (earlier h.number k.number x s.ended less h.closed)
+      ∙ sym (at_is profile limit s other more m k)
+      ∙ ap (λ (b : Bool). cond b m.at (m.at + length l.line)) (sym earlier_at)
+  moves_by false e =
+      let past : h.number ≤ k.number = ltb-false k.number h.number e in
+      let later_at : nat_lt m.at l.at ≡ false =
+      le-ltb m.at l.at (omega (
+        arith,
+        at_is profile limit s path value l h,
+        at_is profile limit s other more m k,
+        width_stays h.number k.number s.ended past,
+      )) in
+      let long : length (bom ++ ended_text (before (suc k.number))) ≡ m.at + length l.line =
+      omega (
+        arith,
+        length-append bom (ended_text (before (suc k.number))),
+        later_width h.number k.number x s.ended past k.closed,
+        at_is profile limit s other more m k,
+        ap (λ (t : List ℕ). length t) (line_is profile limit s path value l h),
+      ) in
+      long ∙ ap (λ (b : Bool). cond b m.at (m.at + length l.line)) (sym later_at)
+
+  -- after any insert that leaves the newline
+  pub place_moves : newline_of now ≡ newline_of s → holder other (mentions_in now) ≡ holder other (mentions_in s)
+      → end_of now (holder other (mentions_in s)) ≡ Some (later_line h.number k.number)
+      → later_line h.number k.number ≤ length now.ended
+      → place now (insert other more) ≡ put_in (moved_by l m.at) m.line
+  place_moves same holds ends few =
+      let j : ℕ = later_line h.number k.number in
+      let line : Written → List ℕ =
+      λ w. text_of (ended_leaves (new_line w (keyval (name_with (k.text ∷ [])) more))) in
+      place_is now other more k.text j (item_none other (holder other (mentions_in s)) k.text k.one (mentions_in now))
+      (k.one ∙ ap (λ (a : List Part). a ++ key k.text ∷ []) (sym holds)) (ap (end_of now) holds ∙ ends) few
+      ∙ ap (λ (d : Document). put_in (length (text_of (bom_leaves d.bom) ++ ended_text (take j d.ended)))
+      (line (newline_of now))) (edited_is profile limit s path value l h)
+      ∙ ap (λ (w : Written). put_in (length (bom ++ ended_text (before j))) (line w)) same
+      ∙ ap (put_in (length (bom ++ ended_text (before j)))) (sym (line_is profile limit s other more m k))
+      ∙ ap (λ (at : ℕ). put_in at m.line) (moves_by (nat_lt k.number h.number) refl)
+
+  pub place_stays : (first_newline (value_leaves value) ≡ None) ⊎ (0 < h.number)
+      → holder other (mentions_in now) ≡ holder other (mentions_in s)
+      → end_of now (holder other (mentions_in s)) ≡ Some (later_line h.number k.number)
+      → later_line h.number k.number ≤ length now.ended
+      → place now (insert other more) ≡ put_in (moved_by l m.at) m.line
+  place_stays quiet = place_moves (newline_stays profile limit s path value l h fine quiet)
