@@ -54,7 +54,7 @@ pub record IsLowSpot (path : List Part) (s : Document) (v : Value) (i : Insertio
   pub is : spot_place s path v i ≡ Some place
   pub low : IsLowPlace s (insert path v) place
 
-drop_all : (path : List Part) → drop (length path) path ≡ []
+pub drop_all : (path : List Part) → drop (length path) path ≡ []
 drop_all [] = refl
 drop_all (p ∷ path) = drop_all path
 

@@ -35,9 +35,15 @@ pub mod InsertedLaws
 pub mod InsertInsideLaws
 pub mod PathNumberLaws
 pub mod LineChangeLaws
+pub mod AddedLineLaws
+pub mod ItemTexts
+pub mod AddedItemLaws
 pub mod LineValueLaws
 pub mod LineRemovalLaws
 pub mod LineValueRemovalLaws
+pub mod TakenLineLaws
 pub mod HeaderChangeLaws
 pub mod GivenLaws
+pub mod AddingLines
+pub mod TakingLines
 pub mod Shared

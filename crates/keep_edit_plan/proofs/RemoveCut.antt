@@ -265,13 +265,13 @@ not_nested (owner.Inline j) i h e = absurd cc
 not_nested (owner.Item j) i h e = absurd cc
 
 -- what holds of the change
-record IsChanged (path : List Part) (s : Document) (c : Changed Document) : Type 0 where
+pub record IsChanged (path : List Part) (s : Document) (c : Changed Document) : Type 0 where
   pub is : change s (remove path) ≡ Some c
   pub place : place s (remove path) ≡ place_of c
   pub cut : IsChangeOf text s c
   pub placed : IsPlaced path s c
 
-the_change : (d : ProfiledText) (path : List Part) (s : Document) → IsTextOfTree d s
+pub the_change : (d : ProfiledText) (path : List Part) (s : Document) → IsTextOfTree d s
     → refusal d.profile limit s (remove path) ≡ None → (c : Changed Document) × IsChanged path s c
 the_change d path s read allowed =
     let r : IsRemoved d.profile limit path s = removed d.profile limit path s (editable d s read) allowed in (

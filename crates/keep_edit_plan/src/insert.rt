@@ -18,6 +18,7 @@ ghost use Rattle.keep_edit_plan.specs.Aiming.{spot_in_braces};
 ghost use Rattle.keep_edit_plan.specs.Holding.{IsHolder};
 ghost use Rattle.keep_edit_plan.specs.Inserting.{IsInsertionOf, IsPutIn, last_keyval_among};
 
+mod added;
 mod change;
 mod keys;
 mod lines;

@@ -114,7 +114,7 @@ impl<'a> DocumentRef<'a> {
     }
 
     /// Whether the text up to a byte offset ends in the midst of a line that has bytes.
-    fn is_open(&self, at: usize) -> bool
+    pub(crate) fn is_open(&self, at: usize) -> bool
         requires accepted { IsAccepted self.now }
         requires within { at ≤ length self.now.text }
         ensures { (s : tree.Document) → IsTextOfTree self.now s

@@ -1,0 +1,283 @@
+-- The line that an insert adds which is not refused, of one key, at the end of a body where the text is not open.
+--
+-- The path is the holder of the body and one key. The edit puts the keyval before the line at which the body ends. If
+-- that came after the last line, the edit would put a newline first (`past_new`), and so more bytes than were written
+-- where the text is not open: a newline has bytes (`newline_some`). After a header's line the number is not 0.
+--
+-- Theorems: `line_is_added`; `at_boundary`: it comes between characters.
+use Rattle.std.proofs.Common.{◌≡◌, ◌⊎◌, ℕ, zero, suc, ◌+◌, ◌-◌, ◌<◌, ◌≤◌, Bool, true, false, not, cond, List, [], ◌∷◌}
+use Rattle.std.proofs.Common.{◌++◌, length, take, drop, refl, sym, ap, subst, ◌∙◌, arith, append_assoc, length-append}
+use Rattle.std.proofs.Common.{Option, Some, None, Result, Ok, Err, OnOk, inl, inr}
+use Rattle.std.specs.Prelude.{IsCharBoundary, is_some}
+use Rattle.std.specs.List.{flat_map, list_any}
+use Rattle.std.specs.Result.{result_ok}
+use Rattle.std.proofs.lemmas.Bool.{cases_lt}
+use Rattle.std.proofs.lemmas.List.{length-drop, take-append-drop}
+use Rattle.keep_types.specs.declared.leaf.Leaf.{Leaf}
+use Rattle.keep_types.specs.declared.leaf.Leaf.TheVariants as leaf
+use Rattle.keep_types.specs.declared.leaf.Profile.{Profile}
+use Rattle.keep_types.specs.declared.node.Origin.TheVariants as origin
+use Rattle.keep_syntax.specs.declared.syntax.Syntax.{Syntax}
+use Rattle.keep_syntax.specs.Grammar.{IsDocument}
+use Rattle.keep_syntax.specs.Tree.{Written, Value, Document, Line, Ended, keyval, leaves, token, bom_leaves, text}
+use Rattle.keep_syntax.specs.Tree.{ended_leaves, line_leaves, name_leaves, value_leaves, text_of, value_depth}
+use Rattle.keep_syntax.proofs.Shared.{AreSome, document_some, width-append}
+use Rattle.keep_path.specs.NodeInfos.{NodeInfos}
+use Rattle.keep_path.specs.Path.{Part, AreUtf8, key, index}
+use Rattle.keep_meaning.specs.Marks.{start}
+use Rattle.keep_meaning.specs.Meaning.{lines, mentions_in}
+use Rattle.keep_meaning.specs.Nodes.{mentioned_origin}
+use Rattle.keep_edit_spec.specs.declared.fault.EditFault.{EditFault}
+use Rattle.keep_edit_spec.specs.Changed.{Changed, Place, place_of}
+use Rattle.keep_edit_spec.specs.Edits.{at_line, change, change_insert, changed_or_same, end_of, insert, insert_line}
+use Rattle.keep_edit_spec.specs.Edits.{name_with, new_keyval, place}
+use Rattle.keep_edit_spec.specs.Insertion.{is_open, keyed_text, missing_newline, put_in}
+use Rattle.keep_edit_spec.specs.Lines.{begins, body_end, ended_text, first_newline, last_line, new_line, newline_of}
+use Rattle.keep_edit_spec.specs.Lines.{put_lines}
+use Rattle.keep_edit_spec.specs.Look.{holder, is_index, item_number, keys_in}
+use Rattle.keep_edit_spec.proofs.Shared.{header_ends, holder_prefix, root_ends}
+use Rattle.keep_edit_spec.specs.AddedLines.{AddsLine, line_at}
+use Rattle.keep_edit_plan.specs.Inserting.{IsInsertionOf, IsKeyvalSpot, lines_start, new_line_at, origin_of}
+use Rattle.keep_edit_plan.specs.PutLines.{body_end_of}
+use Rattle.keep_edit_plan.specs.Reading.{limit, ProfiledText, Holds, IsTextOfTree, IsTextOfValue}
+use Rattle.keep_edit_plan.specs.declared.insert.Insertion.{Insertion}
+use Rattle.keep_edit_plan.specs.declared.insert.Spot.TheVariants.{AfterBody}
+use Rattle.keep_edit_plan.proofs.InsertedLaws.{body_put, body_there, keyval_only}
+use Rattle.keep_edit_plan.proofs.KeysLaws.{keys_utf8}
+use Rattle.keep_edit_plan.proofs.LineChangeLaws.{body_spot}
+use Rattle.keep_edit_plan.proofs.RootLaws.{root_unsaid}
+
+-- ---- of what is known of the answers on the way
+
+pub insertion_there : (profile : Profile) (path : List Part) (v : Value) (s : Document) (i : Insertion)
+    (result : Result Insertion EditFault) → Some i ≡ result_ok result → IsInsertionOf profile path v s result
+    → IsInsertionOf profile path v s (Ok i)
+insertion_there profile path v s i (Ok j) e there =
+    let same : j ≡ i = cc in subst (λ (k : Insertion). IsInsertionOf profile path v s (Ok k)) same there
+insertion_there profile path v s i (Err f) e there = absurd cc
+
+pub done : {E : Type 0} (P : Type 0) (result : Result (Unit {0}) E) (u : Unit {0}) → Some u ≡ result_ok result
+    → OnOk result P → P
+done P (Ok w) u e h = h
+done P (Err f) u e h = absurd cc
+
+pub headed : (header : Option ℕ) (b : Bool) → is_some header ≡ not b → b ≡ false → header ≡ None → ⊥
+headed (Some n) b is e h = absurd cc
+headed None b is e h = let some : false ≡ true = is ∙ ap not e in absurd cc
+
+-- ---- a document's newline has bytes
+
+abbrev or_line_feed : Option Written → Written
+or_line_feed o = elim o [ Some w ↦ w | None ↦ record { leaf = leaf.Newline; text = 0x0A ∷ [] } ]
+
+some_by : (w : Written) (o : Option Written) (l : Leaf) → 0 < length w.text → 0 < length (or_line_feed o).text
+    → 0 < length (or_line_feed (elim l [ leaf.Newline ↦ Some w | _ ↦ o ])).text
+some_by w o leaf.Newline here later = here
+some_by w o _ here later = later
+
+first_some : (ws : List Written) → AreSome ws
+    → 0 < length (or_line_feed (first_newline (ws ++ token leaf.End []))).text
+first_some [] all = omega arith
+first_some (w ∷ ws) all = some_by w (first_newline (ws ++ token leaf.End [])) w.leaf all.0.0 (first_some ws all.1)
+
+newline_some : (profile : Profile) (s : Document) → IsDocument profile s → 0 < length (newline_of s).text
+newline_some profile s valid =
+    let inner : List Written = bom_leaves s.bom ++ (flat_map ended_leaves s.ended ++ line_leaves s.last) in
+    let all : leaves s ≡ inner ++ token leaf.End [] =
+    tidy (bom_leaves s.bom) (flat_map ended_leaves s.ended) (line_leaves s.last) (token leaf.End []) in
+    subst (λ (ws : List Written). 0 < length (or_line_feed (first_newline ws)).text) (sym all)
+    (first_some inner (document_some profile s valid))
+  where
+    tidy : (a b c d : List Written) → a ++ (b ++ (c ++ d)) ≡ (a ++ (b ++ c)) ++ d
+    tidy a b c d = simp append_assoc refl
+
+-- ---- a line after the last one
+
+past_new : (n : ℕ) (new : List Ended) (newline : Written) (es : List Ended) (last : Line) → length es < n
+    → (put_lines n new newline es last).new ≡ newline.text ++ ended_text new
+past_new zero new newline es last past = absurd (omega (arith, past))
+past_new (suc m) new newline [] last past = refl
+past_new (suc m) new newline (e ∷ es) last past = past_new m new newline es last (omega (arith, past))
+
+-- how many bytes a line with a keyval has
+keyval_long : (k : List ℕ) (v : Value) (newline : Written)
+    → length (ended_text (new_line newline (keyval (name_with (k ∷ [])) v) ∷ []))
+    ≡ length (keyed_text (k ∷ []) v) + length newline.text
+keyval_long k v newline =
+    let name : List Written = name_leaves (name_with (k ∷ [])) in
+    let line : List Written = (name ++ value_leaves v) ++ [] in
+    omega (
+      arith,
+      width-append (line ++ newline ∷ []) [],
+      width-append line (newline ∷ []),
+      width-append (name ++ value_leaves v) [],
+      width-append name (value_leaves v),
+      length-append newline.text [],
+      length-append (text_of name) (text_of (value_leaves v)),
+    )
+
+-- ---- where the body ends
+
+-- the root has no header
+unheaded : (a : List Part) (s : Document) (h : ℕ)
+    → (origin_of a s ≡ origin.Header h) ⊎ (origin_of a s ≡ origin.Element h) → a ≡ [] → ⊥
+unheaded a s h headed e =
+    let root : origin_of a s ≡ origin.Root =
+    ap (λ (p : List Part). origin_of p s) e ∙ ap mentioned_origin (root_unsaid s) in
+    elim headed [
+      | inl is ↦ (let k : origin.Root ≡ origin.Header h = sym root ∙ is in absurd cc)
+      | inr is ↦ (let k : origin.Root ≡ origin.Element h = sym root ∙ is in absurd cc)
+    ]
+
+-- after a header's line, not before the first
+end_later : (s : Document) (a : List Part) (n : ℕ) → (a ≡ [] → ⊥) → end_of s a ≡ Some n → 0 < n
+end_later s [] n some e = absurd (some refl)
+end_later s (p ∷ ps) n some e = by (last_line (begins (p ∷ ps)) start (lines s)) e
+  where
+    by : (o : Option ℕ) → elim o [ None ↦ None | Some i ↦ Some (body_end i (lines s)) ] ≡ Some n → 0 < n
+    by None e = absurd cc
+    by (Some i) e = let same : body_end i (lines s) ≡ n = cc in omega (arith, same)
+
+-- The body ends before this line. It is the first one only if the value is a scalar.
+record IsBodyEnd (s : Document) (a : List Part) (v : Value) : Type 0 where
+  number : ℕ
+  ends : end_of s a ≡ Some number
+  newline : (0 < number) ⊎ (value_depth v ≡ 0)
+
+-- ---- the path
+
+one_key : (path : List Part) → length path ≡ 1 → list_any is_index path ≡ false → (k : List ℕ) × (path ≡ key k ∷ [])
+one_key [] few keys = absurd (omega (arith, few))
+one_key (key k ∷ []) few keys = (k, refl)
+one_key (index n ∷ []) few keys = absurd cc
+one_key (p ∷ q ∷ path) few keys = absurd (omega (arith, few))
+
+-- ---- the line
+
+module _ (d : ProfiledText) (syntax : Syntax) (nodes : NodeInfos) (path : List Part) (s : Document) (v : Value)
+    (bytes : List ℕ) (i : Insertion)
+    (holds : Holds d syntax nodes) (read : IsTextOfTree d s) (value : IsTextOfValue bytes v)
+    (there : IsInsertionOf d.profile path v s (Ok i)) (utf8 : AreUtf8 path) (header : Option ℕ)
+    (after_body : i.spot ≡ AfterBody header) where
+  abbrev a : List Part
+  a = holder path (mentions_in s)
+
+  no_item : item_number path (mentions_in s) ≡ None
+  no_item = (keyval_only d syntax nodes path s v bytes i holds read value there utf8 (AfterBody header) after_body
+      (λ n h. absurd h)).0
+
+  spot : IsKeyvalSpot a s i.from (AfterBody header)
+  spot = body_spot d syntax nodes path s v bytes i holds read value there utf8 header after_body
+
+  from_holder : i.from ≡ length a
+  from_holder = by header spot
+    where
+      by : (o : Option ℕ) → IsKeyvalSpot a s i.from (AfterBody o) → i.from ≡ length a
+      by None h = h.1 ∙ sym (ap (λ (p : List Part). length p) h.0)
+      by (Some n) h = h.1
+
+  body_ends : (header ≡ None → value_depth v ≤ 0) → IsBodyEnd s a v
+  body_ends flat = by header spot flat
+    where
+      by : (o : Option ℕ) → IsKeyvalSpot a s i.from (AfterBody o) → (o ≡ None → value_depth v ≤ 0) → IsBodyEnd s a v
+      by None h flat = record {
+        number = (root_ends s).line;
+        ends = ap (end_of s) h.0 ∙ (root_ends s).ends;
+        newline = inr (omega (arith, flat refl));
+      }
+      by (Some n) h flat =
+          let ends = header_ends a s n h.0 in
+          record {
+            number = ends.line;
+            ends = ends.ends;
+            newline = inl (end_later s a ends.line (unheaded a s n h.0) ends.ends);
+          }
+
+  -- the key after the holder
+  last_key : length path - i.from ≡ 1 → (k : List ℕ) × (drop i.from path ≡ key k ∷ [])
+  last_key few =
+      one_key (drop i.from path) (omega (arith, few, length-drop i.from path))
+      (body_there d syntax nodes path s v bytes i holds read value there utf8 header after_body).put.keys
+
+  whole : (k : List ℕ) → drop i.from path ≡ key k ∷ [] → path ≡ a ++ key k ∷ []
+  whole k last =
+      sym (take-append-drop i.from path)
+      ∙ ap (λ (p : List Part). p ++ drop i.from path)
+      (ap (λ (n : ℕ). take n path) from_holder
+      ∙ holder_prefix d.profile limit s path v read.reads.valid no_item there.0)
+      ∙ ap (λ (p : List Part). a ++ p) last
+
+  -- what the edit writes
+  written : (n : ℕ) → end_of s a ≡ Some n → (place s (insert path v)).new
+      ≡ (put_lines n (new_line (newline_of s) (new_keyval (drop i.from path) v) ∷ []) (newline_of s) s.ended s.last).new
+  written n ends =
+      let is : change s (insert path v) ≡ at_line s n (new_keyval (drop (length a) path) v ∷ []) =
+      rw (no_item, change_insert) (rw (ends, insert_line) refl) in
+      ap (λ (o : Option (Changed Document)). (place_of (changed_or_same s o)).new) is
+      ∙ ap (λ (m : ℕ).
+      (put_lines n (new_line (newline_of s) (new_keyval (drop m path) v) ∷ []) (newline_of s) s.ended s.last).new)
+      (sym from_holder)
+
+  -- Where the text is not open, nothing comes before the keyval, so the line is not after the last.
+  not_past : (n at : ℕ) (k line : List ℕ) → end_of s a ≡ Some n → drop i.from path ≡ key k ∷ []
+      → line ≡ (new_line_at s at (keys_in (drop i.from path)) v).new
+      → false ≡ is_open (drop (lines_start s) (take at d.text)) → place s (insert path v) ≡ put_in at line
+      → length s.ended < n → ⊥
+  not_past n at k line ends last line_is closed is past =
+      let newline : Written = newline_of s in
+      let missing : missing_newline (text s) newline.text (lines_start s) at ≡ [] =
+      ap (λ (b : Bool). cond b newline.text [])
+      (ap (λ (t : List ℕ). is_open (drop (lines_start s) (take at t))) (sym read.reads.spelled) ∙ sym closed) in
+      let given : line ≡ keyed_text (k ∷ []) v ++ newline.text =
+      line_is
+      ∙ ap (λ (t : List ℕ). t ++ (keyed_text (keys_in (drop i.from path)) v ++ newline.text)) missing
+      ∙ ap (λ (p : List Part). keyed_text (keys_in p) v ++ newline.text) last in
+      let more : line ≡ newline.text ++ ended_text (new_line newline (keyval (name_with (k ∷ [])) v) ∷ []) =
+      ap (λ (p : Place). p.new) (sym is) ∙ written n ends
+      ∙ past_new n (new_line newline (new_keyval (drop i.from path) v) ∷ []) newline s.ended s.last past
+      ∙ ap (λ (p : List Part). newline.text ++ ended_text (new_line newline (new_keyval p v) ∷ [])) last in
+      omega (
+        arith,
+        newline_some d.profile s read.reads.valid,
+        ap length given,
+        ap length more,
+        keyval_long k v newline,
+        length-append (keyed_text (k ∷ []) v) newline.text,
+        length-append newline.text (ended_text (new_line newline (keyval (name_with (k ∷ [])) v) ∷ [])),
+      )
+
+  -- it comes between characters
+  pub at_boundary : (at : ℕ) → at ≡ body_end_of s header → IsCharBoundary d.text at
+  at_boundary at at_end =
+      subst (λ (n : ℕ). IsCharBoundary d.text n) (sym at_end)
+      (subst (λ (t : List ℕ). IsCharBoundary t (body_end_of s header)) (sym read.reads.spelled)
+      (body_there d syntax nodes path s v bytes i holds read value there utf8 header after_body).put.boundary)
+
+  pub line_is_added : (at : ℕ) (old line : List ℕ) → at ≡ body_end_of s header → old ≡ []
+      → line ≡ old ++ (new_line_at s at (keys_in (drop i.from path)) v).new
+      → false ≡ is_open (drop (lines_start s) (take at d.text)) → length path - i.from ≡ 1
+      → (header ≡ None → value_depth v ≤ 0) → AddsLine d.profile limit s path v (line_at at line)
+  line_is_added at old line at_end none_before pushed closed few flat =
+      let line_is : line ≡ (new_line_at s at (keys_in (drop i.from path)) v).new =
+      pushed ∙ ap (λ (t : List ℕ). t ++ (new_line_at s at (keys_in (drop i.from path)) v).new) none_before in
+      let (given, is, placed, within) =
+      body_put d syntax nodes path s v bytes i holds read value there utf8 header at [] line after_body at_end line_is
+      in
+      let put : place s (insert path v) ≡ put_in at line = placed ∙ ap (put_in at) (sym is) in
+      let (k, last) = last_key few in
+      let end : IsBodyEnd s a v = body_ends flat in
+      record {
+        utf8 = keys_utf8 path utf8;
+        given = record { valid = value.reads.valid; obeys = value.obeys };
+        allowed = there.0;
+        text = k;
+        one = whole k last;
+        number = end.number;
+        ends = end.ends;
+        closed = elim (cases_lt (length s.ended) end.number) [
+          | inl past ↦ absurd (not_past end.number at k line end.ends last line_is closed put past)
+          | inr few ↦ few
+        ];
+        newline = end.newline;
+        is = put;
+      }
