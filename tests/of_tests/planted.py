@@ -16,6 +16,7 @@ from tempfile import TemporaryDirectory
 sys.dont_write_bytecode = True
 sys.path[:0] = [str(Path(__file__).resolve().parents[1] / it) for it in ("rows", "properties", "hostile")]
 import each_byte
+import edit_runs
 import streams
 from ask import Count, failure, in_parallel
 
@@ -30,6 +31,7 @@ FOUND_BY_FUZZ = """
     inserts_at_end_of_file refuses_disliked_documents writes_before_all_is_decided makes_refused_edits
 """.split()
 FOUND_BY_CHANGED = ["accepts_all", "counts_too_much", "refuses_disliked_documents", "writes_before_all_is_decided"]
+FOUND_BY_RUNS = ["loses_a_line_of_long_lists"]
 FOUND_BY_STREAMS = {
     "ignores_failed_input": "a folder as input",
     "ignores_failed_output": "a full device",
@@ -66,6 +68,12 @@ def changed_failure(name, right):
     return None if any(each_byte.program_failure(WRONG, text)[0] for text in texts) else "not found"
 
 
+def runs_failure(name, right):
+    """Why a fault is not found by long lists of edits."""
+    os.environ.update(with_fault(name, right))
+    return None if any(edit_runs.Run(WRONG, number).failure() for number in range(1000, 1008)) else "not found"
+
+
 def streams_failure(name, right):
     """Why a fault is not found over the stream that shows it."""
     os.environ.update(with_fault(name, right))
@@ -80,6 +88,8 @@ def main(right):
         count.add(f"planted for ./fuzz: {name}", why)
     for name in FOUND_BY_CHANGED:
         count.add(f"planted for each_byte.py: {name}", changed_failure(name, right))
+    for name in FOUND_BY_RUNS:
+        count.add(f"planted for edit_runs.py: {name}", runs_failure(name, right))
     for name in FOUND_BY_STREAMS:
         count.add(f"planted for streams.py: {name}", streams_failure(name, right))
     return count.close("planted")

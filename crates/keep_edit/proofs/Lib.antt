@@ -10,3 +10,7 @@ pub mod InsideLaws
 pub mod TakeLaws
 pub mod PatchLaws
 pub mod Shared
+mod MadeMore
+mod RunSteps
+mod ItemSteps
+mod RemoveSteps

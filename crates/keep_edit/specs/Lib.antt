@@ -3,5 +3,6 @@ pub mod Answers
 pub mod Places
 pub mod Patches
 pub mod Lists
+pub mod Runs
 pub mod Headers
 pub mod Children

@@ -82,8 +82,9 @@ impl Document {
 
     /// Makes all edits in their order, each on the document after those before it; or none of them: after a refusal the
     /// document is as before. More than one are made on a copy, which is read of the document's text once; then each
-    /// edit reads the lines that it touches. An empty list takes no memory. The document's own allocator gives the
-    /// memory.
+    /// edit reads the lines that it touches. Where many inserts that add lines or items come in a row, or many removes
+    /// that take lines, they are made at once, and the text is read anew after them. An empty list takes no memory. The
+    /// document's own allocator gives the memory.
     ///
     /// # Errors
     ///
@@ -144,10 +145,9 @@ impl Document {
         ensures done { (s : tree.Document) → IsTextOfTree self.old s → EachDone s edits.now self.old self.new result }
         ensures number { IfErr result (λ stop. stop.0 < length edits.now) }
     {
-        for index in 0..edits.len() {
-            if let Err(fault) = self.apply(&edits[index]) {
-                return Err((index, fault));
-            }
+        let mut next = 0;
+        while next < edits.len() {
+            next = self.apply_some(edits, next)?;
         }
         Ok(())
     }
