@@ -22,6 +22,8 @@ use keep_syntax::Span;
 const FEWEST_AT_ONCE: usize = 24;
 /// No more edits than these are made at once, since the path of each is compared with those before it.
 const MOST_AT_ONCE: usize = 500;
+/// No edit of a path with more steps is made at once with others, so that these comparisons take no longer.
+const MOST_STEPS: usize = 16;
 
 /// Whether these are the same path.
 fn is_same(path: &Path, other: &Path) -> bool
@@ -73,10 +75,13 @@ fn index_at(path: &Path, number: usize) -> Option<usize>
     }
 }
 
-/// Whether these edits are all inserts of other paths.
+/// Whether these edits are all inserts of other paths. False, too, for a path with more steps than are compared.
 fn are_other_inserts(edits: &[Edit], path: &Path) -> bool
     ensures { result ≡ true → All (λ e. inserted_path e ≢ path.now) edits.now }
 {
+    if path.len() > MOST_STEPS {
+        return false;
+    }
     for edit in edits {
         match edit {
             Edit::Insert(other, _) => {
@@ -90,10 +95,13 @@ fn are_other_inserts(edits: &[Edit], path: &Path) -> bool
     true
 }
 
-/// Whether these edits are all removes of other paths.
+/// Whether these edits are all removes of other paths. False, too, for a path with more steps than are compared.
 fn are_other_removes(edits: &[Edit], path: &Path) -> bool
     ensures { result ≡ true → All (λ e. removed_path e ≢ path.now) edits.now }
 {
+    if path.len() > MOST_STEPS {
+        return false;
+    }
     for edit in edits {
         match edit {
             Edit::Remove(other) => {
