@@ -9,7 +9,8 @@ first growth refused, with the second, and so on up to the last.
 
 The program (subcommands.tsv): each of these runs ends with status 4, one line on standard error and nothing on
 standard output, also where the answer with ample memory is a refusal. Where the index is refused the memory of a key, of a line's
-node or of a header's, it is built anew: so a few runs for each edit of a script (CHANGES) may have the wanted answer instead.
+node or of a header's, it is built anew: so a few runs for each edit of a script (CHANGES) may have the wanted answer instead. Where
+many edits are made at once (AT_ONCE), some have to: they are made one by one then.
 
 The libraries (calls.tsv, asked of keep_test_rows): each of these runs ends out of memory, or answers that the call
 was out of memory. keep_test_rows makes an edit twice, first for the text alone and then in the document, and prints a doubt
@@ -43,6 +44,8 @@ OUT_OF_MEMORY = b"out of memory"
 # What keep_test_rows answers where a path or an edit of a row could not be read: the only reason is memory.
 UNREAD = (OUT_OF_MEMORY, b"no path", b"no such edit")
 AGAIN = b"refused and made again: "
+# How the names of lists end whose edits are made at once: where memory is refused for that, they are made one by one.
+AT_ONCE = " at once"
 # How many growths the change of an index takes at most: those of a key, of its node, of its parent link, and of a map, which has five;
 # of the two lists of what a header joins; and those of a value that is read twice, with its nodes.
 CHANGES = 40
@@ -118,7 +121,7 @@ def program_failure(program, refuse, row):
             rebuilt += 1
             if rebuilt > CHANGES * edits or failure(row, ran):
                 return f"growth {refusal}: {why}"
-    return None
+    return "no growth is done without" if row.name.endswith(AT_ONCE) and not rebuilt else None
 
 
 def answer_of(ran):
