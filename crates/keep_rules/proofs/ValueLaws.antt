@@ -5,21 +5,23 @@
 -- `in_strict`, `strict_of`). The profile is Strict exactly if Strict's grammar has the value, since a text is read in
 -- Wide only where Strict refuses it (`strict_is`). Read once more, the text gives the same value (`read_again`). A text
 -- of a single leaf is a value of this leaf, and what the leaf means is what the value means (`scalar_read`,
--- `scalar_means`).
+-- `scalar_means`). It is that exactly if a scan from its start ends where the text does (`whole_holds`, `ends_before`).
 --
--- Theorems: `holds`: what is known of a value that was read; `kind_read`; `no_value`: why there is none;
--- `strict_value`.
+-- Theorems: `holds`: what is known of a value that was read; `whole_holds`: of a scalar; `kind_read`; `no_value`: why
+-- there is none; `strict_value`.
 use Rattle.std.proofs.Common.{◌≡◌, ℕ, ℤ, Bool, true, false, List, refl, sym, subst, ◌∙◌, ap, inl, inr, arith, slice_get}
-use Rattle.std.proofs.Common.{Some, None}
+use Rattle.std.proofs.Common.{Option, Some, None, [], ◌+◌, length, take}
 use Rattle.std.specs.Prelude.{◌↔◌, IsTrue, codes}
 use Rattle.std.proofs.lemmas.List.{append-nil}
+use Rattle.std.proofs.Math.Seq.{take-length}
 use Rattle.keep_types.specs.declared.leaf.Leaf.{Leaf}
 use Rattle.keep_types.specs.declared.leaf.Leaf.TheVariants as leaf
-use Rattle.keep_token.specs.Leaves.{IsLeaf, Means, is_scalar_leaf}
+use Rattle.keep_token.specs.Leaves.{IsLeaf, Means, ScalarLeaf, is_scalar_leaf}
 use Rattle.keep_token.specs.Numbers.{integer_value}
+use Rattle.keep_token.specs.Scanning.{scalar_at, moved}
 use Rattle.keep_types.specs.declared.leaf.Profile.{Profile}
 use Rattle.keep_types.specs.declared.leaf.Profile.TheVariants.{Strict, Wide}
-use Rattle.keep_token.proofs.Shared.{means_wider}
+use Rattle.keep_token.proofs.Shared.{means_wider, scalar_again, some_injective}
 use Rattle.keep_syntax.specs.declared.alone.ValueSyntax.{ValueSyntax}
 use Rattle.keep_syntax.specs.declared.fault.ReadFault.{ReadFault}
 use Rattle.keep_syntax.specs.declared.fault.ReadFault.TheVariants as fault
@@ -41,6 +43,7 @@ use Rattle.keep_rules.specs.ReadDocuments.{WasReadAlone, ValueObeys, IsValueRefu
 use Rattle.keep_meaning.specs.ReadText.{IsValueText}
 use Rattle.keep_meaning.proofs.Shared.{means_value}
 use Rattle.keep_rules.specs.ValueTexts.{limit, IsTextOfFact, IsTextOfValue, IsAcceptedValue, IsRefusedValue, HoldsValue}
+use Rattle.keep_rules.specs.ValueTexts.{IsScalarText}
 
 -- one text has one value
 pub one_tree : (profile : Profile) (bytes : List ℕ) (v w : Value) → IsValueText profile limit bytes v
@@ -202,6 +205,32 @@ scalar_holds l bytes kind is = record {
   deep = refl;
   strict = ((λ e. (scalar_read l bytes kind is).reads.valid), (λ valid. refl));
 }
+
+-- what is scanned up to the end of the text is its value
+pub whole_holds : (l : Leaf) (bytes : List ℕ) (n : ℕ) → ScalarLeaf Strict bytes l n → n ≡ length bytes
+    → HoldsValue bytes (leaf_kind l) 0 Strict
+whole_holds l bytes n found whole =
+    let is : IsLeaf Strict l bytes =
+    subst (IsLeaf Strict l) (ap (λ (k : ℕ). take k bytes) whole ∙ take-length bytes) found.belongs in
+    rw (kind_of_body Strict (a_scalar l bytes).body (found.kind, is)) (scalar_holds l bytes found.kind is)
+
+-- A scalar is scanned up to its end, so a text is none where the scan ends before, or finds none.
+scanned_whole : (bytes : List ℕ) (l : Leaf) → IsTrue (is_scalar_leaf l) → IsLeaf Strict l bytes
+    → moved 0 (scalar_at Strict bytes) ≡ Some (l, 0 + length bytes)
+scanned_whole bytes l kind is = ap (moved 0) (rw append-nil at (scalar_again Strict l bytes [] kind is refl))
+
+pub ends_before : (bytes : List ℕ) (first : Leaf) (end : ℕ) → moved 0 (scalar_at Strict bytes) ≡ Some (first, end)
+    → (end ≡ length bytes → ⊥) → IsScalarText Strict bytes → ⊥
+ends_before bytes first end found other (l, kind, is) =
+    let same : ◌≡◌ {A = Leaf × ℕ} (first, end) (l, 0 + length bytes) =
+    some_injective (sym found ∙ scanned_whole bytes l kind is) in
+    other (omega (arith, ap (λ (p : Leaf × ℕ). p.1) same))
+
+pub no_scalar : (bytes : List ℕ) → moved 0 (scalar_at Strict bytes) ≡ None → IsScalarText Strict bytes → ⊥
+no_scalar bytes missing (l, kind, is) =
+    let never : ◌≡◌ {A = Option (Leaf × ℕ)} None (Some (l, 0 + length bytes)) =
+    sym missing ∙ scanned_whole bytes l kind is in
+    cc
 
 pub true_holds : HoldsValue (codes "true") kind.Boolean 0 Strict
 true_holds = scalar_holds leaf.Boolean (codes "true") refl (inl refl)

@@ -1,7 +1,9 @@
 -- The texts of single values: what is read, in a profile, to the standard depth.
-use Rattle.std.specs.Prelude.{◌≡◌, ◌↔◌, ℕ, List, [], ◌⊎◌, Some}
+use Rattle.std.specs.Prelude.{◌≡◌, ◌↔◌, ℕ, IsTrue, List, [], ◌⊎◌, Some}
+use Rattle.keep_types.specs.declared.leaf.Leaf.{Leaf}
 use Rattle.keep_types.specs.declared.leaf.Profile.{Profile}
 use Rattle.keep_types.specs.declared.leaf.Profile.TheVariants.{Strict, Wide}
+use Rattle.keep_token.specs.Leaves.{IsLeaf, is_scalar_leaf}
 use Rattle.keep_syntax.specs.declared.fault.ReadFault.{ReadFault}
 use Rattle.keep_syntax.specs.declared.fault.ReadFault.TheVariants.{Memory}
 use Rattle.keep_syntax.specs.Limit.{standard_depth}
@@ -24,6 +26,10 @@ IsTextOfValue bytes v = IsValueText Wide limit bytes v
 -- the text of some value of the profile
 abbrev pub IsAcceptedValue : Profile → List ℕ → Type 0
 IsAcceptedValue profile bytes = (v : Value) × IsValueText profile limit bytes v
+
+-- the text of a scalar: a string, a number, a truth value, a date or a time
+abbrev pub IsScalarText : Profile → List ℕ → Type 0
+IsScalarText profile bytes = (l : Leaf) × IsTrue (is_scalar_leaf l) × IsLeaf profile l bytes
 
 -- the text of a value that means this: a string, an integer, a truth value, ..
 abbrev pub IsTextOfFact : List ℕ → Fact → Type 0

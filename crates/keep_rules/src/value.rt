@@ -1,5 +1,6 @@
 //! The texts of values, as they are set.
-ghost use Rattle.std.specs.Prelude.{◌≡◌, ◌↔◌, codes, if◌then◌else◌, IfOk, IfErr, IsOkUnless, string_bytes};
+ghost use Rattle.std.specs.Prelude.{◌≡◌, ◌↔◌, codes, if◌then◌else◌, IfOk, IfErr, IfSome, IsNone, IsOkUnless};
+ghost use Rattle.std.specs.Prelude.{string_bytes};
 ghost use Rattle.std.specs.Fmt.{signed_decimal};
 ghost use Rattle.keep_syntax.specs.declared.fault.ReadFault.TheVariants.{Memory};
 ghost use Rattle.keep_syntax.specs.Profiles.{is_allowed_in};
@@ -12,11 +13,12 @@ ghost use Rattle.keep_token.specs.Numbers.{integer_value};
 ghost use Rattle.keep_meaning.specs.Fact as fact;
 ghost use Rattle.keep_meaning.specs.Meaning.{body_fact};
 ghost use Rattle.keep_meaning.specs.Nodes.{fact_kind};
-ghost use Rattle.keep_rules.specs.ValueTexts.{IsAcceptedValue, IsRefusedValue, IsTextOfFact, IsTextOfValue};
+ghost use Rattle.keep_rules.specs.ValueTexts.{HoldsValue, IsAcceptedValue, IsRefusedValue, IsScalarText, IsTextOfFact};
+ghost use Rattle.keep_rules.specs.ValueTexts.{IsTextOfValue};
 
 use crate::index::Index;
 use keep_syntax::{Limits, ReadFault, STANDARD_DEPTH, ValueSyntax};
-use keep_token::{Profile, encode_int, encode_string};
+use keep_token::{Profile, encode_int, encode_string, scan_scalar};
 use keep_types::{Kind, kind_of};
 use std::alloc::{AllocError, Global};
 use std::marker::Model;
@@ -42,6 +44,17 @@ impl Model for ValueText {
     ghost invariant = { λ v. HoldsValue (string_bytes v.text) v.kind v.depth v.profile };
 }
 
+/// The kind of a text that is a scalar of TOML v1.0.0 and nothing else; None for any other text. It takes no memory.
+fn scalar_kind(text: &str) -> Option<Kind>
+    ensures found { IfSome result (λ kind. HoldsValue text.now kind 0 Strict) }
+    ensures none { IsNone result → IsScalarText Strict text.now → ⊥ }
+{
+    match scan_scalar(text, 0, Profile::Strict) {
+        Ok((leaf, end)) if end == text.len() => Some(kind_of(leaf)),
+        _ => None,
+    }
+}
+
 impl ValueText {
     /// Reads one value of TOML v1.0.0 and nothing else, no gap before or after it.
     ///
@@ -56,7 +69,16 @@ impl ValueText {
         ensures only { IsAcceptedValue Strict text.now → IsOkUnless result Memory }
         ensures faults { IfErr result (IsRefusedValue Strict text.now) }
     {
-        ValueText::read_as(alloc, text, Profile::Strict)
+        let Some(kind) = scalar_kind(text) else {
+            return ValueText::read_as(alloc, text, Profile::Strict);
+        };
+        let text = String::from_str(alloc, text)?;
+        Ok(ValueText {
+            text,
+            kind,
+            depth: 0,
+            profile: Profile::Strict,
+        })
     }
 
     /// Reads one value of a profile and nothing else, no gap before or after it. In Wide a text that Strict refuses is
