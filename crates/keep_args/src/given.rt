@@ -36,9 +36,14 @@ pub fn given_words(alloc: Global, env: &impl Env) -> Result<Vec<String>, GivenFa
 }
 
 // The most bytes of a word for which is asked at first.
-const ROOM: usize = 256;
+const ROOM: usize = 512;
 
-// The word of a number; None after the last. The buffer is doubled until the word fits.
+// How many times as many are asked for next where a word is longer. What fits of it is copied in vain each time, so
+// this is more than two. The fifth buffer has 128 KiB, for the longest word of Linux.
+const GROWTH: usize = 4;
+
+// The word of a number; None after the last. The buffer in which it fits is kept: of a word with more than `ROOM` bytes
+// it has less than `GROWTH` times as many.
 fn word_at(alloc: Global, env: &impl Env, number: usize) -> Result<Option<String>, GivenFault> {
     let mut room = ROOM;
     for _ in 0..usize::BITS {
@@ -52,7 +57,7 @@ fn word_at(alloc: Global, env: &impl Env, number: usize) -> Result<Option<String
                 };
             }
             Err(FillError::NotPresent) => return Ok(None),
-            Err(FillError::TooLong) => room = room.saturating_add(room),
+            Err(FillError::TooLong) => room = room.saturating_mul(GROWTH),
         }
     }
     Err(GivenFault::Memory)

@@ -10,9 +10,9 @@ ghost use Rattle.keep_cli.specs.Status.{use_status};
 use keep_cli::{
     Command, Counted, Done, GivenFault, RunFault, UseFault, command_of, given_words, run,
 };
-use std::io;
 use std::io::Write;
 use std::process::ExitCode;
+use std::{io, mem};
 
 /// Ends with the status of the fault, 0 if there is none. A refused write to standard error ends with 3.
 fn main(rt: HostRuntime) -> ExitCode {
@@ -35,7 +35,12 @@ fn status(rt: &HostRuntime) -> io::Result<u8>
         }
     };
     match command_of(rt.alloc(), words.as_slice()) {
-        Ok(command) => answered(rt, &command),
+        Ok(command) => {
+            let status = answered(rt, &command);
+            // The process ends with its answer: to free a list of edits one by one would only cost time.
+            mem::forget(command);
+            status
+        }
         Err(fault) => refused(rt, &fault),
     }
 }

@@ -65,7 +65,7 @@ fn a_word_that_is_not_text_is_refused(rt: HostRuntime) {
 
 #[test]
 fn long_words_are_read_whole(rt: HostRuntime) -> Result<(), Fail> {
-    const LENGTHS: &[usize] = &[0, 1, 255, 256, 257, 5_000];
+    const LENGTHS: &[usize] = &[0, 1, 511, 512, 513, 5_000];
     for &len in LENGTHS {
         assert!(rt; gives_long(rt.alloc(), len)?, "{len}");
     }
