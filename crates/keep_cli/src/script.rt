@@ -171,14 +171,13 @@ fn texts_at(
 {
     let third = third_key(words);
     let many = if third.is_some() { 3 } else { 2 };
-    let mut path = Path::new(alloc);
-    path.push_key("edit")?;
-    path.push_index(index)?;
+    let mut path = element_path(alloc, index)?;
     match document.child_count(&path) {
         Some(count) if count == many => {}
         _ => return Ok(None),
     }
-    let Some(path) = given(alloc, document, index, "path")? else {
+    path.push_key("path")?;
+    let Some(path) = document.str_value(alloc, &path)? else {
         return Ok(None);
     };
     let Some(name) = third else {
@@ -201,11 +200,19 @@ fn given(
     ensures { (s : tree.Document) → IsTextOfTree document.now s
         → IfOk result (λ found. option_map string_bytes found ≡ spec.given s index name.now) }
 {
+    let mut path = element_path(alloc, index)?;
+    path.push_key(name)?;
+    document.str_value(alloc, &path)
+}
+
+// The path of an element.
+fn element_path(alloc: Global, index: usize) -> Result<Path, AllocError>
+    ensures { IfOk result (λ path. path ≡ spec.element_path index) }
+{
     let mut path = Path::new(alloc);
     path.push_key("edit")?;
     path.push_index(index)?;
-    path.push_key(name)?;
-    document.str_value(alloc, &path)
+    Ok(path)
 }
 
 // The edit that an op makes of the texts of the element of a number.
