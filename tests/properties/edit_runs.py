@@ -1,13 +1,13 @@
 #!/usr/bin/env python3
-"""Makes long lists of inserts, items and removes on documents of many shapes, and compares with the same edits in short lists.
+"""Makes long lists of edits of one kind on documents of many shapes, and compares with the same edits in short lists.
 
     tests/properties/edit_runs.py KEEP_TOML [RUNS [SEED]]
 
-Edits of one kind that come in a row are made at once, from 24 of them on, by the document before all of them, and up to 500. So
-each list (of 80 edits, one in twenty of 1,100; RUNS of them, 40 if not given) is given to the program as one script, and then in
+Edits of one kind that come in a row are made at once, from some 20 of them on, and up to 500, by the document before all of them. So
+each list (of 80 edits, one in twenty of 1,100; RUNS of them, 100 if not given) is given to the program as one script, and then in
 scripts of 10, each on what the one before gave, where every edit is made by itself. Texts, faults and the number of the refused
-edit have to be the same. Among the edits are some that end such a row: one that is refused, one of a path that was there before,
-one of another kind.
+edit have to be the same. Among the edits are some that end such a row: one that is refused, one of a path that was there before
+or is in another's, one of another kind.
 """
 import sys
 from pathlib import Path
@@ -18,14 +18,15 @@ sys.path[:0] = [str(Path(__file__).resolve().parents[2] / "tests/rows"), str(Pat
 from ask import Count, answer, in_parallel, short
 from edit_chains import KEYS, VALUES, document_of
 
-RUNS, EDITS, MANY, FEW = 40, 80, 1100, 10
+RUNS, EDITS, MANY, FEW = 100, 80, 1100, 10
 REFUSED = b"keep-toml: edit "
 
 
-def edit_of(op, path, value=None):
+def edit_of(op, path, value=None, key=None):
     """An edit of a script, with its words as literal strings."""
     quoted = lambda it: b"'''" + it + b"'''"
-    return b"[[edit]]\nop = '%s'\npath = %s\n" % (op, quoted(path)) + (b"value = %s\n" % quoted(value) if value else b"")
+    more = [b"%s = %s\n" % (word, quoted(it)) for word, it in ((b"value", value), (b"key", key)) if it]
+    return b"[[edit]]\nop = '%s'\npath = %s\n" % (op, quoted(path)) + b"".join(more)
 
 
 def value_of(random):
@@ -40,7 +41,8 @@ class Run:
         self.many = MANY if seed % 20 == 19 else EDITS
         self.text = document_of(self.random, lambda it: not self.ran([b"check"], it).returncode)
         self.entries = [tuple(it.rsplit(b"\t", 1)) for it in self.ran([b"list"], self.text).stdout.split(b"\n")[:-1]]
-        self.edits = self.random.choice((self.inserts, self.items, self.removes))()
+        kinds = (self.inserts, self.items, self.removes, self.sets, self.renames, self.tables, self.elements)
+        self.edits = self.random.choice(kinds)()
 
     def ran(self, words, given):
         return answer(self.program, words, given)
@@ -75,19 +77,58 @@ class Run:
             edits.append(edit_of(b"insert", array + b"[%d]" % at, value_of(random)))
         return edits
 
-    def removes(self):
-        """Values that are there, each once; first so many lines are put in that there is enough to take."""
+    def with_lines(self):
+        """The paths of new keys, for which so many lines are put in first that there is enough to change."""
         random = self.random
         keys = [random.choice(KEYS) + b"_%d" % number for number in range(self.many)]
         tables = [b"", *self.of_kind(b"table")]
         paths = [table + b"." + key if table else key for key in keys for table in [random.choice(tables)]]
-        script = b"".join(edit_of(b"insert", it, value_of(random)) for it in paths)
-        ran = self.ran([b"apply", script], self.text)
+        ran = self.ran([b"apply", b"".join(edit_of(b"insert", it, value_of(random)) for it in paths)], self.text)
         self.text = ran.stdout if ran.returncode == 0 else self.text
-        more = [path for path, kind in self.entries if kind not in (b"table", b"tables")]
-        left = paths + random.sample(more, min(len(more), random.choice((0, 0, 3))))
-        random.shuffle(left)
+        return paths
+
+    def some_of(self, *kinds):
+        """Paths of nodes of other kinds than these, for a few edits that end a run."""
+        more = [path for path, kind in self.entries if kind not in kinds]
+        return self.random.sample(more, min(len(more), self.random.choice((0, 0, 3))))
+
+    def removes(self):
+        """Values that are there, each once."""
+        left = self.with_lines() + self.some_of(b"table", b"tables")
+        self.random.shuffle(left)
         return [edit_of(b"remove", it) for it in left]
+
+    def sets(self):
+        """Values that are there, now and then one that was set before, or is in another; often with fewer or more bytes."""
+        random, paths = self.random, self.with_lines()
+        paths += self.some_of(b"table", b"tables") + random.sample(paths, random.choice((0, 0, 2)))
+        random.shuffle(paths)
+        return [edit_of(b"set", it, value_of(random)) for it in paths]
+
+    def renames(self):
+        """Keys that are there; now and then one that was renamed before or is above another, or to a key that is there."""
+        random, paths = self.random, self.with_lines()
+        paths += self.some_of() + random.sample(paths, random.choice((0, 0, 2)))
+        random.shuffle(paths)
+        new = lambda number: random.choice(KEYS) + b"_new_%d" % (number if random.random() < 0.998 else number // 2)
+        return [edit_of(b"rename", it, key=new(number)) for number, it in enumerate(paths)]
+
+    def headers(self, op, keys_of):
+        """Headers at the end of the text, now and then of a path that is there."""
+        random = self.random
+        there = [path for path, _ in self.entries if b"[" not in path]
+        return [edit_of(op, random.choice(there) if there and random.random() < 0.003 else keys_of(number))
+                for number in range(self.many)]
+
+    def tables(self):
+        """New tables, some of them below others, before or after these."""
+        below = lambda number: [b"t%d" % it for it in (number // 7, number % 7, number % 3)][: self.random.choice((1, 2, 3))]
+        return self.headers(b"table", lambda number: b".".join([b"tables_%d" % number, *below(number)]))
+
+    def elements(self):
+        """Elements of one array of tables, or of several, sometimes of one in another."""
+        arrays = self.random.choice(([b"els"], [b"els", b"more.els"], [b"els", b"els.in"], [b"a_1.b.c", b"a_1.b.d", b"a_1"]))
+        return self.headers(b"element", lambda number: self.random.choice(arrays[: 1 if number == 0 else None]))
 
     def in_short_lists(self):
         """What the edits come to a few at a time: the text or the number of the refused edit and why."""

@@ -11,6 +11,6 @@ pub mod TakeLaws
 pub mod PatchLaws
 pub mod Shared
 mod MadeMore
+mod AlikeLaws
 mod RunSteps
 mod ItemSteps
-mod RemoveSteps

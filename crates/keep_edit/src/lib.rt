@@ -41,6 +41,7 @@
 //! own (`Memory`, or `AllocError`), after which nothing that was borrowed has changed.
 #![tactic(auto)]
 
+mod alike;
 mod changes;
 mod document;
 mod edits;

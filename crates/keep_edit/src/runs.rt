@@ -1,73 +1,38 @@
-//! Edits of a list in their order. Inserts that add lines, or items of one array, are made at once where many come in a
-//! row, and so are removes that take lines: each is known by the document before all of them.
-ghost use Rattle.std.specs.Prelude.{◌≡◌, ◌≢◌, ◌+◌, ◌<◌, ◌≤◌, ℕ, All, IfErr, IfOk, IfSome, IsCharBoundary};
-ghost use Rattle.std.specs.Prelude.{List, MatchResult, Some, false, length, slice_get, take, true};
+//! Edits of a list in their order. Where many of one kind come in a row, and each makes its change elsewhere, they are
+//! made at once: each is known by the document before all of them.
+ghost use Rattle.std.specs.Prelude.{◌≡◌, ◌+◌, ◌<◌, ◌≤◌, ◌↔◌, ℕ, All, IfErr, IfOk, IfSome, List, MatchResult, Some};
+ghost use Rattle.std.specs.Prelude.{length, slice_get, take};
+ghost use Rattle.std.specs.Bool.{Decides};
 ghost use Rattle.keep_syntax.specs.Tree as tree;
 ghost use Rattle.keep_edit.specs.Lists.{AreMade, StopsAt};
 ghost use Rattle.keep_edit.specs.Reading.{ProfiledText};
+ghost use Rattle.keep_edit.specs.Runs.{AddsItemHere, MakeChanges, changed_text};
+ghost use Rattle.keep_edit_plan.specs.TextEdits.{IsChangeIn};
 ghost use Rattle.keep_edit_spec.specs.AddedItems.{item_path};
 ghost use Rattle.keep_path.specs.Path.{Part, index};
-ghost use Rattle.keep_edit_spec.specs.RemovedLines.{IsLineIn};
-ghost use Rattle.keep_edit.specs.Runs.{AddLines, AddsItemHere, AddsLineHere, TakeLines, TakesLineHere, inserted_path};
-ghost use Rattle.keep_edit.specs.Runs.{removed_path, text_with, text_without_lines};
 
+use crate::alike::{agree, are_all_of_one_kind};
 use crate::document::Document;
-use keep_edit_plan::{AddedLine, AddedLines, Edit, RemovedLines};
+use keep_edit_plan::{Edit, TextEdit, TextEdits};
 use keep_edit_spec::EditFault;
 use keep_rules::{Path, Step};
-use keep_syntax::Span;
 
-/// From so many edits on they are made at once: the text is read anew after them, which takes as long as so many
-/// inserts or removes that are made one by one.
-const FEWEST_AT_ONCE: usize = 24;
 /// No more edits than these are made at once, since the path of each is compared with those before it.
 const MOST_AT_ONCE: usize = 500;
-/// No edit of a path with more steps is made at once with others, so that these comparisons take no longer.
-const MOST_STEPS: usize = 16;
+/// No insert or rename of a longer path, in bytes, is made at once with others, so that comparing them takes no longer.
+const LONGEST_PATH: usize = 128;
 
-/// Whether these are the same path.
-fn is_same(path: &Path, other: &Path) -> bool
-    ensures { result ≡ false → path.now ≢ other.now }
-{
-    if path.len() != other.len() {
-        return false;
+/// Whether an edit has a path that would take long to compare.
+fn has_long_path(edit: &Edit) -> bool {
+    match edit {
+        Edit::Insert(path, _) | Edit::Rename(path, _) => path.encoded_len() > LONGEST_PATH,
+        _ => false,
     }
-    for number in (0..path.len()).rev() {
-        if let (Some(own), Some(step)) = (path.step(number), other.step(number)) {
-            if !own.is(step) {
-                return false;
-            }
-        }
-    }
-    true
-}
-
-/// Whether a path is that of the item so many numbers after the one of another path, in the same array.
-fn is_item_after(path: &Path, item: &Path, before: usize) -> bool
-    ensures { (array : List Part) (n : ℕ) → item.now ≡ item_path array n → result ≡ true
-        → path.now ≡ item_path array (n + before) }
-{
-    let len = item.len();
-    if len == 0 || path.len() != len {
-        return false;
-    }
-    for number in 0..len - 1 {
-        let (Some(own), Some(step)) = (path.step(number), item.step(number)) else {
-            return false;
-        };
-        if !own.is(step) {
-            return false;
-        }
-    }
-    let (Some(own), Some(number)) = (index_at(path, len - 1), index_at(item, len - 1)) else {
-        return false;
-    };
-    own >= number && own - number == before
 }
 
 /// The number that is the step of a path with that number; None where another step is there, or none.
 fn index_at(path: &Path, number: usize) -> Option<usize>
-    ensures { IfSome result (λ n. slice_get path.now number ≡ Some (index n)) }
+    ensures { (n : ℕ) → (result ≡ Some n) ↔ (slice_get path.now number ≡ Some (index n)) }
 {
     match path.step(number)? {
         Step::Key(_) => None,
@@ -75,44 +40,22 @@ fn index_at(path: &Path, number: usize) -> Option<usize>
     }
 }
 
-/// Whether these edits are all inserts of other paths. False, too, for a path with more steps than are compared.
-fn are_other_inserts(edits: &[Edit], path: &Path) -> bool
-    ensures { result ≡ true → All (λ e. inserted_path e ≢ path.now) edits.now }
+/// Whether a path is that of the item so many numbers after the one of another path, in the same array.
+fn is_item_after(path: &Path, item: &Path, before: usize) -> bool
+    ensures { (array : List Part) (n : ℕ) → item.now ≡ item_path array n
+        → Decides result (path.now ≡ item_path array (n + before)) }
 {
-    if path.len() > MOST_STEPS {
+    let len = item.len();
+    if len == 0 || path.len() != len {
         return false;
     }
-    for edit in edits {
-        match edit {
-            Edit::Insert(other, _) => {
-                if is_same(other, path) {
-                    return false;
-                }
-            }
-            _ => return false,
-        }
-    }
-    true
-}
-
-/// Whether these edits are all removes of other paths. False, too, for a path with more steps than are compared.
-fn are_other_removes(edits: &[Edit], path: &Path) -> bool
-    ensures { result ≡ true → All (λ e. removed_path e ≢ path.now) edits.now }
-{
-    if path.len() > MOST_STEPS {
+    if !agree(path, item, len - 1) {
         return false;
     }
-    for edit in edits {
-        match edit {
-            Edit::Remove(other) => {
-                if is_same(other, path) {
-                    return false;
-                }
-            }
-            _ => return false,
-        }
-    }
-    true
+    let (Some(own), Some(number)) = (index_at(path, len - 1), index_at(item, len - 1)) else {
+        return false;
+    };
+    own >= number && own - number == before
 }
 
 impl Document {
@@ -133,29 +76,15 @@ impl Document {
         ensures next { IfOk result (λ next. (first < next) × (next ≤ length edits.now)) }
         ensures number { IfErr result (λ stop. stop.0 < length edits.now) }
     {
-        let (made, end) = self.made_at_once(edits, first);
-        if let Some(document) = made {
-            *self = document;
-            return Ok(end);
+        let changes = self.changes_at_once(edits, first);
+        let end = first + changes.len();
+        if changes.len() > self.fewest_at_once(&edits[first]) {
+            if let Some(document) = self.with_changes(&changes) {
+                *self = document;
+                return Ok(end);
+            }
         }
         self.apply_up_to(edits, first, end.max(first + 1))
-    }
-
-    /// The document after edits from number `first` on, if so many of one kind come there that it is worth while to
-    /// make them at once; and the number of the edit after those of that kind.
-    fn made_at_once(&self, edits: &[Edit], first: usize) -> (Option<Document>, usize)
-        requires { first < length edits.now }
-        ensures few { (first ≤ result.1) × (result.1 ≤ length edits.now) }
-        ensures some { IfSome result.0 (λ document. first < result.1) }
-        ensures made { IfSome result.0 (λ document. (s : tree.Document) (old : ProfiledText)
-            → AreMade s (take first edits.now) old self.now → AreMade s (take result.1 edits.now) old document) }
-    {
-        let added = self.added_by(edits, first);
-        if added.len() > 0 {
-            return (self.with_lines(&added), first + added.len());
-        }
-        let gone = self.removed_lines(edits, first);
-        (self.without_lines(&gone), first + gone.len())
     }
 
     /// Makes the edits from number `first` up to that with number `end`, one by one. Returns that number.
@@ -184,48 +113,86 @@ impl Document {
         Ok(end)
     }
 
-    /// What the edits from number `first` on add to the document, as far as they are inserts that add lines, or items
-    /// of one array.
-    fn added_by(&self, edits: &[Edit], first: usize) -> AddedLines
-        requires { first < length edits.now }
-        ensures few { first + length result ≤ length edits.now }
-        ensures made { AddLines edits.now first (first + length result) self.now result }
-        ensures within { All (λ l. IsCharBoundary self.now.text l.at) result }
-    {
-        let lines = self.added_lines(edits, first);
-        if lines.len() > 0 {
-            return lines;
+    /// From more such edits on it is worth while to make them at once. The text is read anew after them, which takes as
+    /// long as 12 to 24 inserts, removes or sets of a list that are made one by one, and as 27 renames or sets of a
+    /// scalar at 10 KB, 88 at 100 KB and some 190 from 256 KB on; headers are so cheap that they are worth it in small
+    /// texts alone.
+    fn fewest_at_once(&self, edit: &Edit) -> usize {
+        let len = self.text.len();
+        match edit {
+            Edit::Set(_, value) if value.depth() > 0 => 23,
+            Edit::Set(_, _) | Edit::Rename(_, _) => 20 + (len / 1500).min(170),
+            Edit::Table(_) | Edit::Element(_) => 25 + len / 600,
+            Edit::Insert(_, _) | Edit::Remove(_) => 23,
         }
-        self.added_items(edits, first)
     }
 
-    /// What the edits from number `first` on add to the document, as far as they are inserts of the next items of one
-    /// array. Where memory is refused, there are fewer.
-    fn added_items(&self, edits: &[Edit], first: usize) -> AddedLines
+    /// What the edits from number `first` on change in the text, as far as they can be made at once.
+    fn changes_at_once(&self, edits: &[Edit], first: usize) -> TextEdits
         requires { first < length edits.now }
         ensures few { first + length result ≤ length edits.now }
-        ensures made { AddLines edits.now first (first + length result) self.now result }
-        ensures within { All (λ l. IsCharBoundary self.now.text l.at) result }
+        ensures made { MakeChanges edits.now first (first + length result) self.now result }
+        ensures within { All (IsChangeIn self.now.text) result }
     {
-        let mut items = AddedLines::new(self.alloc());
+        let changes = self.changes_by(edits, first);
+        if changes.len() > 0 {
+            return changes;
+        }
+        self.items_by(edits, first)
+    }
+
+    /// What the edits from number `first` on change in the text, as far as all are of one kind and each makes its
+    /// change beside those before it. Where memory is refused, there are fewer.
+    fn changes_by(&self, edits: &[Edit], first: usize) -> TextEdits
+        requires { first < length edits.now }
+        ensures few { first + length result ≤ length edits.now }
+        ensures made { MakeChanges edits.now first (first + length result) self.now result }
+        ensures within { All (IsChangeIn self.now.text) result }
+    {
+        let mut changes = TextEdits::new(self.alloc());
+        let end = edits.len().min(first.saturating_add(MOST_AT_ONCE));
+        for number in first..end {
+            let edit = &edits[number];
+            if has_long_path(edit) || !are_all_of_one_kind(&edits[first..number], edit) {
+                return changes;
+            }
+            let Some(change) = self.as_ref().change_by(self.alloc(), edit) else {
+                return changes;
+            };
+            if !changes.add(change).unwrap_or(false) {
+                return changes;
+            }
+        }
+        changes
+    }
+
+    /// What the edits from number `first` on add to the text, as far as they are inserts of the next items of one
+    /// array. Where memory is refused, there are fewer.
+    fn items_by(&self, edits: &[Edit], first: usize) -> TextEdits
+        requires { first < length edits.now }
+        ensures few { first + length result ≤ length edits.now }
+        ensures made { MakeChanges edits.now first (first + length result) self.now result }
+        ensures within { All (IsChangeIn self.now.text) result }
+    {
+        let mut items = TextEdits::new(self.alloc());
         let Edit::Insert(path, _) = &edits[first] else {
             return items;
         };
         let end = edits.len().min(first.saturating_add(MOST_AT_ONCE));
         for number in first..end {
-            let Some(item) = self.item_added_by(&edits[number], path, number - first) else {
+            let Some(item) = self.item_by(&edits[number], path, number - first) else {
                 return items;
             };
-            if let Err(_) = items.add(item) {
+            if !items.add(item).unwrap_or(false) {
                 return items;
             }
         }
         items
     }
 
-    /// What an edit adds to the document, if it is the insert of the item so many numbers after the one of a path,
-    /// which is the next of its array.
-    fn item_added_by(&self, edit: &Edit, path: &Path, before: usize) -> Option<AddedLine>
+    /// What an edit adds to the text, if it is the insert of the item so many numbers after the one of a path, which is
+    /// the next of its array.
+    fn item_by(&self, edit: &Edit, path: &Path, before: usize) -> Option<TextEdit>
         ensures { IfSome result (AddsItemHere self.now edit.now path.now before) }
     {
         let Edit::Insert(own, value) = edit else {
@@ -237,105 +204,12 @@ impl Document {
         self.as_ref().added_item(self.alloc(), path, before, value)
     }
 
-    /// The lines that the edits from number `first` on add to the document, as far as they are inserts that add lines,
-    /// each of another path. Where memory is refused, there are fewer.
-    fn added_lines(&self, edits: &[Edit], first: usize) -> AddedLines
-        requires { first ≤ length edits.now }
-        ensures few { first + length result ≤ length edits.now }
-        ensures made { AddLines edits.now first (first + length result) self.now result }
-        ensures within { All (λ l. IsCharBoundary self.now.text l.at) result }
+    /// The document of the text with these changes, which is read anew. None where memory was refused.
+    fn with_changes(&self, changes: &TextEdits) -> Option<Document>
+        requires { All (IsChangeIn self.now.text) changes.now }
+        ensures { IfSome result (λ document. document ≡ changed_text self.now changes.now) }
     {
-        let mut lines = AddedLines::new(self.alloc());
-        let end = edits.len().min(first.saturating_add(MOST_AT_ONCE));
-        for number in first..end {
-            let Some(line) = self.line_added_by(edits, first, number) else {
-                return lines;
-            };
-            if let Err(_) = lines.add(line) {
-                return lines;
-            }
-        }
-        lines
-    }
-
-    /// The line that the edit with that number adds to the document, if it is an insert that adds one, and those from
-    /// number `first` on before it are inserts of other paths.
-    fn line_added_by(&self, edits: &[Edit], first: usize, number: usize) -> Option<AddedLine>
-        requires { (first ≤ number) × (number < length edits.now) }
-        ensures { IfSome result (AddsLineHere self.now edits.now first number) }
-    {
-        let Edit::Insert(path, value) = &edits[number] else {
-            return None;
-        };
-        if !are_other_inserts(&edits[first..number], path) {
-            return None;
-        }
-        self.as_ref().added_line(self.alloc(), path, value)
-    }
-
-    /// The document of the text with these lines in it, which is read anew. None where there are few, and where memory
-    /// was refused.
-    fn with_lines(&self, lines: &AddedLines) -> Option<Document>
-        requires { All (λ l. IsCharBoundary self.now.text l.at) lines.now }
-        ensures made { IfSome result (λ document. document ≡ text_with self.now lines.now) }
-        ensures some { IfSome result (λ document. 0 < length lines.now) }
-    {
-        if lines.len() < FEWEST_AT_ONCE {
-            return None;
-        }
-        let text = lines.written_into(self.alloc(), self.text.as_str()).ok()?;
-        Document::of_text(self.alloc(), text, self.profile).ok()
-    }
-
-    /// The lines that the edits from number `first` on take from the document, as far as they are removes that take
-    /// lines, each of another path. Where memory is refused, there are fewer.
-    fn removed_lines(&self, edits: &[Edit], first: usize) -> RemovedLines
-        requires { first ≤ length edits.now }
-        ensures few { first + length result ≤ length edits.now }
-        ensures made { TakeLines edits.now first (first + length result) self.now result }
-        ensures within { All (IsLineIn self.now.text) result }
-    {
-        // The invariant of a document is known to the proof from where a field of it is looked at.
-        let _text = &self.text;
-        let mut lines = RemovedLines::new(self.alloc());
-        let end = edits.len().min(first.saturating_add(MOST_AT_ONCE));
-        for number in first..end {
-            let Some(line) = self.line_taken_by(edits, first, number) else {
-                return lines;
-            };
-            if let Err(_) = lines.add(line) {
-                return lines;
-            }
-        }
-        lines
-    }
-
-    /// The line that the edit with that number takes from the document, if it is a remove that takes one, and those
-    /// from number `first` on before it are removes of other paths.
-    fn line_taken_by(&self, edits: &[Edit], first: usize, number: usize) -> Option<Span>
-        requires { (first ≤ number) × (number < length edits.now) }
-        ensures { IfSome result (TakesLineHere self.now edits.now first number) }
-    {
-        let Edit::Remove(path) = &edits[number] else {
-            return None;
-        };
-        if !are_other_removes(&edits[first..number], path) {
-            return None;
-        }
-        self.as_ref().taken_line(path)
-    }
-
-    /// The document of the text without these lines, which is read anew. None where there are few, and where memory was
-    /// refused.
-    fn without_lines(&self, lines: &RemovedLines) -> Option<Document>
-        requires { All (IsLineIn self.now.text) lines.now }
-        ensures made { IfSome result (λ document. document ≡ text_without_lines self.now lines.now) }
-        ensures some { IfSome result (λ document. 0 < length lines.now) }
-    {
-        if lines.len() < FEWEST_AT_ONCE {
-            return None;
-        }
-        let text = lines.taken_from(self.alloc(), self.text.as_str()).ok()?;
+        let text = changes.text_after(self.alloc(), self.text.as_str()).ok()?;
         Document::of_text(self.alloc(), text, self.profile).ok()
     }
 }

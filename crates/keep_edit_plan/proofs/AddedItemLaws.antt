@@ -7,9 +7,9 @@
 --
 -- Theorems: `after_added`, `first_added`: the next item is added; `after_boundary`, `first_boundary`: it comes between
 -- characters.
-use Rattle.std.proofs.Common.{◌≡◌, ◌⊎◌, ℕ, zero, suc, ◌+◌, ◌<◌, ◌≤◌, Bool, true, false, not, cond, nat_lt, List, []}
-use Rattle.std.proofs.Common.{◌∷◌, ◌++◌, length, drop, map, slice_get, refl, sym, ap, subst, ◌∙◌, arith, length-append}
-use Rattle.std.proofs.Common.{Option, Some, None, Result, Ok, Err, inl, inr}
+use Rattle.std.proofs.Common.{◌≡◌, ◌⊎◌, ℕ, zero, suc, ◌+◌, ◌-◌, ◌<◌, ◌≤◌, Bool, true, false, not, cond, nat_lt, List}
+use Rattle.std.proofs.Common.{[], ◌∷◌, ◌++◌, length, drop, map, slice_get, refl, sym, ap, subst, ◌∙◌, arith}
+use Rattle.std.proofs.Common.{length-append, Option, Some, None, Result, Ok, Err, inl, inr}
 use Rattle.std.specs.Prelude.{IsCharBoundary, IsUtf8, codes}
 use Rattle.std.specs.List.{AllByRecursion}
 use Rattle.std.specs.Result.{is_ok, result_ok}
@@ -31,7 +31,7 @@ use Rattle.keep_edit_spec.proofs.Shared.{IsGranted, granted}
 use Rattle.keep_edit_spec.proofs.Shared.{new_path}
 use Rattle.keep_edit_spec.proofs.Shared.{IsItemPath, item_at}
 use Rattle.keep_edit_spec.specs.AddedItems.{AddsNextItem, CanBeItem, separator}
-use Rattle.keep_edit_spec.specs.AddedLines.{line_at}
+use Rattle.keep_edit_spec.specs.TextChanges.{change_at}
 use Rattle.keep_edit_spec.proofs.Shared.{keys_same, prefixes_alike}
 use Rattle.keep_edit_plan.specs.Inserting.{IsInsertionOf, IsItemSpot, IsKeyvalSpot, IsPutIn}
 use Rattle.keep_edit_plan.specs.Reading.{limit, ProfiledText, Holds, IsTextOfTree, IsTextOfValue}
@@ -167,7 +167,7 @@ module _ (d : ProfiledText) (syntax : Syntax) (nodes : NodeInfos) (path : List P
 
     added : (at : ℕ) → item_count array ms ≡ n → place s (insert path v) ≡ put_in at (separator n ++ value_text v)
         → (before : ℕ) (start line : List ℕ) → start ≡ separator (n + before) → line ≡ start ++ bytes
-        → AddsNextItem d.profile limit s path before v (line_at at line)
+        → AddsNextItem d.profile limit s path before v (change_at at (at - at) line)
     added at counted put before start line start_is is = record {
       array = array;
       number = n;
@@ -181,6 +181,7 @@ module _ (d : ProfiledText) (syntax : Syntax) (nodes : NodeInfos) (path : List P
             (other_placed v w Wide value.reads.valid n s path n at number put);
       };
       can = can_be;
+      adds = omega arith;
       is = is ∙ ap (λ (t : List ℕ). t ++ bytes) start_is
           ∙ ap (λ (t : List ℕ). separator (n + before) ++ t) value.reads.spelled;
     }
@@ -205,7 +206,7 @@ module _ (d : ProfiledText) (syntax : Syntax) (nodes : NodeInfos) (path : List P
           subst (λ (n : ℕ). IsCharBoundary d.text n) (sym at_end) span.starts
 
       pub after_added : (before : ℕ) (start line : List ℕ) → IsStart spot_is.0 before start → line ≡ start ++ bytes
-          → AddsNextItem d.profile limit s path before v (line_at spot_is.1 line)
+          → AddsNextItem d.profile limit s path before v (change_at spot_is.1 (spot_is.1 - spot_is.1) line)
       after_added before start line start_is is =
           let (n, number, (m, more, count, last)) = in_array (spot.AfterEntry w) after tt in
           let (fresh, same, placed, span) = after_is in
@@ -233,7 +234,7 @@ module _ (d : ProfiledText) (syntax : Syntax) (nodes : NodeInfos) (path : List P
       first_boundary = let (fresh, is, placed, span) = first_is in span.starts
 
       pub first_added : (before : ℕ) (start line : List ℕ) → IsStart spot_is.0 before start → line ≡ start ++ bytes
-          → AddsNextItem d.profile limit s path before v (line_at spot_is.1 line)
+          → AddsNextItem d.profile limit s path before v (change_at spot_is.1 (spot_is.1 - spot_is.1) line)
       first_added before start line start_is is =
           let (n, number, (none, count, brackets)) = in_array (spot.InEmpty w) empty tt in
           let (fresh, same, placed, span) = first_is in

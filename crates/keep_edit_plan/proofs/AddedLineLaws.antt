@@ -36,7 +36,8 @@ use Rattle.keep_edit_spec.specs.Lines.{begins, body_end, ended_text, first_newli
 use Rattle.keep_edit_spec.specs.Lines.{put_lines}
 use Rattle.keep_edit_spec.specs.Look.{holder, is_index, item_number, keys_in}
 use Rattle.keep_edit_spec.proofs.Shared.{header_ends, holder_prefix, root_ends}
-use Rattle.keep_edit_spec.specs.AddedLines.{AddsLine, line_at}
+use Rattle.keep_edit_spec.specs.AddedLines.{AddsLine}
+use Rattle.keep_edit_spec.specs.TextChanges.{change_at}
 use Rattle.keep_edit_plan.specs.Inserting.{IsInsertionOf, IsKeyvalSpot, lines_start, new_line_at, origin_of}
 use Rattle.keep_edit_plan.specs.PutLines.{body_end_of}
 use Rattle.keep_edit_plan.specs.Reading.{limit, ProfiledText, Holds, IsTextOfTree, IsTextOfValue}
@@ -256,7 +257,7 @@ module _ (d : ProfiledText) (syntax : Syntax) (nodes : NodeInfos) (path : List P
   pub line_is_added : (at : ℕ) (old line : List ℕ) → at ≡ body_end_of s header → old ≡ []
       → line ≡ old ++ (new_line_at s at (keys_in (drop i.from path)) v).new
       → false ≡ is_open (drop (lines_start s) (take at d.text)) → length path - i.from ≡ 1
-      → (header ≡ None → value_depth v ≤ 0) → AddsLine d.profile limit s path v (line_at at line)
+      → (header ≡ None → value_depth v ≤ 0) → AddsLine d.profile limit s path v (change_at at (at - at) line)
   line_is_added at old line at_end none_before pushed closed few flat =
       let line_is : line ≡ (new_line_at s at (keys_in (drop i.from path)) v).new =
       pushed ∙ ap (λ (t : List ℕ). t ++ (new_line_at s at (keys_in (drop i.from path)) v).new) none_before in
@@ -279,5 +280,6 @@ module _ (d : ProfiledText) (syntax : Syntax) (nodes : NodeInfos) (path : List P
           | inr few ↦ few
         ];
         newline = end.newline;
+        adds = omega arith;
         is = put;
       }

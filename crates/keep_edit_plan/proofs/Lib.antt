@@ -44,6 +44,6 @@ pub mod LineValueRemovalLaws
 pub mod TakenLineLaws
 pub mod HeaderChangeLaws
 pub mod GivenLaws
-pub mod AddingLines
-pub mod TakingLines
+pub mod TextEditLaws
+pub mod ChangeLaws
 pub mod Shared

@@ -5,3 +5,4 @@ pub use Rattle.keep_edit_plan.proofs.NodeLaws.{no_node, a_node, kind_stated}
 pub use Rattle.keep_edit_plan.proofs.FoundLaws.{fact_node, none_found, one_found, value_nested, value_there, IsStated}
 pub use Rattle.keep_edit_plan.proofs.FoundLaws.{IsValueThere}
 pub use Rattle.keep_edit_plan.proofs.EditedLaws.{editable}
+pub use Rattle.keep_edit_plan.proofs.ChangeLaws.{change_in}

@@ -47,7 +47,8 @@ use Rattle.keep_edit_spec.proofs.Shared.{IsCleared, IsOwnLine, cleared_lines, he
 use Rattle.keep_edit_spec.proofs.Shared.{lines_split, page_line, rest_valid, tail_lines, without}
 use Rattle.keep_edit_spec.proofs.Shared.{none_some}
 use Rattle.keep_edit_spec.proofs.Shared.{ends_at, line_quiet}
-use Rattle.keep_edit_spec.specs.RemovedLines.{RemovesLine, removed_at}
+use Rattle.keep_edit_spec.specs.RemovedLines.{RemovesLine}
+use Rattle.keep_edit_spec.specs.TextChanges.{change_at}
 use Rattle.keep_edit_plan.specs.Answers.{IsSpanOf, value_number_of}
 use Rattle.keep_edit_plan.specs.Reading.{limit, ProfiledText, Holds, IsTextOfTree}
 use Rattle.keep_edit_plan.specs.Removing.{IsCutAt, IsRemovalFound, cut_place}
@@ -210,7 +211,7 @@ module _ (d : ProfiledText) (syntax : Syntax) (index : NodeInfos) (path : List P
   line_span = cut_at.1
 
   pub line_is_taken : st.line.start < st.line.end → get_or d.text (st.line.end - 1) 0 ≡ 0x0A
-      → RemovesLine d.profile limit s path (removed_at st.line)
+      → RemovesLine d.profile limit s path (change_at st.line.start (st.line.end - st.line.start) [])
   line_is_taken some byte =
       let is : place s (remove path) ≡ without_new [] = cut_at.0 ∙ nothing in
       let (c, h) = the_change d path s read allowed in
@@ -228,6 +229,7 @@ module _ (d : ProfiledText) (syntax : Syntax) (index : NodeInfos) (path : List P
         number = t.number;
         own = t.own;
         closed = t.closed;
+        takes = refl;
         is = is ∙ ap (λ (n : ℕ). record { start = st.line.start; end = n; new = [] }) whole;
       }
 

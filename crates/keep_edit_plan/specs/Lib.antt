@@ -10,6 +10,7 @@ pub mod IndexChanges
 pub mod InsideValues
 pub mod Plans
 pub mod Given
+pub mod TextEdits
 pub mod Writing
 pub mod Aiming
 pub mod PutLines

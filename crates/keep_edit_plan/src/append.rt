@@ -135,7 +135,7 @@ fn is_bare_start(text: &str) -> bool
 }
 
 /// Whether a text ends in a line feed, as each newline does, and no line without one.
-fn ends_in_newline(text: &str) -> bool
+pub(crate) fn ends_in_newline(text: &str) -> bool
     ensures { result ≡ text_ends.ends_in_newline text.now }
 {
     match text.as_bytes().last() {

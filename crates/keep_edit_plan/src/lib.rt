@@ -3,8 +3,8 @@
 //! an edit is done is found from the index and the syntax, and the bytes round that place.
 #![tactic(auto)]
 
-mod added_lines;
 mod append;
+mod change;
 mod document;
 mod edit;
 mod header;
@@ -14,17 +14,16 @@ mod inside;
 mod newline;
 mod plan;
 mod remove;
-mod removed_lines;
 mod rename;
 mod set;
 mod text_edit;
+mod text_edits;
 mod totals;
 
-pub use added_lines::{AddedLine, AddedLines};
 pub use document::DocumentRef;
 pub use edit::Edit;
 pub use header::Header;
 pub use plan::{IndexChange, Plan};
-pub use removed_lines::RemovedLines;
 pub use text_edit::{TextEdit, part_at};
+pub use text_edits::TextEdits;
 pub use totals::totals_of;

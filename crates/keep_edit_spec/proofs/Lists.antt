@@ -3,7 +3,19 @@ pub mod Places
 pub mod BodyEnds
 pub mod OtherPaths
 pub mod StillAdds
-pub mod MergedLines
+pub mod SetAllowed
+pub mod SetApart
+pub mod SetPlaces
+pub mod StillSets
+pub mod PartPlaces
+pub mod RenamePlaces
+pub mod RenameAllowed
+pub mod StillRenames
+pub mod SomeBytes
+pub mod HeaderPlaces
+pub mod HeaderApart
+pub mod StillAppends
+pub mod TextChanges
 pub mod RunLaws
 pub mod MoreItems
 pub mod NextChange
@@ -13,5 +25,3 @@ pub mod ItemRunLaws
 pub mod RemovedPlaces
 pub mod RemovedOwn
 pub mod StillRemoves
-pub mod CutLines
-pub mod CutRunLaws

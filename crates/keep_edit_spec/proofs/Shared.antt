@@ -76,16 +76,13 @@ pub use Rattle.keep_edit_spec.proofs.Insert.InsertDottedPlace.{IsBaseAt, IsDotte
 pub use Rattle.keep_edit_spec.proofs.Common.Texts.{text_of-append}
 pub use Rattle.keep_edit_spec.proofs.Touched.FitLaws.{touched_lines_are_lines}
 pub use Rattle.keep_edit_spec.proofs.Touched.TouchedCuts.{IsCut, touched_in_new_cut}
-pub use Rattle.keep_edit_spec.proofs.Lists.MergedLines.{ascend_with}
-pub use Rattle.keep_edit_spec.proofs.Lists.RunLaws.{none_is_run, run_goes_on}
-pub use Rattle.keep_edit_spec.proofs.Lists.StillAdds.{still_adds}
+pub use Rattle.keep_edit_spec.proofs.Lists.TextChanges.{all_with, follow_with, length_with}
+pub use Rattle.keep_edit_spec.proofs.Lists.RunLaws.{change_lawful, none_is_run, run_goes_on}
 pub use Rattle.keep_edit_spec.proofs.Lists.ItemRunLaws.{item_run_goes_on, none_is_item_run}
 pub use Rattle.keep_edit_spec.proofs.Lists.MoreItems.{keys_same, prefixes_alike}
 pub use Rattle.keep_edit_spec.proofs.Lists.NextItem.{not_before, not_empty}
-pub use Rattle.keep_edit_spec.proofs.Lists.CutLines.{follow_more}
-pub use Rattle.keep_edit_spec.proofs.Lists.CutRunLaws.{cut_run_goes_on, none_is_cut_run}
-pub use Rattle.keep_edit_spec.proofs.Lists.RemovedPlaces.{line_has_bytes, lines_apart}
-pub use Rattle.keep_edit_spec.proofs.Lists.StillRemoves.{still_removes}
+pub use Rattle.keep_edit_spec.proofs.Lists.SomeBytes.{rename_has_bytes, set_has_bytes}
+pub use Rattle.keep_edit_spec.proofs.Lists.RemovedPlaces.{line_has_bytes}
 pub use Rattle.keep_edit_spec.proofs.Common.DoneAtValue.{EachOf}
 pub use Rattle.keep_edit_spec.proofs.Common.Runs.{same_path-refl}
 pub use Rattle.keep_edit_spec.proofs.Common.ValueThere.{IsSome}

@@ -1,6 +1,6 @@
 -- Inserts of a list that add items to one array, each after all others of it.
 use Rattle.std.specs.Prelude.{◌≡◌, ℕ, zero, suc, ◌+◌, ◌≤◌, true, false, List, [], ◌∷◌, ◌++◌, codes, length, None}
-use Rattle.std.specs.Prelude.{IsUtf8}
+use Rattle.std.specs.Prelude.{All, IsUtf8}
 use Rattle.std.specs.List.{AllByRecursion}
 use Rattle.keep_types.specs.declared.leaf.Profile.{Profile}
 use Rattle.keep_types.specs.declared.leaf.Profile.TheVariants.{Wide}
@@ -12,7 +12,7 @@ use Rattle.keep_edit_spec.specs.Insertion.{put_in}
 use Rattle.keep_edit_spec.specs.Laws.{IsEditable, IsGivenValue}
 use Rattle.keep_edit_spec.specs.Look.{is_array_at, item_count, keys_in}
 use Rattle.keep_edit_spec.specs.Refusals.{is_foreign, is_too_deep, refusal}
-use Rattle.keep_edit_spec.specs.AddedLines.{AddedLine, Ascend, line_at, moved_by_all, with_line, with_lines}
+use Rattle.keep_edit_spec.specs.TextChanges.{Follow, TextChange, change_at, moved_by_all, text_with, with_change}
 
 -- what is written before an item, by how many are before it
 abbrev pub separator : ℕ → List ℕ
@@ -56,31 +56,37 @@ ItemIsAdded =
 -- The insert of this value as the item of that path, which is the next of its array, adds this text; where `before`
 -- other items were added before it, it is a text for after them.
 pub record AddsNextItem (profile : Profile) (limit : ℕ) (s : Document) (path : List Part) (before : ℕ) (value : Value)
-    (added : AddedLine) : Type 0 where
+    (c : TextChange) : Type 0 where
   pub array : List Part
   pub number : ℕ
   pub whole : path ≡ item_path array number
-  pub items : HasItems profile limit s array number added.at
+  pub items : HasItems profile limit s array number c.at
   pub can : CanBeItem profile limit s array value
-  pub is : added.line ≡ separator (number + before) ++ value_text value
+  pub adds : c.size ≡ 0
+  pub is : c.new ≡ separator (number + before) ++ value_text value
+
+-- a text that comes at this place
+abbrev pub ComesAt : ℕ → TextChange → Type 0
+ComesAt at c = (c.at ≡ at) × (c.size ≡ 0)
 
 -- The document after items were added to an array, each with its text at one place of the first document's.
 pub record IsItemRun (profile : Profile) (limit : ℕ) (s : Document) (array : List Part) (n at : ℕ)
-    (texts : List AddedLine) (now : Document) : Type 0 where
+    (texts : List TextChange) (now : Document) : Type 0 where
   pub editable : IsEditable profile limit now
   pub start : at ≤ length (text s)
-  pub ascend : Ascend 0 texts
-  pub text : text now ≡ with_lines 0 (text s) texts
+  pub here : All (ComesAt at) texts
+  pub follow : Follow 0 texts
+  pub text : text now ≡ text_with 0 (text s) texts
   pub items : HasItems profile limit now array (n + length texts) (moved_by_all texts at)
   pub others : (value : Value) → CanBeItem profile limit s array value → CanBeItem profile limit now array value
 
 -- one item more: it is not refused, and the run is longer
 pub record IsItemRunLonger (profile : Profile) (limit : ℕ) (s : Document) (array : List Part) (n at : ℕ)
-    (texts : List AddedLine) (now : Document) (value : Value) (added : AddedLine) : Type 0 where
+    (texts : List TextChange) (now : Document) (value : Value) (c : TextChange) : Type 0 where
   pub allowed : refusal profile limit now (insert (item_path array (n + length texts)) value) ≡ None
   pub is : place now (insert (item_path array (n + length texts)) value)
-      ≡ put_in (moved_by_all texts at) added.line
-  pub run : IsItemRun profile limit s array n at (with_line texts added)
+      ≡ put_in (moved_by_all texts at) c.new
+  pub run : IsItemRun profile limit s array n at (with_change texts c)
       (edited_document now (insert (item_path array (n + length texts)) value))
 
 abbrev pub NoneIsItemRun : Type 0
@@ -90,8 +96,8 @@ NoneIsItemRun =
 
 abbrev pub ItemRunGoesOn : Type 0
 ItemRunGoesOn =
-    (profile : Profile) (limit : ℕ) (s : Document) (array : List Part) (n at : ℕ) (texts : List AddedLine)
-    (now : Document) (value : Value) (added : AddedLine)
+    (profile : Profile) (limit : ℕ) (s : Document) (array : List Part) (n at : ℕ) (texts : List TextChange)
+    (now : Document) (value : Value) (c : TextChange)
     → IsItemRun profile limit s array n at texts now → CanBeItem profile limit s array value
-    → added ≡ line_at at (separator (n + length texts) ++ value_text value)
-    → IsItemRunLonger profile limit s array n at texts now value added
+    → c ≡ change_at at 0 (separator (n + length texts) ++ value_text value)
+    → IsItemRunLonger profile limit s array n at texts now value c

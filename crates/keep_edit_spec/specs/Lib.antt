@@ -14,6 +14,11 @@ pub mod Removal
 pub mod Insertion
 pub mod TextEnds
 pub mod Headers
+pub mod TextChanges
+pub mod SetValues
+pub mod AppendedHeaders
+pub mod RenamedKeys
+pub mod Runs
 pub mod AddedItems
 pub mod RemovedLines
 pub mod AddedLines

@@ -1,10 +1,14 @@
 //! Laws of the edits, each the contract of a function that does nothing.
 ghost use Rattle.keep_edit_spec.specs.AddedItems as items;
 ghost use Rattle.keep_edit_spec.specs.AddedLines as added;
+ghost use Rattle.keep_edit_spec.specs.AppendedHeaders as appended;
 ghost use Rattle.keep_edit_spec.specs.AppendedStatements as headers;
 ghost use Rattle.keep_edit_spec.specs.KeyvalLines as keyvals;
 ghost use Rattle.keep_edit_spec.specs.Laws as spec;
 ghost use Rattle.keep_edit_spec.specs.RemovedLines as removed;
+ghost use Rattle.keep_edit_spec.specs.RenamedKeys as keys;
+ghost use Rattle.keep_edit_spec.specs.Runs as runs;
+ghost use Rattle.keep_edit_spec.specs.SetValues as values;
 ghost use Rattle.keep_edit_spec.specs.TouchedLines as touched;
 
 /// A `set` that is not refused changes the document as it is stated: in its text, its tree and its size.
@@ -91,21 +95,41 @@ pub fn append_adds_statement()
     ensures element { headers.AppendElementAddsStatement }
 {}
 
-/// An `insert` that adds a line to a document adds the same one after another, of another path, added its line. So a
-/// run of such inserts is known by the document before it: none is refused, and the text is that one's with all the
-/// lines.
+/// An `insert` that adds a line to a document adds the same one after another, of another path, added its line.
 pub fn inserts_add_lines()
-    ensures still { added.StillAddsLine }
-    ensures run { added.RunGoesOn }
+    ensures { added.StillAddsLine }
+{}
+
+/// A `remove` that takes a line takes the same one after another, of another path, took its line.
+pub fn removes_take_lines()
+    ensures { removed.StillRemovesLine }
+{}
+
+/// A `set` makes the same change after another made its own elsewhere.
+pub fn sets_change_values()
+    ensures { values.StillSetsValue }
+{}
+
+/// A `rename` makes the same change after another made its own elsewhere, of a path apart.
+pub fn renames_change_keys()
+    ensures { keys.StillRenamesKey }
+{}
+
+/// A table or an element that is appended to a text that ends in a newline is written in the same way after another.
+pub fn appends_add_headers()
+    ensures table { appended.StillAppendsTable }
+    ensures element { appended.StillAppendsElement }
+{}
+
+/// So a run of such edits of one kind is known by the document before it: none is refused, and the text is that one's
+/// with all the changes.
+pub fn runs_are_known()
+    ensures still { runs.StillMakesChange }
+    ensures none { runs.NoneIsRun }
+    ensures run { runs.RunGoesOn }
 {}
 
 /// So is a run of inserts that each add the next item of one array.
 pub fn inserts_add_items()
     ensures { items.ItemRunGoesOn }
-{}
-
-/// And so is a run of removes that each take a line.
-pub fn removes_take_lines()
-    ensures still { removed.StillRemovesLine }
-    ensures run { removed.CutRunGoesOn }
 {}

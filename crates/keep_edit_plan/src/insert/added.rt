@@ -1,26 +1,34 @@
 //! Lines that inserts add, by the document before them.
-ghost use Rattle.std.specs.Prelude.{IfSome, IsCharBoundary, IsUtf8};
+ghost use Rattle.std.specs.Prelude.{IfSome};
 ghost use Rattle.keep_types.specs.declared.leaf.Profile.TheVariants.{Wide};
 ghost use Rattle.keep_syntax.specs.Tree as tree;
 ghost use Rattle.keep_edit_spec.specs.AddedItems.{AddsNextItem};
 ghost use Rattle.keep_edit_spec.specs.AddedLines.{AddsLine};
+ghost use Rattle.keep_edit_plan.specs.Answers.{IsSpanOf};
+ghost use Rattle.keep_edit_plan.specs.TextEdits.{change_of};
 ghost use Rattle.keep_edit_plan.specs.Reading.{IsAcceptedValue, IsTextOfTree, IsTextOfValue, limit};
 
 use super::{Spot, after_bracket};
-use crate::added_lines::AddedLine;
 use crate::document::DocumentRef;
+use crate::text_edit::TextEdit;
 use keep_rules::{Path, ValueText};
+use keep_syntax::Span;
 use std::alloc::Global;
 
 impl<'a> DocumentRef<'a> {
     /// The line that an insert adds, if it adds one of one key, at the end of the body of the root, of a table or of an
     /// element, after a line that a newline ends; where no line is before it, the value has to be a scalar. None for
     /// any other insert, where it is refused, and where memory was refused.
-    pub fn added_line(&self, alloc: Global, path: &Path, value: &ValueText) -> Option<AddedLine>
+    pub(crate) fn added_line(
+        &self,
+        alloc: Global,
+        path: &Path,
+        value: &ValueText,
+    ) -> Option<TextEdit>
         ensures added { (s : tree.Document) → IsTextOfTree self.now s → (v : tree.Value)
-            → IsTextOfValue value.now v → IfSome result (AddsLine self.now.profile limit s path.now v) }
-        ensures within { IfSome result (λ line. IsCharBoundary self.now.text line.at) }
-        ensures utf8 { IfSome result (λ line. IsUtf8 line.line) }
+            → IsTextOfValue value.now v
+            → IfSome result (λ made. AddsLine self.now.profile limit s path.now v (change_of made)) }
+        ensures within { IfSome result (λ made. IsSpanOf self.now.text made.place) }
         ensures value { IsAcceptedValue Wide value.now }
     {
         // The invariants of a document and of a value are known to the proof from where they are looked at.
@@ -43,7 +51,10 @@ impl<'a> DocumentRef<'a> {
         let mut line = String::new(alloc);
         self.push_line(alloc, &mut line, at, path, insertion.from, value)
             .ok()?;
-        Some(AddedLine::new(at, line))
+        Some(TextEdit {
+            place: Span { start: at, end: at },
+            new: line,
+        })
     }
 
     /// What an insert of a value adds to the text, if the path is that of the next item of an array, after all others.
@@ -56,12 +67,11 @@ impl<'a> DocumentRef<'a> {
         path: &Path,
         before: usize,
         value: &ValueText,
-    ) -> Option<AddedLine>
+    ) -> Option<TextEdit>
         ensures added { (s : tree.Document) → IsTextOfTree self.now s → (v : tree.Value)
             → IsTextOfValue value.now v
-            → IfSome result (AddsNextItem self.now.profile limit s path.now before v) }
-        ensures within { IfSome result (λ added. IsCharBoundary self.now.text added.at) }
-        ensures utf8 { IfSome result (λ added. IsUtf8 added.line) }
+            → IfSome result (λ made. AddsNextItem self.now.profile limit s path.now before v (change_of made)) }
+        ensures within { IfSome result (λ made. IsSpanOf self.now.text made.place) }
         ensures value { IsAcceptedValue Wide value.now }
     {
         // The invariants of a document and of a value are known to the proof from where they are looked at.
@@ -84,6 +94,9 @@ impl<'a> DocumentRef<'a> {
             added.push_str(", ").ok()?;
         }
         added.push_str(given).ok()?;
-        Some(AddedLine::new(at, added))
+        Some(TextEdit {
+            place: Span { start: at, end: at },
+            new: added,
+        })
     }
 }

@@ -1,23 +1,25 @@
 //! Lines that removes take, by the document before them.
-ghost use Rattle.std.specs.Prelude.{◌<◌, IfSome};
+ghost use Rattle.std.specs.Prelude.{IfSome};
 ghost use Rattle.keep_syntax.specs.Tree as tree;
-ghost use Rattle.keep_edit_spec.specs.RemovedLines.{RemovesLine, removed_at};
+ghost use Rattle.keep_edit_spec.specs.RemovedLines.{RemovesLine};
 ghost use Rattle.keep_edit_plan.specs.Answers.{IsSpanOf};
 ghost use Rattle.keep_edit_plan.specs.Reading.{IsTextOfTree, limit};
+ghost use Rattle.keep_edit_plan.specs.TextEdits.{change_of};
 
 use super::{Piece, past_space};
 use crate::document::DocumentRef;
+use crate::text_edit::TextEdit;
 use keep_rules::Path;
-use keep_syntax::{Owner, Span};
+use keep_syntax::Owner;
+use std::alloc::Global;
 
 impl<'a> DocumentRef<'a> {
     /// The line that a remove takes, if it takes one that has a value of its own, a newline and no comment. None for
     /// any other remove, and where it is refused. It takes no memory.
-    pub fn taken_line(&self, path: &Path) -> Option<Span>
+    pub(crate) fn taken_line(&self, alloc: Global, path: &Path) -> Option<TextEdit>
         ensures taken { (s : tree.Document) → IsTextOfTree self.now s
-            → IfSome result (λ line. RemovesLine self.now.profile limit s path.now (removed_at line)) }
-        ensures within { IfSome result (IsSpanOf self.now.text) }
-        ensures some { IfSome result (λ line. line.start < line.end) }
+            → IfSome result (λ made. RemovesLine self.now.profile limit s path.now (change_of made)) }
+        ensures within { IfSome result (λ made. IsSpanOf self.now.text made.place) }
     {
         // The invariant of a document is known to the proof from where a field of it is looked at.
         let bytes = self.text.as_bytes();
@@ -36,6 +38,9 @@ impl<'a> DocumentRef<'a> {
         if line.end <= line.start || bytes[line.end - 1] != b'\n' {
             return None;
         }
-        Some(line)
+        Some(TextEdit {
+            place: line,
+            new: String::new(alloc),
+        })
     }
 }

@@ -78,7 +78,7 @@ none_entries n (entry name body nested after comma rest) =
     (entries_mentions (n + 1) rest)
     (none_named n name (body_fact body) (entries_mentions 0 nested) (none_entries 0 nested)) (none_entries (n + 1) rest)
 
-tables_none : (ms : List Mention) → AllOf NoElement ms → tables_in ms ≡ []
+pub tables_none : (ms : List Mention) → AllOf NoElement ms → tables_in ms ≡ []
 tables_none [] h = refl
 tables_none (m ∷ ms) h =
     ap (λ (b : Bool). cons_option (cond b (Some m.path) None) (tables_in ms)) h.0 ∙ tables_none ms h.1
@@ -92,7 +92,7 @@ none_passing : (tables : List (List Part)) (q : List Part) (b : Bool)
 none_passing tables q true = (refl, tt)
 none_passing tables q false = (refl, (refl, tt))
 
-none_prefixes : (tables : List (List Part)) (at : List Part) (ks : List (List ℕ))
+pub none_prefixes : (tables : List (List Part)) (at : List Part) (ks : List (List ℕ))
     → AllOf NoElement (header_prefixes tables at ks)
 none_prefixes tables at [] = tt
 none_prefixes tables at (k ∷ []) = tt

@@ -59,7 +59,7 @@ count_step : (t : List Part → Bool) (q : List Part) (l : List (List Part))
 count_step t q l = omega (arith, sum_by-append (λ x. cond (t x) 1 0) (q ∷ []) l)
 
 -- prefixes of which the same holds
-count_same : (t u : List Part → Bool) (path : List Part)
+pub count_same : (t u : List Part → Bool) (path : List Part)
     → ((q : List Part) (k : Part) (qs : List Part) → path ≡ q ++ k ∷ qs → t q ≡ u q)
     → count_by t (prefixes path) ≡ count_by u (prefixes path)
 count_same t u [] h = refl

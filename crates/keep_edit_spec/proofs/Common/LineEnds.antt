@@ -239,7 +239,7 @@ line_quiet profile l h =
     (comment_quiet l.comment h.comment)))
 
 -- A line with its newline does.
-newline_ends : (t : List ℕ) → IsLeaf Strict leaf.Newline t → (0 < length t) × (ends_in_newline t ≡ true)
+pub newline_ends : (t : List ℕ) → IsLeaf Strict leaf.Newline t → (0 < length t) × (ends_in_newline t ≡ true)
 newline_ends t (inl e) = (omega (arith, ap (λ (x : List ℕ). length x) e), ap ends_in_newline e)
 newline_ends t (inr e) = (omega (arith, ap (λ (x : List ℕ). length x) e), ap ends_in_newline e)
 

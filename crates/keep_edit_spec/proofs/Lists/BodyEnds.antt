@@ -22,7 +22,8 @@ use Rattle.keep_edit_spec.specs.Lines.{last_line, begins, is_header, body_length
 use Rattle.keep_edit_spec.specs.Lines.{more_lines, plain_line, new_line, newline_of}
 use Rattle.keep_edit_spec.specs.Look.{holder}
 use Rattle.keep_edit_spec.proofs.Common.BodyEnd.{last_found, drop_after, take_before, body_few}
-use Rattle.keep_edit_spec.specs.AddedLines.{AddedLine, AddsLine}
+use Rattle.keep_edit_spec.specs.AddedLines.{AddsLine}
+use Rattle.keep_edit_spec.specs.TextChanges.{TextChange}
 use Rattle.keep_edit_spec.proofs.Lists.Places.{edited_is, later_line}
 
 pub later_before : (n i : ℕ) → i < n → later_line n i ≡ i
@@ -318,8 +319,8 @@ module _ (name : Name) (v : Value) where
       ∙ ap₂ (λ (k : ℕ) (ls : List Line). option_map (later_line k) (end_among other ls)) (sym c.number) (sym c.was)
       ∙ ap (option_map (later_line n)) (sym (end_is_among s other) ∙ before)
 
-pub end_stays : (profile : Profile) (limit : ℕ) (s : Document) (path : List Part) (value : Value) (l : AddedLine)
-    (other : List Part) (more : Value) (m : AddedLine)
+pub end_stays : (profile : Profile) (limit : ℕ) (s : Document) (path : List Part) (value : Value) (l : TextChange)
+    (other : List Part) (more : Value) (m : TextChange)
     → (h : AddsLine profile limit s path value l) → (k : AddsLine profile limit s other more m)
     → end_of (edited_document s (insert path value)) (holder other (mentions_in s))
     ≡ Some (later_line h.number k.number)
@@ -330,8 +331,8 @@ end_stays profile limit s path value l other more m h k =
     ∙ lines_put h.number (new_line (newline_of s) (keyval (name_with (h.text ∷ [])) value)) s.ended s.last h.closed)
     k.ends
 
-pub closed_stays : (profile : Profile) (limit : ℕ) (s : Document) (path : List Part) (value : Value) (l : AddedLine)
-    (other : List Part) (more : Value) (m : AddedLine)
+pub closed_stays : (profile : Profile) (limit : ℕ) (s : Document) (path : List Part) (value : Value) (l : TextChange)
+    (other : List Part) (more : Value) (m : TextChange)
     → (h : AddsLine profile limit s path value l) → (k : AddsLine profile limit s other more m)
     → later_line h.number k.number ≤ length (edited_document s (insert path value)).ended
 closed_stays profile limit s path value l other more m h k =

@@ -37,7 +37,8 @@ use Rattle.keep_edit_spec.proofs.Insert.InsertAddsLine.{means, rest, unsaid}
 use Rattle.keep_edit_spec.proofs.Insert.InsertLine.{change_here}
 use Rattle.keep_edit_spec.proofs.Insert.NewPath.{new_path}
 use Rattle.keep_edit_spec.proofs.Remove.Shift.{disjoint_step}
-use Rattle.keep_edit_spec.specs.AddedLines.{AddedLine, AddsLine}
+use Rattle.keep_edit_spec.specs.AddedLines.{AddsLine}
+use Rattle.keep_edit_spec.specs.TextChanges.{TextChange}
 
 -- ---- tests that agree on a list
 
@@ -102,13 +103,13 @@ ends_in_key : (a path : List Part) (k : List ℕ) (ms : List Mention) → path �
     → item_number path ms ≡ None
 ends_in_key a path k ms one = rw (ap last_part one ∙ last_pushed a (key k), item_number) refl
 
-pub no_item : (profile : Profile) (limit : ℕ) (s : Document) (path : List Part) (value : Value) (l : AddedLine)
+pub no_item : (profile : Profile) (limit : ℕ) (s : Document) (path : List Part) (value : Value) (l : TextChange)
     (ms : List Mention) → AddsLine profile limit s path value l → item_number path ms ≡ None
 no_item profile limit s path value l ms h = ends_in_key (holder path (mentions_in s)) path h.text ms h.one
 
 -- ---- an insert that adds a line
 
-module _ (profile : Profile) (limit : ℕ) (s : Document) (path : List Part) (value : Value) (l : AddedLine)
+module _ (profile : Profile) (limit : ℕ) (s : Document) (path : List Part) (value : Value) (l : TextChange)
     (h : AddsLine profile limit s path value l) where
   abbrev ms : List Mention
   ms = mentions_in s
@@ -189,7 +190,7 @@ module _ (profile : Profile) (limit : ℕ) (s : Document) (path : List Part) (va
 
   -- ---- another path that can be inserted
 
-  module _ (other : List Part) (more : Value) (m : AddedLine) (g : AddsLine profile limit s other more m)
+  module _ (other : List Part) (more : Value) (m : TextChange) (g : AddsLine profile limit s other more m)
       (differs : path ≢ other) where
     holder_clear : strip path (holder other ms) ≡ None
     holder_clear =
@@ -258,16 +259,16 @@ module _ (profile : Profile) (limit : ℕ) (s : Document) (path : List Part) (va
         holder_same (node_stays other other_clear) table_same enclosing_same
         ∙ sym (refused_by ms) ∙ g.allowed
 
-pub holder_stays : (profile : Profile) (limit : ℕ) (s : Document) (path : List Part) (value : Value) (l : AddedLine)
-    (other : List Part) (more : Value) (m : AddedLine)
+pub holder_stays : (profile : Profile) (limit : ℕ) (s : Document) (path : List Part) (value : Value) (l : TextChange)
+    (other : List Part) (more : Value) (m : TextChange)
     → IsEditable profile limit s → AddsLine profile limit s path value l → AddsLine profile limit s other more m
     → path ≢ other
     → holder other (mentions_in (edited_document s (insert path value))) ≡ holder other (mentions_in s)
 holder_stays profile limit s path value l other more m editable h g differs =
     holder_same profile limit s path value l h other more m g differs
 
-pub refusal_stays : (profile : Profile) (limit : ℕ) (s : Document) (path : List Part) (value : Value) (l : AddedLine)
-    (other : List Part) (more : Value) (m : AddedLine)
+pub refusal_stays : (profile : Profile) (limit : ℕ) (s : Document) (path : List Part) (value : Value) (l : TextChange)
+    (other : List Part) (more : Value) (m : TextChange)
     → IsEditable profile limit s → AddsLine profile limit s path value l → AddsLine profile limit s other more m
     → path ≢ other
     → refusal profile limit (edited_document s (insert path value)) (insert other more) ≡ None

@@ -8,9 +8,9 @@
 --
 -- Theorems: `place_is`, `edited_is`, `newline_stays`, `place_stays`; `place_moves`: the same of any insert that leaves
 -- the newline; `scalar_quiet`: a scalar has no newline in it.
-use Rattle.std.proofs.Common.{◌≡◌, ℕ, zero, suc, ◌+◌, ◌<◌, ◌≤◌, Bool, true, false, cond, List, [], ◌∷◌, ◌++◌, length}
-use Rattle.std.proofs.Common.{take, drop, refl, sym, ap, subst, ◌∙◌, append_assoc, length-append, arith, Option, Some}
-use Rattle.std.proofs.Common.{None, inl, inr}
+use Rattle.std.proofs.Common.{◌≡◌, ℕ, zero, suc, ◌+◌, ◌-◌, ◌<◌, ◌≤◌, Bool, true, false, cond, List, [], ◌∷◌, ◌++◌}
+use Rattle.std.proofs.Common.{length, take, drop, refl, sym, ap, subst, ◌∙◌, append_assoc, length-append, arith}
+use Rattle.std.proofs.Common.{Option, Some, None, inl, inr}
 use Rattle.std.specs.Prelude.{codes, IsTrue, nat_lt, if◌then◌else◌, ◌⊎◌}
 use Rattle.std.specs.List.{AllByRecursion, flat_map}
 use Rattle.std.proofs.lemmas.Bool.{lt-ltb, le-ltb, ltb-true, ltb-false}
@@ -39,7 +39,8 @@ use Rattle.keep_edit_spec.proofs.Common.NewLines.{newline_is}
 use Rattle.keep_edit_spec.proofs.Common.Texts.{text_of-append}
 use Rattle.keep_edit_spec.proofs.Insert.InsertLine.{change_here}
 use Rattle.keep_edit_spec.proofs.Insert.NewPath.{drop_prefix_parts}
-use Rattle.keep_edit_spec.specs.AddedLines.{AddedLine, AddsLine, moved_by}
+use Rattle.keep_edit_spec.specs.AddedLines.{AddsLine}
+use Rattle.keep_edit_spec.specs.TextChanges.{TextChange, moved_by}
 
 -- where the line of that number is once there is one more before line n
 abbrev pub later_line : ℕ → ℕ → ℕ
@@ -187,7 +188,7 @@ width_stays (suc n) (suc i) (e ∷ es) h =
 -- ---- the newline
 
 -- what comes after a newline does not matter
-up_to_newline : (ws : List Written) (w : Written) (more others : List Written) → w.leaf ≡ leaf.Newline
+pub up_to_newline : (ws : List Written) (w : Written) (more others : List Written) → w.leaf ≡ leaf.Newline
     → first_newline (ws ++ w ∷ more) ≡ first_newline (ws ++ w ∷ others)
 up_to_newline [] w more others h =
     subst (λ (l : Leaf). elim l [ leaf.Newline ↦ Some w | _ ↦ first_newline more ]
@@ -239,13 +240,13 @@ scalar_quiet profile w (entry None body nested after comma rest) h = absurd h.ne
 scalar_quiet profile w (entry (Some n) body nested after comma rest) h = absurd h.nested.0
 
 -- the leaves of a document that has an ended line, up to that line's newline
-first_line : (bom : Bool) (e : Ended) (es : List Ended) (last : Line)
+pub first_line : (bom : Bool) (e : Ended) (es : List Ended) (last : Line)
     → leaves (record { bom = bom; ended = e ∷ es; last = last })
     ≡ (bom_leaves bom ++ line_leaves e.line) ++ e.newline ∷ (flat_map ended_leaves es
     ++ (line_leaves last ++ token leaf.End []))
 first_line bom e es last = simp append_assoc refl
 
-abbrev or_line_feed : Option Written → Written
+abbrev pub or_line_feed : Option Written → Written
 or_line_feed o = elim o [ Some w ↦ w | None ↦ record { leaf = leaf.Newline; text = codes "\n" } ]
 
 abbrev with_line_before : ℕ → Ended → Document → Document
@@ -277,7 +278,7 @@ module _ (profile : Profile) (bom : Bool) (last : Line) (x : Ended) where
 
 -- ---- after an insert that adds a line
 
-module _ (profile : Profile) (limit : ℕ) (s : Document) (path : List Part) (value : Value) (l : AddedLine)
+module _ (profile : Profile) (limit : ℕ) (s : Document) (path : List Part) (value : Value) (l : TextChange)
     (h : AddsLine profile limit s path value l) where
   abbrev added : Ended
   added = new_line (newline_of s) (keyval (name_with (h.text ∷ [])) value)
@@ -296,7 +297,7 @@ module _ (profile : Profile) (limit : ℕ) (s : Document) (path : List Part) (va
   at_is = ap (λ (p : Place). p.start) (sym h.is ∙ placed_at)
       ∙ length-append (text_of (bom_leaves s.bom)) (ended_text (take h.number s.ended))
 
-  line_is : l.line ≡ text_of (ended_leaves added)
+  line_is : l.new ≡ text_of (ended_leaves added)
   line_is = ap (λ (p : Place). p.new) (sym h.is ∙ placed_at)
 
   pub newline_stays : IsEditable profile limit s → (first_newline (value_leaves value) ≡ None) ⊎ (0 < h.number)
@@ -313,8 +314,8 @@ module _ (profile : Profile) (limit : ℕ) (s : Document) (path : List Part) (va
           ∙ none_before (name_leaves (name_with (h.text ∷ []))) (value_leaves value) (name_none h.text) ∙ clear)
       by (inr past) = inr past
 
-module _ (profile : Profile) (limit : ℕ) (s : Document) (path : List Part) (value : Value) (l : AddedLine)
-    (other : List Part) (more : Value) (m : AddedLine) (fine : IsEditable profile limit s)
+module _ (profile : Profile) (limit : ℕ) (s : Document) (path : List Part) (value : Value) (l : TextChange)
+    (other : List Part) (more : Value) (m : TextChange) (fine : IsEditable profile limit s)
     (h : AddsLine profile limit s path value l) (k : AddsLine profile limit s other more m) where
   abbrev now : Document
   now = edited_document s (insert path value)
@@ -342,7 +343,7 @@ module _ (profile : Profile) (limit : ℕ) (s : Document) (path : List Part) (va
       length-append bom (ended_text (before k.number))
       ∙ ap (λ (es : List Ended). length bom + width es) (earlier h.number k.number x s.ended less h.closed)
       ∙ sym (at_is profile limit s other more m k)
-      ∙ ap (λ (b : Bool). cond b m.at (m.at + length l.line)) (sym earlier_at)
+      ∙ ap (λ (b : Bool). cond b m.at ((m.at + length l.new) - l.size)) (sym earlier_at)
   moves_by false e =
       let past : h.number ≤ k.number = ltb-false k.number h.number e in
       let later_at : nat_lt m.at l.at ≡ false =
@@ -352,21 +353,22 @@ module _ (profile : Profile) (limit : ℕ) (s : Document) (path : List Part) (va
         at_is profile limit s other more m k,
         width_stays h.number k.number s.ended past,
       )) in
-      let long : length (bom ++ ended_text (before (suc k.number))) ≡ m.at + length l.line =
+      let long : length (bom ++ ended_text (before (suc k.number))) ≡ (m.at + length l.new) - l.size =
       omega (
         arith,
         length-append bom (ended_text (before (suc k.number))),
         later_width h.number k.number x s.ended past k.closed,
         at_is profile limit s other more m k,
         ap (λ (t : List ℕ). length t) (line_is profile limit s path value l h),
+        h.adds,
       ) in
-      long ∙ ap (λ (b : Bool). cond b m.at (m.at + length l.line)) (sym later_at)
+      long ∙ ap (λ (b : Bool). cond b m.at ((m.at + length l.new) - l.size)) (sym later_at)
 
   -- after any insert that leaves the newline
   pub place_moves : newline_of now ≡ newline_of s → holder other (mentions_in now) ≡ holder other (mentions_in s)
       → end_of now (holder other (mentions_in s)) ≡ Some (later_line h.number k.number)
       → later_line h.number k.number ≤ length now.ended
-      → place now (insert other more) ≡ put_in (moved_by l m.at) m.line
+      → place now (insert other more) ≡ put_in (moved_by l m.at) m.new
   place_moves same holds ends few =
       let j : ℕ = later_line h.number k.number in
       let line : Written → List ℕ =
@@ -377,11 +379,11 @@ module _ (profile : Profile) (limit : ℕ) (s : Document) (path : List Part) (va
       (line (newline_of now))) (edited_is profile limit s path value l h)
       ∙ ap (λ (w : Written). put_in (length (bom ++ ended_text (before j))) (line w)) same
       ∙ ap (put_in (length (bom ++ ended_text (before j)))) (sym (line_is profile limit s other more m k))
-      ∙ ap (λ (at : ℕ). put_in at m.line) (moves_by (nat_lt k.number h.number) refl)
+      ∙ ap (λ (at : ℕ). put_in at m.new) (moves_by (nat_lt k.number h.number) refl)
 
   pub place_stays : (first_newline (value_leaves value) ≡ None) ⊎ (0 < h.number)
       → holder other (mentions_in now) ≡ holder other (mentions_in s)
       → end_of now (holder other (mentions_in s)) ≡ Some (later_line h.number k.number)
       → later_line h.number k.number ≤ length now.ended
-      → place now (insert other more) ≡ put_in (moved_by l m.at) m.line
+      → place now (insert other more) ≡ put_in (moved_by l m.at) m.new
   place_stays quiet = place_moves (newline_stays profile limit s path value l h fine quiet)

@@ -1,16 +1,14 @@
--- Where a remove takes a line, and that two of them take lines apart.
+-- Where a remove takes a line, and whose line it is.
 --
 -- Such a remove drops line n (`drop_here`), so its place is from the length of the lines before line n to that of the
--- lines before the next (`place_is`). A line has at least one byte. Removes of two paths take two lines, since a line
--- is the own line of one path only (`one_path`): so one of the lines ends before the other begins.
+-- lines before the next (`place_is`). A line has at least one byte, and is the own line of one path only (`one_path`).
 --
--- Theorems: `lines_apart`, `line_has_bytes`; `edited_is`, `place_is`, `at_is`, `end_is`: the document and the place;
--- `own_of`, `is_other`: whose line it is.
+-- Theorems: `line_has_bytes`; `edited_is`, `place_is`, `at_is`, `end_is`: the document and the place; `own_of`,
+-- `is_other`: whose line it is.
 use Rattle.std.proofs.Common.{◌≡◌, ◌≢◌, ℕ, zero, suc, ◌+◌, ◌<◌, ◌≤◌, Bool, true, false, cond, List, [], ◌∷◌, ◌++◌}
 use Rattle.std.proofs.Common.{length, map, take, drop, refl, sym, ap, ap₂, subst, ◌∙◌, length-append, arith, Option}
-use Rattle.std.proofs.Common.{Some, None, inl, inr}
+use Rattle.std.proofs.Common.{Some, None}
 use Rattle.std.specs.List.{flat_map}
-use Rattle.std.proofs.lemmas.Bool.{cases_lt}
 use Rattle.std.proofs.lemmas.List.{append-nil, length-map}
 use Rattle.keep_types.specs.declared.leaf.Profile.{Profile}
 use Rattle.keep_types.specs.declared.leaf.Leaf.TheVariants as leaf
@@ -28,8 +26,9 @@ use Rattle.keep_edit_spec.specs.Lines.{in_lines, last_line}
 use Rattle.keep_edit_spec.specs.Values.{removal}
 use Rattle.keep_edit_spec.proofs.Common.Texts.{text_of-append}
 use Rattle.keep_edit_spec.proofs.Remove.RemoveLines.{IsOwnLine, own_line}
-use Rattle.keep_edit_spec.specs.RemovedLines.{LinesAreApart, RemovedLine, RemovesLine}
-use Rattle.keep_edit_spec.proofs.Lists.Places.{size, width, width_grows, width_more, width_stays}
+use Rattle.keep_edit_spec.specs.RemovedLines.{RemovesLine}
+use Rattle.keep_edit_spec.specs.TextChanges.{TextChange}
+use Rattle.keep_edit_spec.proofs.Lists.Places.{size, width, width_grows, width_more}
 
 -- ---- lines cut at one line
 
@@ -188,7 +187,7 @@ module _ (s : Document) (path : List Part) (n : ℕ)
       ∙ ap₂ (λ (b e : ℕ). placed b e dropped.new) at end
       ∙ ap (placed (length bom + width (take n s.ended)) (length bom + width (take (suc n) s.ended))) drops.new
 
-module _ (profile : Profile) (limit : ℕ) (s : Document) (path : List Part) (l : RemovedLine)
+module _ (profile : Profile) (limit : ℕ) (s : Document) (path : List Part) (l : TextChange)
     (h : RemovesLine profile limit s path l) where
   abbrev bom : List ℕ
   bom = text_of (bom_leaves s.bom)
@@ -220,7 +219,7 @@ module _ (profile : Profile) (limit : ℕ) (s : Document) (path : List Part) (l 
         ),
       )
 
-pub line_has_bytes : (profile : Profile) (limit : ℕ) (s : Document) (path : List Part) (l : RemovedLine)
+pub line_has_bytes : (profile : Profile) (limit : ℕ) (s : Document) (path : List Part) (l : TextChange)
     → IsEditable profile limit s → RemovesLine profile limit s path l
     → (0 < l.size) × (l.at + l.size ≤ length (text s))
 line_has_bytes profile limit s path l fine h = has_bytes profile limit s path l h fine
@@ -277,31 +276,3 @@ is_other path other r c mine differs = by (is_own other r c) refl
     by : (b : Bool) → is_own other r c ≡ b → b ≡ false
     by false e = refl
     by true e = absurd (differs (one_path path other r.body c mine (own_line other r c e)))
-
-numbers_differ : (s : Document) (path other : List Part) (n : ℕ) → last_line (mine path) start (lines s) ≡ Some n
-    → last_line (mine other) start (lines s) ≡ Some n → n < length s.ended → path ≢ other → ⊥
-numbers_differ s path other n own its closed differs =
-    let c : IsCutAt n s.ended = cut_at n s.ended closed in
-    differs (one_path path other (reading_after_lines start (map line_of c.first)).body c.here.line.content
-    (own_of s path n own c) (own_of s other n its c))
-
-pub lines_apart : LinesAreApart
-lines_apart profile limit s path l other m fine h k differs = elim (cases_lt h.number k.number) [
-  | inl less ↦ inl (omega (
-    arith,
-    end_is profile limit s path l h,
-    at_is profile limit s other m k,
-    width_stays (suc h.number) k.number s.ended (omega (arith, less)),
-  ))
-  | inr past ↦ elim (cases_lt k.number h.number) [
-    | inl less ↦ inr (omega (
-      arith,
-      end_is profile limit s other m k,
-      at_is profile limit s path l h,
-      width_stays (suc k.number) h.number s.ended (omega (arith, less)),
-    ))
-    | inr more ↦
-        let same : k.number ≡ h.number = omega (arith, past, more) in
-        absurd (numbers_differ s path other h.number h.own (k.own ∙ ap (λ (n : ℕ). Some n) same) h.closed differs)
-  ]
-]

@@ -56,6 +56,7 @@ still_adds profile limit s path value l other more m fine h k differs =
         | inl some ↦ inl (later_positive h.number k.number some)
         | inr flat ↦ inr flat
       ];
+      adds = k.adds;
       is = place_stays profile limit s path value l other more m fine h k (quiet h.newline) same end
           (closed_stays profile limit s path value l other more m h k);
     }

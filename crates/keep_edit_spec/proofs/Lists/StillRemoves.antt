@@ -27,7 +27,8 @@ use Rattle.keep_edit_spec.proofs.Common.Marks.{rules_of_document}
 use Rattle.keep_edit_spec.proofs.Common.SetDocument.{reading_of}
 use Rattle.keep_edit_spec.proofs.Remove.RemoveLines.{IsOwnLine}
 use Rattle.keep_edit_spec.proofs.Remove.RemoveWhole.{removable}
-use Rattle.keep_edit_spec.specs.RemovedLines.{RemovedLine, RemovesLine, StillRemovesLine, moved_back}
+use Rattle.keep_edit_spec.specs.RemovedLines.{RemovesLine, StillRemovesLine}
+use Rattle.keep_edit_spec.specs.TextChanges.{TextChange, moved, moved_by}
 use Rattle.keep_edit_spec.proofs.Lists.BodyEnds.{later_before, later_from}
 use Rattle.keep_edit_spec.proofs.Lists.Places.{later_line, size, width, width_grows, width_more, width_stays}
 use Rattle.keep_edit_spec.proofs.Lists.RemovedOwn.{last_without, none_without, own_allowed}
@@ -72,8 +73,8 @@ record IsNumberNow (s : Document) (path : List Part) (n was : ℕ) : Type 0 wher
   own : last_line (mine path) start (lines s) ≡ Some number
   later : was ≡ later_line n number
 
-module _ (profile : Profile) (limit : ℕ) (s : Document) (path : List Part) (l : RemovedLine)
-    (other : List Part) (m : RemovedLine) (fine : IsEditable profile limit s)
+module _ (profile : Profile) (limit : ℕ) (s : Document) (path : List Part) (l : TextChange)
+    (other : List Part) (m : TextChange) (fine : IsEditable profile limit s)
     (h : RemovesLine profile limit s path l) (k : RemovesLine profile limit s other m) (differs : path ≢ other) where
   abbrev c : IsCutAt h.number s.ended
   c = cut s path h.number h.bare h.own h.closed
@@ -181,10 +182,10 @@ module _ (profile : Profile) (limit : ℕ) (s : Document) (path : List Part) (l 
       )
 
   record IsMoved : Type 0 where
-    at : bom + width (take j now.ended) ≡ moved_back l m.at
-    end : bom + width (take (suc j) now.ended) ≡ moved_back l m.at + m.size
+    at : bom + width (take j now.ended) ≡ moved_by l m.at
+    end : bom + width (take (suc j) now.ended) ≡ moved_by l m.at + m.size
 
-  moved_to : (at : ℕ) → moved_back l m.at ≡ at → bom + width (take j now.ended) ≡ at
+  moved_to : (at : ℕ) → moved_by l m.at ≡ at → bom + width (take j now.ended) ≡ at
       → bom + width (take (suc j) now.ended) ≡ at + m.size → IsMoved
   moved_to at e f g = record { at = f ∙ sym e; end = g ∙ ap (λ (b : ℕ). b + m.size) (sym e) }
 
@@ -201,8 +202,8 @@ module _ (profile : Profile) (limit : ℕ) (s : Document) (path : List Part) (l 
     m_end ∙ ap (λ (i : ℕ). bom + width (take (suc i) s.ended)) e,
   )
 
-  moved : IsMoved
-  moved = elim (cases_lt j h.number) [
+  places : IsMoved
+  places = elim (cases_lt j h.number) [
     | inl less ↦
         let t = taken j (number_now.later ∙ later_before h.number j less) in
         let earlier : nat_lt m.at l.at ≡ true =
@@ -212,7 +213,7 @@ module _ (profile : Profile) (limit : ℕ) (s : Document) (path : List Part) (l 
           t.0,
           width_grows profile h.number j s.ended fine.valid.ended less (omega (arith, h.closed)),
         )) in
-        moved_to m.at (ap (λ (b : Bool). cond b m.at (m.at - l.size)) earlier)
+        moved_to m.at (ap (λ (b : Bool). cond b m.at ((m.at + length l.new) - l.size)) earlier)
         (omega (arith, t.0, same_to j (omega (arith, less))))
         (omega (arith, t.1, same_to (suc j) (omega (arith, less))))
     | inr past ↦
@@ -225,29 +226,32 @@ module _ (profile : Profile) (limit : ℕ) (s : Document) (path : List Part) (l 
           width_stays h.number (suc j) s.ended (omega (arith, past)),
         )) in
         let at : m.at ≡ bom + width (take j now.ended) + size c.here = omega (arith, t.0, less_from j past) in
-        moved_to (m.at - l.size) (ap (λ (b : Bool). cond b m.at (m.at - l.size)) later)
+        let back : (m.at + length l.new) - l.size ≡ m.at - l.size =
+        omega (arith, ap (λ (t : List ℕ). length t) h.takes) in
+        moved_to (m.at - l.size) (ap (λ (b : Bool). cond b m.at ((m.at + length l.new) - l.size)) later ∙ back)
         (omega (arith, at, size_is))
         (omega (arith, t.0, t.1, at, size_is, less_from j past, less_from (suc j) (omega (arith, past))))
   ]
 
   place_now : place now (remove other)
-      ≡ record { start = moved_back l m.at; end = moved_back l m.at + m.size; new = [] }
+      ≡ record { start = moved_by l m.at; end = moved_by l m.at + m.size; new = [] }
   place_now =
       place_is now other j bare_now number_now.own closed_now
-      ∙ ap₂ (λ (b e : ℕ). record { start = b; end = e; new = [] }) moved.at moved.end
+      ∙ ap₂ (λ (b e : ℕ). record { start = b; end = e; new = [] }) places.at places.end
 
-  removes_now : RemovesLine profile limit now other (record m { at = moved_back l m.at })
+  removes_now : RemovesLine profile limit now other (moved l m)
   removes_now = record {
     allowed = allowed_now;
     bare = bare_now;
     number = j;
     own = number_now.own;
     closed = closed_now;
+    takes = k.takes;
     is = place_now;
   }
 
 pub still_removes : StillRemovesLine
 still_removes profile limit s path l other m fine h k differs =
-    subst (λ (d : Document). RemovesLine profile limit d other (record m { at = moved_back l m.at }))
+    subst (λ (d : Document). RemovesLine profile limit d other (moved l m))
     (sym (edited_is s path h.number h.bare h.own h.closed))
     (removes_now profile limit s path l other m fine h k differs)

@@ -1,9 +1,5 @@
-use Rattle.std.proofs.Common.{◌≡◌, ◌++◌, length, arith, ap, subst, sym, ◌∙◌, inl, inr}
-use Rattle.std.specs.Prelude.{IsCharBoundary, IsUtf8, codes, string_bytes}
-use Rattle.std.proofs.lemmas.Str.{IsUtf8-string_bytes}
-use Rattle.keep_edit_spec.specs.AddedItems.{AddsNextItem}
-use Rattle.keep_edit_spec.specs.AddedLines.{AddedLine}
-use Rattle.keep_edit_plan.specs.Reading.{limit}
+use Rattle.std.proofs.Common.{◌≡◌, ◌++◌, length, arith, ap, ◌∙◌, inl, inr}
+use Rattle.std.specs.Prelude.{IsCharBoundary, codes, string_bytes}
 use Rattle.keep_edit_plan.proofs.AddedItemLaws.{IsStart, after_added, after_boundary, first_added, first_boundary}
 use Rattle.keep_edit_plan.proofs.AddedItemLaws.{pushed}
 use Rattle.keep_edit_plan.proofs.AddedLineLaws.{insertion_there}
@@ -81,8 +77,7 @@ returns-clause-added c = λ s read v value.
     let line : string_bytes c.push_str-2.new.self ≡ string_bytes c.if-before-gt0.added ++ c.args.value.now =
     pushed c.push_str-2.result _ _ _ _ c.in_ok-ok-2.ensures.value c.push_str-2.ensures.bytes
     ∙ ap (λ t. string_bytes c.if-before-gt0.added ++ t) c.as_str-given.ensures.text in
-    subst (AddsNextItem c.args.self.now.profile limit s c.args.path.now c.args.before v) (sym c.new.ensures)
-    (elim c.match-insertion.branch [
+    elim c.match-insertion.branch [
       | in-AfterEntry w ↦
           after_added _ _ _ c.args.path.now s v c.args.value.now c.in_ok-insertion.insertion h read value there
           c.insertion.ensures.utf8 whole c.match-insertion.is_first _ _ w.in-AfterEntry.is w.value.ensures.stored
@@ -91,7 +86,7 @@ returns-clause-added c = λ s read v value.
           first_added _ _ _ c.args.path.now s v c.args.value.now c.in_ok-insertion.insertion h read value there
           c.insertion.ensures.utf8 whole c.match-insertion.is_first _ _ _ w.in-InEmpty.is
           w.value-in-InEmpty.ensures.stored w.after_bracket.ensures w.is_first-is c.args.before _ _ start line
-    ])
+    ]
 
 pub returns-clause-within : goal.returns-clause-within
 returns-clause-within c =
@@ -102,8 +97,8 @@ returns-clause-within c =
     c.in_ok-insertion.ensures.value (c.insertion.ensures.insertion h.tree h.read v value) in
     let whole : c.in_ok-insertion.insertion.from ≡ length c.args.path.now =
     omega (arith, c.if-insertion-len.false, c.len.ensures.count) in
-    subst (λ (l : AddedLine). IsCharBoundary c.args.self.now.text l.at) (sym c.new.ensures)
-    (elim c.match-insertion.branch [
+    let at : IsCharBoundary c.args.self.now.text c.match-insertion.is_first.1 =
+    elim c.match-insertion.branch [
       | in-AfterEntry w ↦
           after_boundary _ _ _ c.args.path.now h.tree v c.args.value.now c.in_ok-insertion.insertion h h.read value
           there c.insertion.ensures.utf8 whole c.match-insertion.is_first _ _ w.in-AfterEntry.is
@@ -112,8 +107,5 @@ returns-clause-within c =
           first_boundary _ _ _ c.args.path.now h.tree v c.args.value.now c.in_ok-insertion.insertion h h.read value
           there c.insertion.ensures.utf8 whole c.match-insertion.is_first _ _ _ w.in-InEmpty.is
           w.value-in-InEmpty.ensures.stored w.after_bracket.ensures w.is_first-is
-    ])
-
-pub returns-clause-utf8 : goal.returns-clause-utf8
-returns-clause-utf8 c =
-    subst (λ (l : AddedLine). IsUtf8 l.line) (sym c.new.ensures) (IsUtf8-string_bytes c.push_str-2.new.self)
+    ] in
+    record { ordered = omega arith; within = at.0; starts = at; ends = at }

@@ -1,9 +1,6 @@
-use Rattle.std.proofs.Common.{◌≡◌, ◌-◌, ◌≤◌, length, arith, subst, sym, ◌∙◌, None}
-use Rattle.std.specs.Prelude.{IsCharBoundary, IsUtf8, string_bytes}
-use Rattle.std.proofs.lemmas.Str.{IsUtf8-string_bytes}
+use Rattle.std.proofs.Common.{◌≡◌, ◌-◌, ◌≤◌, length, arith, sym, ◌∙◌, None}
+use Rattle.std.specs.Prelude.{IsCharBoundary, string_bytes}
 use Rattle.keep_syntax.specs.Tree.{value_depth}
-use Rattle.keep_edit_spec.specs.AddedLines.{AddedLine, AddsLine}
-use Rattle.keep_edit_plan.specs.Reading.{limit}
 use Rattle.keep_edit_plan.proofs.AddedLineLaws.{at_boundary, done, headed, insertion_there, line_is_added}
 use Rattle.keep_edit_plan.proofs.AnswerLaws.{seen}
 use Rattle.keep_edit_plan.proofs.InsertedLaws.{body_there, body_within}
@@ -68,12 +65,11 @@ returns-clause-added c = λ s read v value.
           λ none. omega (arith, w.if-depth-gt0.false, w.depth.ensures v value)
       | else-is_none-via-else-is_none w ↦ λ none. absurd (headed _ _ c.is_none.ensures w.if-is_none.false none)
     ] in
-    subst (AddsLine c.args.self.now.profile limit s c.args.path.now v) (sym c.new.ensures)
-    (line_is_added _ _ _ c.args.path.now s v c.args.value.now c.in_ok-insertion.insertion h read value there
+    line_is_added _ _ _ c.args.path.now s v c.args.value.now c.in_ok-insertion.insertion h read value there
     c.insertion.ensures.utf8 c.in-AfterBody.header c.in-AfterBody.is c.body_end-at.result _
     (string_bytes c.push_line.new.out) (c.body_end-at.ensures s read) c.new-line.ensures.bytes
     (done _ c.push_line.result _ c.in_ok-ok.ensures.value (c.push_line.ensures s read v value))
-    (sym c.if-is_open.false ∙ c.is_open.ensures s read) few flat)
+    (sym c.if-is_open.false ∙ c.is_open.ensures s read) few flat
 
 pub returns-clause-within : goal.returns-clause-within
 returns-clause-within c =
@@ -82,11 +78,8 @@ returns-clause-within c =
     let there =
     insertion_there c.args.self.now.profile c.args.path.now v h.tree c.in_ok-insertion.insertion c.insertion.result
     c.in_ok-insertion.ensures.value (c.insertion.ensures.insertion h.tree h.read v value) in
-    subst (λ (l : AddedLine). IsCharBoundary c.args.self.now.text l.at) (sym c.new.ensures)
-    (at_boundary _ _ _ c.args.path.now h.tree v c.args.value.now c.in_ok-insertion.insertion h h.read value there
+    let at : IsCharBoundary c.args.self.now.text c.body_end-at.result =
+    at_boundary _ _ _ c.args.path.now h.tree v c.args.value.now c.in_ok-insertion.insertion h h.read value there
     c.insertion.ensures.utf8 c.in-AfterBody.header c.in-AfterBody.is c.body_end-at.result
-    (c.body_end-at.ensures h.tree h.read))
-
-pub returns-clause-utf8 : goal.returns-clause-utf8
-returns-clause-utf8 c =
-    subst (λ (l : AddedLine). IsUtf8 l.line) (sym c.new.ensures) (IsUtf8-string_bytes c.push_line.new.out)
+    (c.body_end-at.ensures h.tree h.read) in
+    record { ordered = omega arith; within = at.0; starts = at; ends = at }

@@ -1,4 +1,7 @@
 use Rattle.std.proofs.Common.{◌≡◌, ℕ, ◌-◌, ◌≤◌, List, length, get_or, arith, subst, sym, ap, ◌∙◌, inl, inr}
+use Rattle.keep_edit_spec.specs.RemovedLines.{RemovesLine}
+use Rattle.keep_edit_spec.specs.TextChanges.{change_at}
+use Rattle.keep_edit_plan.specs.Reading.{limit}
 use Rattle.keep_edit_plan.proofs.AnswerLaws.{seen, text_seen}
 use Rattle.keep_edit_plan.proofs.FoundLaws.{value_nested}
 use Rattle.keep_edit_plan.proofs.RemoveCut.{line_arm}
@@ -67,9 +70,13 @@ returns-clause-taken c = λ s read.
       | goal.else-end-bytes-via-then-end-bytes+else-bytes-end-eq35 w ↦ inr w.if-bytes-end-eq35.false
       | goal.else-end-bytes-via-else-end-bytes w ↦ inl w.if-end-bytes.false
     ]) in
-    line_is_taken _ _ _ c.args.path.now s h read found.0 _ found.1 c.value-value.result c.value-value.ensures.stored
+    let line = c.statement.result.line in
+    subst (λ (t : List ℕ).
+    RemovesLine c.args.self.now.profile limit s c.args.path.now (change_at line.start (line.end - line.start) t))
+    (sym c.new.ensures.bytes)
+    (line_is_taken _ _ _ c.args.path.now s h read found.0 _ found.1 c.value-value.result c.value-value.ensures.stored
     c.in-Line.statement c.in-Line.is c.statement.result c.statement.ensures plain c.if-line.false
-    (ap (λ (b : List ℕ). get_or b (c.statement.result.line.end - 1) 0) (sym same) ∙ c.if-bytes-line-ne10.false)
+    (ap (λ (b : List ℕ). get_or b (c.statement.result.line.end - 1) 0) (sym same) ∙ c.if-bytes-line-ne10.false))
 
 pub returns-clause-within : goal.returns-clause-within
 returns-clause-within c =

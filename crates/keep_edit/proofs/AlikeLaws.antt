@@ -1,0 +1,222 @@
+-- Paths that are compared step by step, as those of edits that are made at once, and lists of keys in the same way.
+--
+-- Where each step up to a number is the same, the paths begin alike. A path is at another or below it exactly if it
+-- begins with all of its steps, so it has no fewer. Two paths with new keys in place of their last steps are the same
+-- exactly if the keys are, and the steps before these. Two lists of as many keys are the same or apart. Of others, the
+-- shorter is the first of the longer exactly if they agree as far as both go, so they are apart exactly if they do not.
+--
+-- Theorems: `same_takes`, `same_steps`: what is compared; `agree_before`: one step more; `begins_with`, `within`: of a
+-- path at another or below it; `renamed_parts`, `renamed_alike`: of paths with new keys; `read_key`: a key that is
+-- compared; `same_or_apart`: of as many keys; `apart_unless_agree`: of others.
+use Rattle.std.proofs.Common.{◌≡◌, ◌≢◌, ◌≤◌, ◌<◌, ◌-◌, ◌∷◌, ◌++◌, [], ℕ, zero, suc, List, length, take, drop, slice_get}
+use Rattle.std.proofs.Common.{◌↔◌, Bool, true, false, Option, Some, None, refl, sym, ap, ap₂, ◌∙◌, arith, inl, inr}
+use Rattle.std.proofs.Common.{Global, String, get_or, map, min, option_map, string_bytes}
+use Rattle.std.specs.Bool.{Decides}
+use Rattle.std.proofs.lemmas.Bool.{cases_lt}
+use Rattle.std.proofs.lemmas.List.{length-map, length-take-le, take-append-drop, take-map, take_all}
+use Rattle.std.proofs.lemmas.Option.{slice_get-map, slice_get_read}
+use Rattle.keep_path.specs.Path.{Part, beside, key, last_part, same_part, same_path, strip, without_last}
+use Rattle.keep_path.proofs.Shared.{last_pushed, path_decides, strip_append}
+use Rattle.keep_edit_spec.specs.AppendedHeaders.{AreSameOrApart}
+use Rattle.keep_edit_spec.proofs.Shared.{without_last-snoc}
+use Rattle.keep_edit_plan.specs.Headers.{key_texts}
+
+-- the steps of two paths, or the keys of two lists, from one number on and up to another are the same
+abbrev pub AgreeFrom : {A : Type 0} → List A → List A → ℕ → ℕ → Type 0
+AgreeFrom path other first end = (k : ℕ) → first ≤ k → k < end → slice_get path k ≡ slice_get other k
+
+pub same_takes : {A : Type 0} (n : ℕ) (path other : List A) → AgreeFrom path other 0 n → take n path ≡ take n other
+same_takes zero path other h = refl
+same_takes (suc n) [] [] h = refl
+same_takes (suc n) [] (q ∷ other) h = let e : None ≡ Some q = h 0 (omega arith) (omega arith) in absurd cc
+same_takes (suc n) (p ∷ path) [] h = let e : Some p ≡ None = h 0 (omega arith) (omega arith) in absurd cc
+same_takes {A = A} (suc n) (p ∷ path) (q ∷ other) h =
+    let e : Some p ≡ Some q = h 0 (omega arith) (omega arith) in
+    let first : p ≡ q = cc in
+    ap₂ (λ (r : A) (l : List A). r ∷ l) first
+    (same_takes n path other (λ k low lt. h (suc k) (omega arith) (omega (arith, lt))))
+
+step_in_take : {A : Type 0} (n : ℕ) (path : List A) (k : ℕ) → k < n → slice_get (take n path) k ≡ slice_get path k
+step_in_take zero path k lt = absurd (omega (arith, lt))
+step_in_take (suc n) [] k lt = refl
+step_in_take (suc n) (p ∷ path) zero lt = refl
+step_in_take (suc n) (p ∷ path) (suc k) lt = step_in_take n path k (omega (arith, lt))
+
+pub same_steps : {A : Type 0} (n : ℕ) (path other : List A) → take n path ≡ take n other → AgreeFrom path other 0 n
+same_steps {A = A} n path other same k low lt =
+    sym (step_in_take n path k lt) ∙ ap (λ (l : List A). slice_get l k) same ∙ step_in_take n other k lt
+
+-- one step more, going backwards
+pub agree_before : {A : Type 0} (path other : List A) (n end : ℕ) → AgreeFrom path other n end
+    → slice_get path (n - 1) ≡ slice_get other (n - 1) → AgreeFrom path other (n - 1) end
+agree_before path other n end after here k low lt = elim (cases_lt k n) [
+  | inl before ↦
+      let is : k ≡ n - 1 = omega arith in
+      ap (slice_get path) is ∙ here ∙ ap (slice_get other) (sym is)
+  | inr past ↦ after k past lt
+]
+
+-- ---- a path at another or below it
+
+same_step : (p q : Part) → same_part p q ≡ true → p ≡ q
+same_step p q e = let whole : p ∷ [] ≡ q ∷ [] = (path_decides (p ∷ []) (q ∷ [])).0 (rw e refl) in cc
+
+-- it begins with the steps of that
+pub begins_with : (above path : List Part) → strip above path ≢ None
+    → (length above ≤ length path) × (take (length above) path ≡ above)
+begins_with [] path h = (omega arith, refl)
+begins_with (a ∷ above) [] h = absurd (h refl)
+begins_with (a ∷ above) (p ∷ path) h = by (same_part a p) refl (begins_with above path) h
+  where
+    by : (b : Bool) → same_part a p ≡ b
+        → (strip above path ≢ None → (length above ≤ length path) × (take (length above) path ≡ above))
+        → (◌≡◌ {A = Option (List Part)} (elim b [ true ↦ strip above path | false ↦ None ]) None → ⊥)
+        → (length (a ∷ above) ≤ length (p ∷ path)) × (take (length (a ∷ above)) (p ∷ path) ≡ a ∷ above)
+    by true e rest h =
+        let (many, steps) = rest h in
+        (omega (arith, many), ap₂ (λ (q : Part) (l : List Part). q ∷ l) (sym (same_step a p e)) steps)
+    by false e rest h = absurd (h refl)
+
+-- and what begins with them is at it or below it
+pub within : (n : ℕ) (above path : List Part) → n ≡ length above
+    → (take n path ≡ take n above) ↔ (strip above path ≢ None)
+within n above path all =
+    let every : take n above ≡ above = take_all n above (omega (arith, all)) in (
+      λ same none.
+          let whole : path ≡ above ++ drop n path =
+          sym (take-append-drop n path) ∙ ap (λ (l : List Part). l ++ drop n path) (same ∙ every) in
+          let some : Some (drop n path) ≡ None =
+          sym (strip_append above (drop n path)) ∙ ap (strip above) (sym whole) ∙ none in
+          absurd cc,
+      λ h. ap (λ (k : ℕ). take k path) all ∙ (begins_with above path h).1 ∙ sym every,
+    )
+
+-- ---- paths with new keys in place of their last steps
+
+before_last : (path : List Part) → without_last path ≡ take (length path - 1) path
+before_last [] = refl
+before_last (p ∷ []) = refl
+before_last (p ∷ q ∷ path) =
+    ap (λ (l : List Part). p ∷ l) (before_last (q ∷ path))
+    ∙ ap (λ (n : ℕ). take n (p ∷ q ∷ path))
+    (let e : suc (length (q ∷ path) - 1) ≡ length (p ∷ q ∷ path) - 1 = omega arith in e)
+
+length_before : (path : List Part) → length (without_last path) ≡ length path - 1
+length_before path =
+    ap (λ (l : List Part). length l) (before_last path) ∙ length-take-le (length path - 1) path (omega arith)
+
+-- where they are the same, so are the keys, and what comes before them
+pub renamed_parts : (n : ℕ) (path other : List Part) (name more : List ℕ) → n ≡ length path - 1
+    → beside path name ≡ beside other more
+    → (name ≡ more) × (n ≡ length other - 1) × (take n path ≡ take n other)
+renamed_parts n path other name more long e =
+    let keys : Some (key name) ≡ Some (key more) =
+    sym (last_pushed (without_last path) (key name)) ∙ ap last_part e ∙ last_pushed (without_last other) (key more) in
+    let before : without_last path ≡ without_last other =
+    sym (without_last-snoc (without_last path) (key name)) ∙ ap without_last e
+    ∙ without_last-snoc (without_last other) (key more) in
+    let wide : n ≡ length other - 1 =
+    long ∙ sym (length_before path) ∙ ap (λ (l : List Part). length l) before ∙ length_before other in (
+      cc,
+      wide,
+      ap (λ (k : ℕ). take k path) long ∙ sym (before_last path) ∙ before ∙ before_last other
+          ∙ ap (λ (k : ℕ). take k other) (sym wide),
+    )
+
+pub renamed_alike : (n : ℕ) (path other : List Part) (name more : List ℕ) → n ≡ length path - 1
+    → n ≡ length other - 1 → name ≡ more
+    → (take n path ≡ take n other) ↔ (beside path name ≡ beside other more)
+renamed_alike n path other name more long wide keys = (
+  λ same.
+      let before : without_last path ≡ without_last other =
+      before_last path ∙ ap (λ (k : ℕ). take k path) (sym long) ∙ same ∙ ap (λ (k : ℕ). take k other) wide
+      ∙ sym (before_last other) in
+      ap₂ (λ (l : List Part) (text : List ℕ). l ++ key text ∷ []) before keys,
+  λ e. (renamed_parts n path other name more long e).2,
+)
+
+-- ---- lists of keys
+
+-- the key of this number, as it is compared
+pub read_key : (keys : List (String Global)) (n : ℕ) (own : String Global) → n < length keys
+    → own ≡ get_or keys n own → slice_get (key_texts keys) n ≡ Some (string_bytes own)
+read_key keys n own lt is =
+    slice_get-map string_bytes keys n
+    ∙ ap (λ (o : Option (String Global)). option_map string_bytes o)
+    (slice_get_read keys (length keys) n own refl lt is)
+
+same_keys : (keys more : List (List ℕ)) → map key keys ≡ map key more → keys ≡ more
+same_keys [] [] e = refl
+same_keys [] (b ∷ more) e = absurd cc
+same_keys (a ∷ keys) [] e = absurd cc
+same_keys (a ∷ keys) (b ∷ more) e =
+    let first : a ≡ b = cc in
+    let rest : map key keys ≡ map key more = cc in
+    ap₂ (λ (k : List ℕ) (l : List (List ℕ)). k ∷ l) first (same_keys keys more rest)
+
+none_unless : (o : Option (List Part)) → (o ≢ None → ⊥) → o ≡ None
+none_unless None h = refl
+none_unless (Some path) h = absurd (h (λ e. cc))
+
+-- Keys begin with others exactly if these agree with the first of them.
+first_keys : (n : ℕ) (keys more : List (List ℕ)) → n ≡ length keys
+    → (take n keys ≡ take n more) ↔ (strip (map key keys) (map key more) ≢ None)
+first_keys n keys more all =
+    let (there, back) =
+    within n (map key keys) (map key more) (all ∙ sym (length-map keys key)) in (
+      λ same. there (take-map key n more ∙ ap (map key) (sym same) ∙ sym (take-map key n keys)),
+      λ h. same_keys (take n keys) (take n more) (sym (take-map key n keys) ∙ sym (back h) ∙ take-map key n more),
+    )
+
+no_fewer : (keys more : List (List ℕ)) → strip (map key keys) (map key more) ≢ None → length keys ≤ length more
+no_fewer keys more h =
+    omega (arith, (begins_with (map key keys) (map key more) h).0, length-map keys key, length-map more key)
+
+all_alike : (keys more : List (List ℕ)) → length keys ≡ length more
+    → strip (map key keys) (map key more) ≢ None → keys ≡ more
+all_alike keys more long h =
+    sym (take_all (length keys) keys (omega arith)) ∙ (first_keys (length keys) keys more refl).1 h
+    ∙ take_all (length keys) more (omega (arith, long))
+
+pub same_or_apart : (keys more : List (List ℕ)) → length keys ≡ length more → AreSameOrApart keys more
+same_or_apart keys more long = by (same_path (map key keys) (map key more)) (path_decides (map key keys) (map key more))
+  where
+    by : (b : Bool) → Decides b (map key keys ≡ map key more) → AreSameOrApart keys more
+    by true d = inl (same_keys keys more (d.0 refl))
+    by false d =
+        let differ : keys ≢ more = λ e. let yes : false ≡ true = d.1 (ap (map key) e) in absurd cc in
+        inr (
+          none_unless (strip (map key keys) (map key more)) (λ h. differ (all_alike keys more long h)),
+          none_unless (strip (map key more) (map key keys)) (λ h. differ (sym (all_alike more keys (sym long) h))),
+        )
+
+-- fewer keys, and more of them
+fewer_apart : (n : ℕ) (keys more : List (List ℕ)) → n ≡ length keys → length keys < length more
+    → (take n keys ≢ take n more) ↔ AreSameOrApart keys more
+fewer_apart n keys more all fewer =
+    let (begins, agree) = first_keys n keys more all in (
+      λ differ. inr (
+        none_unless (strip (map key keys) (map key more)) (λ h. differ (agree h)),
+        none_unless (strip (map key more) (map key keys)) (λ h. absurd (omega (arith, no_fewer more keys h, fewer))),
+      ),
+      λ h same. elim h [
+        | inl e ↦ absurd (omega (arith, ap (λ (l : List (List ℕ)). length l) e, fewer))
+        | inr apart ↦ begins same apart.0
+      ],
+    )
+
+turned : (keys more : List (List ℕ)) → AreSameOrApart keys more → AreSameOrApart more keys
+turned keys more (inl e) = inl (sym e)
+turned keys more (inr apart) = inr (apart.1, apart.0)
+
+pub apart_unless_agree : (n : ℕ) (keys more : List (List ℕ)) → n ≡ min (length keys) (length more)
+    → length keys ≢ length more → (take n keys ≢ take n more) ↔ AreSameOrApart keys more
+apart_unless_agree n keys more least differ = elim (cases_lt (length keys) (length more)) [
+  | inl fewer ↦ fewer_apart n keys more (omega (arith, least, fewer)) fewer
+  | inr many ↦
+      let (there, back) =
+      fewer_apart n more keys (omega (arith, least, many)) (omega (arith, differ, many)) in (
+        λ h. turned more keys (there (λ same. h (sym same))),
+        λ h same. back (turned keys more h) (sym same),
+      )
+]

@@ -1,0 +1,45 @@
+use Rattle.std.proofs.Common.{◌≡◌, ◌+◌, ◌<◌, ℕ, suc, length, sym, subst, ◌∙◌, arith}
+use Rattle.keep_edit_plan.specs.TextEdits.{MakesChangeHere}
+use Rattle.keep_edit.specs.Runs.{MakeChanges}
+use Rattle.keep_edit.proofs.RunSteps.{AreMadeTo, added, all_made, more_changes, no_changes, unadded}
+use Rattle.keep_edit.proofs.document.Document.changes_by.Goals as goal
+
+pub loop-number-init : goal.loop-number-init
+loop-number-init c =
+    subst (AreMadeTo c.args.edits.now c.args.first c.args.first c.args.self.now) (sym c.new-changes.ensures)
+    (no_changes c.args.edits.now c.args.first c.args.self.now)
+
+pub returns-clause-made : goal.returns-clause-made
+returns-clause-made c = all_made c.args.edits.now c.args.first _ c.args.self.now _ c.loop-number.invariant
+
+pub returns-then-has_long_path-clause-made : goal.returns-then-has_long_path-clause-made
+returns-then-has_long_path-clause-made c =
+    all_made c.args.edits.now c.args.first _ c.args.self.now _ c.loop-number.invariant
+
+pub returns-in_default-clause-made : goal.returns-in_default-clause-made
+returns-in_default-clause-made c = all_made c.args.edits.now c.args.first _ c.args.self.now _ c.loop-number.invariant
+
+pub returns-then-not-unwrap_or-clause-made : goal.returns-then-not-unwrap_or-clause-made
+returns-then-not-unwrap_or-clause-made c =
+    let first = c.args.first in
+    unadded (λ cs. MakeChanges c.args.edits.now first (first + length cs) c.args.self.now cs) c.add.result
+    c.loop-number.changes _ c.add.new.self c.add.ensures.added c.add.ensures.refused
+    (sym c.unwrap_or.ensures ∙ c.if-not-unwrap_or.true)
+    (all_made c.args.edits.now first _ c.args.self.now _ c.loop-number.invariant)
+
+pub loop-number-preserved : goal.loop-number-preserved
+loop-number-preserved c =
+    let edits = c.args.edits.now in
+    let first = c.args.first in
+    let now = c.args.self.now in
+    let number = c.loop-number.number in
+    let low : number < length edits = omega (arith, c.loop-number-test.true, c.min-end.ensures) in
+    let one : suc number ≡ number + 1 = omega arith in
+    let is = added c.add.result c.loop-number.changes _ c.add.new.self _ c.add.ensures.beside c.add.ensures.added
+    (sym c.unwrap_or.ensures ∙ c.if-not-unwrap_or.false) in
+    subst (λ (n : ℕ). AreMadeTo edits first n now c.add.new.self) one
+    (subst (AreMadeTo edits first (suc number) now) (sym is.1)
+    (more_changes edits first number now c.loop-number.changes c.index-edits-number.result c.index-edits-number.result
+    c.in-Some.change c.loop-number.invariant low (sym c.index-edits-number.is)
+    (subst (λ now. MakesChangeHere now c.index-edits-number.result c.in-Some.change) c.as_ref.ensures c.in-Some.ensures)
+    (c.are_all_of_one_kind.ensures.0 c.if-not-are_all_of_one_kind.false) is.0))

@@ -1,0 +1,5 @@
+use Rattle.keep_edit.proofs.RunSteps.{AreMadeTo}
+use Rattle.keep_edit.proofs.document.Document.changes_by.Given as goal
+
+abbrev pub invariant-loop-number : goal.invariant-loop-number
+invariant-loop-number l = AreMadeTo l.edits l.first l.number l.fn.self l.changes

@@ -1,0 +1,220 @@
+-- Edits of one text, in the order of their places, as the code keeps them and writes the text with them: a new one
+-- comes in where a search by its start ends, and the text is written edit by edit.
+--
+-- None overlaps another, so those before that place have ended where the one right before it has, and those from it on
+-- begin no earlier than the first of them. So the new one overlaps none exactly if those two leave it room.
+--
+-- Theorems: `follow_order`: the list is in order for the search; `place_found`: where that ends; `left_of_beside`,
+-- `right_of_beside`, `room_beside`: the two leave room exactly if none overlaps; `all_insert`, `insert_change`: the
+-- list with one edit more; `none_written`, `next_change`, `one_written`: what is written before the first edit and with
+-- one more.
+use Rattle.std.proofs.Common.{◌≡◌, ℕ, zero, suc, ◌+◌, ◌-◌, ◌<◌, ◌≤◌, true, false, List, [], ◌∷◌, ◌++◌, length}
+use Rattle.std.proofs.Common.{get_or, take, drop, insert, map, slice_range, string_bytes, All, leb}
+use Rattle.std.proofs.Common.{IsUtf8, IsCharBoundary, refl, sym, ap, ◌∙◌, subst, append_assoc, drop-cons, add-one}
+use Rattle.std.proofs.Common.{arith, leb-true, leb-false, lt-ltb, le-ltb, ◌⊎◌, inl, inr}
+use Rattle.std.proofs.lemmas.List.{drop-take, get_or-map, length-map}
+use Rattle.std.proofs.lemmas.List.Elements.{All-append, All-cons, All-drop, All-map, All-take}
+use Rattle.std.proofs.lemmas.Bool.{cases_lt}
+use Rattle.std.proofs.lemmas.List.Sorted.{IsNonDecreasingBy-from_all_adjacent}
+use Rattle.std.proofs.lemmas.Str.{IsCharBoundary-start}
+use Rattle.std.specs.List.Sorted.{IsNonDecreasingBy, IsPartitionPoint}
+use Rattle.keep_edit_spec.specs.TextChanges.{Follow, IsBeside, TextChange, text_with, with_change}
+use Rattle.keep_edit_plan.specs.declared.text_edit.TextEdit.{TextEdit}
+use Rattle.keep_edit_plan.specs.TextEdits.{IsChangeIn, IsOrdered, change_of}
+
+-- ---- the order
+
+-- where an edit begins
+abbrev pub start_of : TextEdit → ℕ
+start_of t = t.place.start
+
+-- None begins before the byte `from`.
+follow_low : (from : ℕ) (ts : List TextEdit) (k : ℕ) (d : TextEdit) → Follow from (map change_of ts) → k < length ts
+    → from ≤ start_of (get_or ts k d)
+follow_low from [] k d h w = absurd (omega (arith, w))
+follow_low from (t ∷ ts) zero d h w = h.0
+follow_low from (t ∷ ts) (suc k) d h w =
+    omega (arith, h.0, follow_low (t.place.start + (t.place.end - t.place.start)) ts k d h.1 (omega (arith, w)))
+
+-- Each begins where an earlier one ends or later.
+follow_apart : (from : ℕ) (ts : List TextEdit) (i j : ℕ) (d : TextEdit) → Follow from (map change_of ts) → i < j
+    → j < length ts
+    → start_of (get_or ts i d) + ((get_or ts i d).place.end - start_of (get_or ts i d)) ≤ start_of (get_or ts j d)
+follow_apart from [] i j d h l w = absurd (omega (arith, w))
+follow_apart from (t ∷ ts) i zero d h l w = absurd (omega (arith, l))
+follow_apart from (t ∷ ts) zero (suc j) d h l w =
+    follow_low (t.place.start + (t.place.end - t.place.start)) ts j d h.1 (omega (arith, w))
+follow_apart from (t ∷ ts) (suc i) (suc j) d h l w =
+    follow_apart (t.place.start + (t.place.end - t.place.start)) ts i j d h.1 (omega (arith, l)) (omega (arith, w))
+
+pub follow_order : (from : ℕ) (ts : List TextEdit) → Follow from (map change_of ts) → IsNonDecreasingBy start_of ts
+follow_order from ts h =
+    IsNonDecreasingBy-from_all_adjacent start_of ts
+    (λ k d w. omega (arith, follow_apart from ts k (k + 1) d h (omega arith) w))
+
+-- ---- the place of one edit more
+
+-- Those before it begin where the edit `m` does or before it, and the others after it.
+pub record IsPlaceOf (m : TextEdit) (ts : List TextEdit) (place : ℕ) : Type 0 where
+  pub within : place ≤ length ts
+  pub before : (k : ℕ) (d : TextEdit) → k < place → start_of (get_or ts k d) ≤ m.place.start
+  pub after : (k : ℕ) (d : TextEdit) → place ≤ k → k < length ts → m.place.start < start_of (get_or ts k d)
+
+pub place_found : (m : TextEdit) (ts : List TextEdit) (place : ℕ) → place ≤ length ts
+    → IsPartitionPoint (λ (t : TextEdit). leb (start_of t) m.place.start ≡ true)
+    (λ (t : TextEdit). leb (start_of t) m.place.start ≡ false) ts place
+    → IsPlaceOf m ts place
+place_found m ts place w h = record {
+  within = w;
+  before = λ k d l. leb-true (start_of (get_or ts k d)) m.place.start (h.0 k d (omega arith) l);
+  after = λ k d l r. leb-false (start_of (get_or ts k d)) m.place.start (h.1 k d l r);
+}
+
+-- ---- what overlaps
+
+-- the one right before the place ends where the edit `m` begins or before it
+abbrev pub HasLeft : TextEdit → List TextEdit → ℕ → Type 0
+HasLeft m ts place = (d : TextEdit) → 0 < place → (get_or ts (place - 1) d).place.end ≤ m.place.start
+
+-- the one at the place begins where the edit `m` ends or after it
+abbrev pub HasRight : TextEdit → List TextEdit → ℕ → Type 0
+HasRight m ts place = (d : TextEdit) → place < length ts → m.place.end ≤ start_of (get_or ts place d)
+
+-- what holds of each change holds of that of an edit
+change_at_edit : (P : TextChange → Type 0) (ts : List TextEdit) (k : ℕ) (d : TextEdit) → k < length ts
+    → All P (map change_of ts) → P (change_of (get_or ts k d))
+change_at_edit P ts k d w h =
+    subst P (get_or-map change_of ts k d (change_of d) w)
+    (h k (change_of d) (omega (arith, w, length-map ts change_of)))
+
+module _ (m : TextEdit) (ts : List TextEdit) (place : ℕ) (p : IsPlaceOf m ts place) where
+  pub left_of_beside : All (λ c. IsBeside c (change_of m)) (map change_of ts) → HasLeft m ts place
+  left_of_beside h d some =
+      by (change_at_edit (λ c. IsBeside c (change_of m)) ts (place - 1) d (omega (arith, p.within)) h)
+    where
+      by : IsBeside (change_of (get_or ts (place - 1) d)) (change_of m)
+          → (get_or ts (place - 1) d).place.end ≤ m.place.start
+      by (inl ends) = omega (arith, ends)
+      by (inr later) = absurd (omega (arith, later.0, p.before (place - 1) d (omega arith)))
+
+  pub right_of_beside : All (λ c. IsBeside c (change_of m)) (map change_of ts) → HasRight m ts place
+  right_of_beside h d some = by (change_at_edit (λ c. IsBeside c (change_of m)) ts place d some h)
+    where
+      by : IsBeside (change_of (get_or ts place d)) (change_of m) → m.place.end ≤ start_of (get_or ts place d)
+      by (inl ends) = absurd (omega (arith, ends, p.after place d (omega arith) some))
+      by (inr later) = omega (arith, later.1)
+
+  module _ (h : Follow 0 (map change_of ts)) (left : HasLeft m ts place) (right : HasRight m ts place)
+      (k : ℕ) (d : TextEdit) (w : k < length ts) where
+    ended : k < place
+        → start_of (get_or ts k d) + ((get_or ts k d).place.end - start_of (get_or ts k d)) ≤ m.place.start
+    ended l = by (cases_lt (k + 1) place)
+      where
+        by : (k + 1 < place) ⊎ (place ≤ k + 1)
+            → start_of (get_or ts k d) + ((get_or ts k d).place.end - start_of (get_or ts k d)) ≤ m.place.start
+        by (inl more) =
+            omega (
+              arith,
+              follow_apart 0 ts k (k + 1) d h (omega arith) (omega (arith, p.within)),
+              p.before (k + 1) d more,
+            )
+        by (inr last) =
+            let at : k ≡ place - 1 = omega arith in
+            omega (arith, ap (λ n. (get_or ts n d).place.end) at, left d (omega arith), p.before k d l)
+
+    begins : place ≤ k → m.place.start + (m.place.end - m.place.start) ≤ start_of (get_or ts k d)
+    begins r =
+        omega (arith, right d (omega arith), follow_order 0 ts h place k d r w, p.after k d r w)
+
+    each_beside : IsBeside (change_of (get_or ts k d)) (change_of m)
+    each_beside = by (cases_lt k place)
+      where
+        by : (k < place) ⊎ (place ≤ k) → IsBeside (change_of (get_or ts k d)) (change_of m)
+        by (inl l) = inl (ended l)
+        by (inr r) = inr (p.after k d r w, begins r)
+
+  pub room_beside : Follow 0 (map change_of ts) → HasLeft m ts place → HasRight m ts place
+      → All (λ c. IsBeside c (change_of m)) (map change_of ts)
+  room_beside h left right =
+      All-map (λ c. IsBeside c (change_of m)) change_of ts (λ k d w. each_beside h left right k d w)
+
+-- ---- the list with one edit more
+
+pub all_insert : (P : TextEdit → Type 0) (ts : List TextEdit) (t : TextEdit) (i : ℕ) → P t → All P ts
+    → All P (insert ts i t)
+all_insert P ts t i one all =
+    All-append P (take i ts) (t ∷ drop i ts) (All-take P i ts all)
+    (All-cons P t (drop i ts) one (All-drop P i ts all))
+
+pub insert_change : (m : TextEdit) (ts : List TextEdit) (place : ℕ) → IsPlaceOf m ts place
+    → map change_of (insert ts place m) ≡ with_change (map change_of ts) (change_of m)
+insert_change m [] zero p = refl
+insert_change m [] (suc place) p = absurd (omega (arith, p.within))
+insert_change m (t ∷ ts) zero p =
+    let later : m.place.start < t.place.start = p.after zero t (omega arith) (omega arith) in
+    rw (lt-ltb m.place.start t.place.start later) refl
+insert_change m (t ∷ ts) (suc place) p =
+    let first : t.place.start ≤ m.place.start = p.before zero t (omega arith) in
+    let rest : IsPlaceOf m ts place =
+    record {
+      within = omega (arith, p.within);
+      before = λ k d l. p.before (suc k) d (omega (arith, l));
+      after = λ k d l r. p.after (suc k) d (omega (arith, l)) (omega (arith, r));
+    } in
+    rw (le-ltb m.place.start t.place.start first)
+    (ap (λ (cs : List TextChange). change_of t ∷ cs) (insert_change m ts place rest))
+
+-- ---- the text, edit by edit
+
+-- `out` is what is written up to the byte `from`, before the edits `rest`
+pub record IsWrittenTo (bytes : List ℕ) (all : List TextChange) (out : List ℕ) (from : ℕ) (rest : List TextEdit)
+    : Type 0 where
+  pub boundary : IsCharBoundary bytes from
+  pub follow : Follow from (map change_of rest)
+  pub is : out ++ text_with from bytes (map change_of rest) ≡ text_with 0 bytes all
+
+pub none_written : (bytes : List ℕ) (all : List TextEdit) → IsUtf8 bytes → Follow 0 (map change_of all)
+    → IsWrittenTo bytes (map change_of all) [] 0 all
+none_written bytes all utf8 h = record { boundary = IsCharBoundary-start bytes utf8; follow = h; is = refl }
+
+-- the part of a text between two bytes
+part_is : (from at : ℕ) (bytes : List ℕ) → from ≤ at → slice_range bytes from at ≡ drop from (take at bytes)
+part_is from at bytes h =
+    let same : from + (at - from) ≡ at = omega arith in
+    sym (drop-take from (at - from) bytes) ∙ ap (λ n. drop from (take n bytes)) same
+
+module _ (bytes : List ℕ) (all : List TextEdit) (out : List ℕ) (from i : ℕ) (t : TextEdit) (w : i < length all)
+    (e : t ≡ get_or all i t) (h : IsWrittenTo bytes (map change_of all) out from (drop i all)) where
+  next : IsWrittenTo bytes (map change_of all) out from (t ∷ drop (suc i) all)
+  next =
+      subst (λ ts. IsWrittenTo bytes (map change_of all) out from ts)
+      (drop-cons all i t w ∙ ap (λ x. x ∷ drop (suc i) all) (sym e)) h
+
+  pub next_change : All (IsChangeIn bytes) (map change_of all) → IsChangeIn bytes (change_of t)
+  next_change changes =
+      subst (λ x. IsChangeIn bytes (change_of x)) (sym e) (change_at_edit (IsChangeIn bytes) all i t w changes)
+
+  pub one_written : All (IsChangeIn bytes) (map change_of all) → All IsOrdered all → (new : List ℕ)
+      → new ≡ (out ++ slice_range bytes from t.place.start) ++ string_bytes t.new
+      → IsWrittenTo bytes (map change_of all) new t.place.end (drop (i + 1) all)
+  one_written changes ordered new is =
+      let rest : List TextEdit = drop (suc i) all in
+      let start : ℕ = t.place.start in
+      let past : drop (i + 1) all ≡ rest = ap (λ n. drop n all) (add-one i) in
+      let low : start ≤ t.place.end = subst IsOrdered (sym e) (ordered i t w) in
+      let end : start + (t.place.end - start) ≡ t.place.end = omega arith in
+      let after : List ℕ = text_with (start + (t.place.end - start)) bytes (map change_of rest) in
+      let here : IsWrittenTo bytes (map change_of all) ((out ++ slice_range bytes from start) ++ string_bytes t.new)
+      (start + (t.place.end - start)) rest =
+      record {
+        boundary = (next_change changes).ends;
+        follow = next.follow.1;
+        is = append_assoc (out ++ slice_range bytes from start) (string_bytes t.new) after
+            ∙ append_assoc out (slice_range bytes from start) (string_bytes t.new ++ after)
+            ∙ ap (λ xs. out ++ (xs ++ (string_bytes t.new ++ after))) (part_is from start bytes next.follow.0)
+            ∙ next.is;
+      } in
+      subst (λ (ts : List TextEdit). IsWrittenTo bytes (map change_of all) new t.place.end ts) (sym past)
+      (subst (λ (n : ℕ). IsWrittenTo bytes (map change_of all) new n rest) end
+      (subst (λ (xs : List ℕ). IsWrittenTo bytes (map change_of all) xs (start + (t.place.end - start)) rest) (sym is)
+      here))

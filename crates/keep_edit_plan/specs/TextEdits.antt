@@ -1,0 +1,40 @@
+-- Edits of one text, and what changes of the text they are.
+use Rattle.std.specs.Prelude.{◌≡◌, ◌+◌, ◌-◌, ◌≤◌, ℕ, List, None, IsCharBoundary, string_bytes}
+use Rattle.keep_syntax.specs.Tree.{Document}
+use Rattle.keep_edit_spec.specs.Edits as law
+use Rattle.keep_edit_spec.specs.Edits.{place}
+use Rattle.keep_edit_spec.specs.Refusals.{refusal}
+use Rattle.keep_edit_spec.specs.Runs.{MakesChange}
+use Rattle.keep_edit_spec.specs.TextChanges.{TextChange, change_at}
+use Rattle.keep_edit_plan.specs.Answers.{IsMadeAt, IsSpanOf}
+use Rattle.keep_edit_plan.specs.Given.{IsEdit}
+use Rattle.keep_edit_plan.specs.Reading.{IsTextOfTree, ProfiledText, limit}
+use Rattle.keep_edit_plan.specs.declared.edit.Edit.{Edit}
+use Rattle.keep_edit_plan.specs.declared.text_edit.TextEdit.{TextEdit}
+
+-- what an edit changes of a text
+abbrev pub change_of : TextEdit → TextChange
+change_of t = change_at t.place.start (t.place.end - t.place.start) (string_bytes t.new)
+
+abbrev pub IsOrdered : TextEdit → Type 0
+IsOrdered t = t.place.start ≤ t.place.end
+
+-- a change from character to character of this text
+pub record IsChangeIn (bytes : List ℕ) (c : TextChange) : Type 0 where
+  pub starts : IsCharBoundary bytes c.at
+  pub ends : IsCharBoundary bytes (c.at + c.size)
+
+-- The edit makes this change of the document of this text, as it does in a run of its kind.
+pub record MakesChangeHere (now : ProfiledText) (x : Edit) (t : TextEdit) : Type 0 where
+  pub edit : law.Edit
+  pub is : IsEdit x edit
+  pub makes : (s : Document) → IsTextOfTree now s → MakesChange now.profile limit s edit (change_of t)
+  pub within : IsSpanOf now.text t.place
+
+-- It is of the edit's place, and the edit is not refused.
+pub record IsPlannedHere (now : ProfiledText) (x : Edit) (t : TextEdit) : Type 0 where
+  pub edit : law.Edit
+  pub is : IsEdit x edit
+  pub planned : (s : Document) → IsTextOfTree now s → (e : law.Edit) → IsEdit x e
+      → (refusal now.profile limit s e ≡ None) × IsMadeAt (place s e) t
+  pub within : IsSpanOf now.text t.place

@@ -1,0 +1,91 @@
+//! Edits of one text.
+ghost use Rattle.std.specs.Prelude.{◌≡◌, ◌≤◌, [], All, IfOk, OnErr, if◌then◌else◌, length, map, string_bytes};
+ghost use Rattle.std.specs.Bool.{Decides};
+ghost use Rattle.keep_edit_spec.specs.TextChanges.{IsBeside, text_with, with_change};
+ghost use Rattle.keep_edit_plan.specs.TextEdits.{IsChangeIn, IsOrdered, change_of};
+
+use crate::text_edit::TextEdit;
+use std::alloc::{AllocError, Global};
+use std::marker::Model;
+
+/// Edits of one text, in the order of their places; of those at one place, in the order in which they were added. None
+/// overlaps another.
+#[derive(Drop)]
+pub struct TextEdits {
+    edits: Vec<TextEdit>,
+}
+
+impl Model for TextEdits {
+    ghost use Rattle.std.specs.Prelude.{All, List, map};
+    ghost use Rattle.keep_edit_spec.specs.TextChanges.{Follow, TextChange};
+    ghost use Rattle.keep_edit_plan.specs.TextEdits.{IsOrdered, change_of};
+
+    ghost Value = { List TextChange };
+
+    ghost view = { λ t. map change_of t.edits.items };
+
+    ghost invariant = { λ t. Follow 0 (map change_of t.edits.items) × All IsOrdered t.edits.items };
+}
+
+impl TextEdits {
+    /// No edit yet. It takes no memory.
+    pub fn new(alloc: Global) -> TextEdits
+        ensures { result ≡ [] }
+    {
+        TextEdits {
+            edits: Vec::new(alloc),
+        }
+    }
+
+    /// How many there are.
+    pub fn len(&self) -> usize
+        ensures { result ≡ length self.now }
+    {
+        self.edits.len()
+    }
+
+    /// Adds an edit, after those that begin where it does or before it. Returns whether it was added: one that overlaps
+    /// another is not.
+    ///
+    /// # Errors
+    ///
+    /// Out of memory, for an edit that overlaps none. Then nothing has changed.
+    pub fn add(&mut self, edit: TextEdit) -> Result<bool, AllocError>
+        requires { IsOrdered edit }
+        ensures beside { IfOk result (λ added. Decides added (All (λ c. IsBeside c (change_of edit)) self.old)) }
+        ensures added { IfOk result (λ added. self.new
+            ≡ (if added then with_change self.old (change_of edit) else self.old)) }
+        ensures refused { OnErr result (self.new ≡ self.old) }
+    {
+        let start = edit.place.start;
+        let number = self
+            .edits
+            .partition_point(|other| other.place.start <= start);
+        if number > 0 && self.edits[number - 1].place.end > start {
+            return Ok(false);
+        }
+        if number < self.edits.len() && self.edits[number].place.start < edit.place.end {
+            return Ok(false);
+        }
+        match self.edits.insert(number, edit) {
+            Ok(()) => Ok(true),
+            Err(_) => Err(AllocError),
+        }
+    }
+
+    /// The text after the edits, in one allocation or a few. The only error is out of memory.
+    pub fn text_after(&self, alloc: Global, text: &str) -> Result<String, AllocError>
+        requires { All (IsChangeIn text.now) self.now }
+        ensures { IfOk result (λ new. string_bytes new ≡ text_with 0 text.now self.now) }
+    {
+        let mut out = String::with_capacity(alloc, text.len())?;
+        let mut from = 0;
+        for edit in self.edits.iter() {
+            out.push_str(&text[from..edit.place.start])?;
+            out.push_str(edit.new.as_str())?;
+            from = edit.place.end;
+        }
+        out.push_str(&text[from..])?;
+        Ok(out)
+    }
+}
