@@ -36,7 +36,7 @@ CASES = [
     ("the last crate is not proved", {"FAILS": "keep_test_streams"}, False, []),
     ("a crate is not proved in the run over all alone", {"ALL_FAILS": "keep_toml", "KEEPS": "no"}, False, []),
     ("the static library is not built", {"BUILDS": "false"}, False, []),
-    ("an edit is not refused", {"MISSED": "keep_edit_spec"}, False, []),
+    ("an edit is not refused", {"MISSED": "keep_commands"}, False, []),
 ]
 
 
