@@ -12,5 +12,6 @@ pub mod PatchLaws
 pub mod Shared
 mod MadeMore
 mod AlikeLaws
+mod SeenLaws
 mod RunSteps
 mod ItemSteps

@@ -50,6 +50,7 @@ mod lines;
 mod patch;
 mod planned;
 mod runs;
+mod seen;
 
 pub use document::{Counts, Document, Entry};
 pub use keep_edit_plan::{Edit, TextEdit};

@@ -13,11 +13,12 @@ ghost use Rattle.keep_path.specs.Path.{Part, index};
 
 use crate::alike::{agree, are_all_of_one_kind};
 use crate::document::Document;
+use crate::seen::SeenKeys;
 use keep_edit_plan::{Edit, TextEdit, TextEdits};
 use keep_edit_spec::EditFault;
 use keep_rules::{Path, Step};
 
-/// No more edits than these are made at once, since the path of each is compared with those before it.
+/// No more edits than these are made at once, since the path of each may be compared with all those before it.
 const MOST_AT_ONCE: usize = 500;
 /// No insert or rename of a longer path, in bytes, is made at once with others, so that comparing them takes no longer.
 const LONGEST_PATH: usize = 128;
@@ -150,10 +151,14 @@ impl Document {
         ensures within { All (IsChangeIn self.now.text) result }
     {
         let mut changes = TextEdits::new(self.alloc());
+        let mut keys = SeenKeys::new(self.alloc(), &edits[first]);
         let end = edits.len().min(first.saturating_add(MOST_AT_ONCE));
         for number in first..end {
             let edit = &edits[number];
-            if has_long_path(edit) || !are_all_of_one_kind(&edits[first..number], edit) {
+            if has_long_path(edit)
+                || !(keys.leaves_alone(edit) || are_all_of_one_kind(&edits[first..number], edit))
+                || !keys.add(edit).unwrap_or(false)
+            {
                 return changes;
             }
             let Some(change) = self.as_ref().change_by(self.alloc(), edit) else {
