@@ -5,8 +5,9 @@ is renewed by `put_lines`, which is handed the new lines and no other text, and 
 replace those which the edit touches. But no clause says what a body does not do: one that reads the whole text besides, and
 throws away what it read, meets every contract. So this is looked at: each name by which a text is read stands in the code of
 these crates where READ_BY says, once in each of these functions, and nowhere else. No edit is among them; `copied` reads the
-document's text for a list of edits, once, and `with_changes` the text after many edits of a list that are made at once; and where a value changes the index, its own text is read once more: that of a given value by `nodes_of_value` or
-`set_value`, that of a touched line's value by `set_inside`.
+document's text for a list of edits, once, and `with_changes` the text after many edits of a list that are made at once; and
+where a value changes the index, its own text is read once more: that of a given value by `nodes_of_value` or `set_value`, that
+of a touched line's value by `set_inside`.
 
 Comments, contracts and proofs are not looked at. The functions are found by the layout of `rt fmt` (bodies.py).
 """
