@@ -1,13 +1,13 @@
 #!/usr/bin/env python3
-"""Makes long lists of edits of one kind on documents of many shapes, and compares with the same edits in short lists.
+"""Makes long lists of edits on documents of many shapes, and compares with the same edits in short lists.
 
     tests/properties/edit_runs.py KEEP_TOML [RUNS [SEED]]
 
-Edits of one kind that come in a row are made at once, from some 20 of them on, and up to 500, by the document before all of them. So
+Edits that come in a row are made at once, from some 20 of them on, and up to 500, by the document before all of them. So
 each list (of 80 edits, one in twenty of 1,100; RUNS of them, 100 if not given) is given to the program as one script, and then in
 scripts of 10, each on what the one before gave, where every edit is made by itself. Texts, faults and the number of the refused
-edit have to be the same. Among the edits are some that end such a row: one that is refused, one of a path that was there before
-or is in another's, one of another kind.
+edit have to be the same. Most lists are of edits of one kind, a third of edits of all kinds in turn. Among the edits are some that end such a row: one that is refused, one of a path that was there before
+or is in another's.
 """
 import sys
 from pathlib import Path
@@ -34,7 +34,7 @@ def value_of(random):
 
 
 class Run:
-    """A document, and a list of edits that mostly are of one kind."""
+    """A document, and a list of edits that mostly can be made at once."""
 
     def __init__(self, program, seed):
         self.program, self.random = program, Random(seed)
@@ -42,6 +42,7 @@ class Run:
         self.text = document_of(self.random, lambda it: not self.ran([b"check"], it).returncode)
         self.entries = [tuple(it.rsplit(b"\t", 1)) for it in self.ran([b"list"], self.text).stdout.split(b"\n")[:-1]]
         kinds = (self.inserts, self.items, self.removes, self.sets, self.renames, self.tables, self.elements)
+        kinds += 3 * (self.all_kinds,)
         self.edits = self.random.choice(kinds)()
 
     def ran(self, words, given):
@@ -129,6 +130,30 @@ class Run:
         """Elements of one array of tables, or of several, sometimes of one in another."""
         arrays = self.random.choice(([b"els"], [b"els", b"more.els"], [b"els", b"els.in"], [b"a_1.b.c", b"a_1.b.d", b"a_1"]))
         return self.headers(b"element", lambda number: self.random.choice(arrays[: 1 if number == 0 else None]))
+
+    def all_kinds(self):
+        """Edits of all kinds in turn, nearly all of paths apart; now and then some newlines have a carriage return."""
+        random, paths = self.random, self.with_lines() + self.some_of()
+        random.shuffle(paths)
+        new = lambda path, number: b".".join([*path.split(b".")[:-1], random.choice(KEYS) + b"_more_%d" % number])
+        if random.random() < 0.2:
+            self.text = self.text.replace(b"\n", b"\r\n", random.choice((1, 3, -1)))
+            if self.ran([b"check"], self.text).returncode:
+                self.text = self.text.replace(b"\r\n", b"\n")
+        edits = []
+        for number, path in enumerate(paths):
+            kind = random.choice((b"insert", b"insert", b"remove", b"remove", b"set", b"rename", b"table", b"element"))
+            if kind == b"table":
+                edits.append(edit_of(kind, b"tables_%d" % number))
+            elif kind == b"element":
+                edits.append(edit_of(kind, b"elements_%d" % (number if random.random() < 0.9 else number // 2)))
+            elif kind == b"rename":
+                edits.append(edit_of(kind, path, key=random.choice(KEYS) + b"_new_%d" % number))
+            elif kind == b"insert":
+                edits.append(edit_of(kind, new(path, number), value_of(random)))
+            else:
+                edits.append(edit_of(kind, path, value_of(random) if kind == b"set" else None))
+        return edits
 
     def in_short_lists(self):
         """What the edits come to a few at a time: the text or the number of the refused edit and why."""

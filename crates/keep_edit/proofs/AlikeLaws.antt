@@ -2,12 +2,14 @@
 --
 -- Where each step up to a number is the same, the paths begin alike. A path is at another or below it exactly if it
 -- begins with all of its steps, so it has no fewer. Two paths with new keys in place of their last steps are the same
--- exactly if the keys are, and the steps before these. Two lists of as many keys are the same or apart. Of others, the
--- shorter is the first of the longer exactly if they agree as far as both go, so they are apart exactly if they do not.
+-- exactly if the keys are, and the steps before these. Two lists of keys that agree as far as both go are the same, or
+-- the shorter is the first of the longer. If they do not agree so, they are apart. So those of as many keys are the
+-- same or apart.
 --
 -- Theorems: `same_takes`, `same_steps`: what is compared; `agree_before`: one step more; `begins_with`, `within`: of a
--- path at another or below it; `renamed_parts`, `renamed_alike`: of paths with new keys; `read_key`: a key that is
--- compared; `same_or_apart`: of as many keys; `apart_unless_agree`: of others.
+-- path at another or below it; `none_unless`: of one that is not; `before_last`, `renamed_parts`, `renamed_alike`: of
+-- paths with new keys; `read_key`: a key that is compared; `same_or_apart`: of as many keys; `keys_apart`,
+-- `apart_unless_agree`: of others.
 use Rattle.std.proofs.Common.{◌≡◌, ◌≢◌, ◌≤◌, ◌<◌, ◌-◌, ◌∷◌, ◌++◌, [], ℕ, zero, suc, List, length, take, drop, slice_get}
 use Rattle.std.proofs.Common.{◌↔◌, Bool, true, false, Option, Some, None, refl, sym, ap, ap₂, ◌∙◌, arith, inl, inr}
 use Rattle.std.proofs.Common.{Global, String, get_or, map, min, option_map, string_bytes}
@@ -18,6 +20,7 @@ use Rattle.std.proofs.lemmas.Option.{slice_get-map, slice_get_read}
 use Rattle.keep_path.specs.Path.{Part, beside, key, last_part, same_part, same_path, strip, without_last}
 use Rattle.keep_path.proofs.Shared.{last_pushed, path_decides, strip_append}
 use Rattle.keep_edit_spec.specs.AppendedHeaders.{AreSameOrApart}
+use Rattle.keep_edit_spec.specs.Runs.{AreApart}
 use Rattle.keep_edit_spec.proofs.Shared.{without_last-snoc}
 use Rattle.keep_edit_plan.specs.Headers.{key_texts}
 
@@ -93,7 +96,7 @@ within n above path all =
 
 -- ---- paths with new keys in place of their last steps
 
-before_last : (path : List Part) → without_last path ≡ take (length path - 1) path
+pub before_last : (path : List Part) → without_last path ≡ take (length path - 1) path
 before_last [] = refl
 before_last (p ∷ []) = refl
 before_last (p ∷ q ∷ path) =
@@ -154,7 +157,7 @@ same_keys (a ∷ keys) (b ∷ more) e =
     let rest : map key keys ≡ map key more = cc in
     ap₂ (λ (k : List ℕ) (l : List (List ℕ)). k ∷ l) first (same_keys keys more rest)
 
-none_unless : (o : Option (List Part)) → (o ≢ None → ⊥) → o ≡ None
+pub none_unless : (o : Option (List Part)) → (o ≢ None → ⊥) → o ≡ None
 none_unless None h = refl
 none_unless (Some path) h = absurd (h (λ e. cc))
 
@@ -190,33 +193,39 @@ same_or_apart keys more long = by (same_path (map key keys) (map key more)) (pat
           none_unless (strip (map key more) (map key keys)) (λ h. differ (sym (all_alike more keys (sym long) h))),
         )
 
--- fewer keys, and more of them
-fewer_apart : (n : ℕ) (keys more : List (List ℕ)) → n ≡ length keys → length keys < length more
-    → (take n keys ≢ take n more) ↔ AreSameOrApart keys more
-fewer_apart n keys more all fewer =
+-- no more keys than the others
+no_more_apart : (n : ℕ) (keys more : List (List ℕ)) → n ≡ length keys → length keys ≤ length more
+    → (take n keys ≢ take n more) ↔ AreApart (map key keys) (map key more)
+no_more_apart n keys more all few =
     let (begins, agree) = first_keys n keys more all in (
-      λ differ. inr (
+      λ differ. (
         none_unless (strip (map key keys) (map key more)) (λ h. differ (agree h)),
-        none_unless (strip (map key more) (map key keys)) (λ h. absurd (omega (arith, no_fewer more keys h, fewer))),
+        none_unless (strip (map key more) (map key keys)) (λ h.
+            let many = no_fewer more keys h in
+            let (begin, turn) = first_keys n more keys (omega (arith, all, few, many)) in
+            differ (sym (turn h))),
       ),
-      λ h same. elim h [
-        | inl e ↦ absurd (omega (arith, ap (λ (l : List (List ℕ)). length l) e, fewer))
-        | inr apart ↦ begins same apart.0
-      ],
+      λ apart same. begins same apart.0,
     )
 
-turned : (keys more : List (List ℕ)) → AreSameOrApart keys more → AreSameOrApart more keys
-turned keys more (inl e) = inl (sym e)
-turned keys more (inr apart) = inr (apart.1, apart.0)
+pub keys_apart : (n : ℕ) (keys more : List (List ℕ)) → n ≡ min (length keys) (length more)
+    → (take n keys ≢ take n more) ↔ AreApart (map key keys) (map key more)
+keys_apart n keys more least = elim (cases_lt (length more) (length keys)) [
+  | inl fewer ↦
+      let (there, back) = no_more_apart n more keys (omega (arith, least, fewer)) (omega (arith, fewer)) in (
+        λ differ. let apart = there (λ same. differ (sym same)) in (apart.1, apart.0),
+        λ apart same. back (apart.1, apart.0) (sym same),
+      )
+  | inr many ↦ no_more_apart n keys more (omega (arith, least, many)) many
+]
 
 pub apart_unless_agree : (n : ℕ) (keys more : List (List ℕ)) → n ≡ min (length keys) (length more)
     → length keys ≢ length more → (take n keys ≢ take n more) ↔ AreSameOrApart keys more
-apart_unless_agree n keys more least differ = elim (cases_lt (length keys) (length more)) [
-  | inl fewer ↦ fewer_apart n keys more (omega (arith, least, fewer)) fewer
-  | inr many ↦
-      let (there, back) =
-      fewer_apart n more keys (omega (arith, least, many)) (omega (arith, differ, many)) in (
-        λ h. turned more keys (there (λ same. h (sym same))),
-        λ h same. back (turned keys more h) (sym same),
-      )
-]
+apart_unless_agree n keys more least differ =
+    let (there, back) = keys_apart n keys more least in (
+      λ h. inr (there h),
+      λ h same. elim h [
+        | inl e ↦ differ (ap (λ (l : List (List ℕ)). length l) e)
+        | inr apart ↦ back apart same
+      ],
+    )

@@ -12,6 +12,9 @@ pub mod PatchLaws
 pub mod Shared
 mod MadeMore
 mod AlikeLaws
+mod KeysOnPath
 mod SeenLaws
+mod SeenPathLaws
+mod KindLaws
 mod RunSteps
 mod ItemSteps

@@ -5,26 +5,28 @@
 -- one of them is at none of those paths and below none; and if its new key is none of them, it makes another path than
 -- those do.
 --
--- Theorems: `key_added`: one more key; `goes_on`: after it; `seen_as`: an edit that is seen so; `insert_alone`,
--- `rename_alone`, `table_alone`, `alone_as`: one that leaves alone those seen; `was_added`, `none_seen`, `more_seen`:
--- the edits of a list that are seen.
-use Rattle.std.proofs.Common.{◌≡◌, ◌-◌, ◌<◌, ◌≤◌, ◌∷◌, [], ℕ, suc, All, Bool, Bor, Global, List, None, Option, Some}
+-- Theorems: `text_added`, `texts_stay`, `key_added`: one more key; `goes_on`: after it; `seen_as`: an edit that is seen
+-- so; `not_below`: a path that has no such step; `insert_alone`, `rename_alone`, `table_alone`, `alone_as`: one that
+-- leaves alone those seen; `was_added`, `none_seen`, `more_seen`: the edits of a list that are seen.
+use Rattle.std.proofs.Common.{◌≡◌, ◌-◌, ◌<◌, ◌≤◌, ◌∷◌, [], ℕ, suc, All, Bool, Bor, Global, List, None, Some}
 use Rattle.std.proofs.Common.{BuildHasherDefault, FoldHasher, String, Vec, cond, drop, false, get_or, length, take}
 use Rattle.std.proofs.Common.{refl, true, slice_get, slice_range, string_bytes, sym, ap, subst, ◌∙◌, arith}
 use Rattle.std.specs.Prelude.{Err, IfOk, IsTrue, Ok, Result, bytes_eq}
-use Rattle.std.specs.HashSet.{HashSet, Updates}
+use Rattle.std.specs.HashSet.{HashSet, Updates, contains_by}
+use Rattle.std.specs.List.{list_any}
 use Rattle.std.specs.Result.{result_unwrap_or}
 use Rattle.std.specs.declared.alloc.AllocError.{AllocError}
 use Rattle.std.proofs.lemmas.List.{take_all}
 use Rattle.std.proofs.lemmas.List.Elements.{All-nil, All-push, All-weaker}
 use Rattle.keep_path.specs.Path.{Part, key, strip}
+use Rattle.keep_edit_spec.specs.Runs.{IsNoStep}
 use Rattle.keep_edit_plan.specs.Headers.{key_texts}
 use Rattle.keep_edit_plan.specs.declared.edit.Edit.{Edit}
 use Rattle.keep_edit_plan.specs.declared.edit.Edit.TheVariants.{Element, Insert, Remove, Rename, Set, Table}
-use Rattle.keep_edit.specs.Runs.{AreOfOneKind}
+use Rattle.keep_edit.specs.Runs.{LeavesAlone}
 use Rattle.keep_edit.specs.Seen.{EndsIn, GoesOn, HasKey, HasKeysOf, IsSeen}
 use Rattle.keep_edit.specs.declared.seen.SeenKeys.{SeenKeys}
-use Rattle.keep_edit.proofs.AlikeLaws.{begins_with, renamed_parts, same_steps}
+use Rattle.keep_edit.proofs.AlikeLaws.{begins_with, none_unless, renamed_parts, same_steps}
 use Rattle.keep_edit.proofs.MadeMore.{taken_more}
 
 -- ---- one more key
@@ -33,18 +35,31 @@ kept_key : (b had has : Bool) → has ≡ cond b true had → had ≡ true → h
 kept_key true had has is h = is
 kept_key false had has is h = is ∙ h
 
-pub key_added : (seen : SeenKeys) (keys : HashSet (Bor (List ℕ)) (BuildHasherDefault FoldHasher)) (k : Bor (List ℕ))
+-- keys that are kept, and whether one is among them
+abbrev pub Texts : Type 0
+Texts = HashSet (Bor (List ℕ)) (BuildHasherDefault FoldHasher)
+
+abbrev pub HasText : Texts → List ℕ → Type 0
+HasText keys text = IsTrue (contains_by (λ k. bytes_eq text k.now) keys)
+
+pub text_added : (old new : Texts) (k : Bor (List ℕ)) → Updates (λ x y. bytes_eq x.now y.now) old new k true
+    → HasText new k.now × ((text : List ℕ) → HasText old text → HasText new text)
+text_added old new k updates = (
+  updates.1,
+  λ text had.
+      let q : Bor (List ℕ) = record { ref_ptr = (0, 0); now = text } in
+      kept_key (bytes_eq k.now text) _ _ (updates.0 q) had,
+)
+
+pub texts_stay : (old new : Texts) → new.keys ≡ old.keys → (text : List ℕ) → HasText old text → HasText new text
+texts_stay old new same text =
+    subst (λ (keys : List (Bor (List ℕ))). IsTrue (list_any (λ k. bytes_eq text k.now) keys)) (sym same)
+
+pub key_added : (seen : SeenKeys) (keys : Texts) (k : Bor (List ℕ))
     → Updates (λ x y. bytes_eq x.now y.now) seen.keys keys k true
     → HasKey (record seen { keys = keys }) k.now × GoesOn seen (record seen { keys = keys })
-key_added seen keys k updates = (
-  updates.1,
-  (
-    refl,
-    λ text had.
-        let q : Bor (List ℕ) = record { ref_ptr = (0, 0); now = text } in
-        kept_key (bytes_eq k.now text) _ _ (updates.0 q) had,
-  ),
-)
+key_added seen keys k updates =
+    let (here, on) = text_added seen.keys keys k updates in (here, (refl, on))
 
 pub seen_as : (old new : SeenKeys) (f x y : Edit) → GoesOn old new → old.first.now ≡ f → x ≡ y → HasKeysOf new f y
     → IsSeen new x
@@ -65,15 +80,20 @@ last_step (q ∷ p) path begins x ends =
     same_steps (length (q ∷ p)) path (q ∷ p) (begins ∙ sym (take_all (length (q ∷ p)) (q ∷ p) (omega arith)))
     (length (q ∷ p) - 1) (omega arith) (omega arith) ∙ ends
 
+-- A path is not at another or below it if the last key of that is no step of it.
+pub not_below : (p path : List Part) (last : List ℕ) → EndsIn p (key last) → IsNoStep last path → strip p path ≡ None
+not_below p path last ends lacks =
+    none_unless (strip p path) (λ h. lacks (length p - 1) (last_step p path (begins_with p path h).1 (key last) ends))
+
 pub alone_as : (seen : SeenKeys) (f x y : Edit) → seen.first.now ≡ f → x ≡ y
-    → ((e : Edit) → HasKeysOf seen f e → AreOfOneKind e y) → (e : Edit) → IsSeen seen e → AreOfOneKind e x
+    → ((e : Edit) → HasKeysOf seen f e → LeavesAlone e y) → (e : Edit) → IsSeen seen e → LeavesAlone e x
 alone_as seen f x y first is all e h =
-    subst (AreOfOneKind e) (sym is) (all e (subst (λ g. HasKeysOf seen g e) first h))
+    subst (LeavesAlone e) (sym is) (all e (subst (λ g. HasKeysOf seen g e) first h))
 
 module _ (seen : SeenKeys) where
   pub insert_alone : (f path : List Part) (v value : List ℕ)
       → ((text : List ℕ) → EndsIn path (key text) → ¬ HasKey seen text)
-      → (e : Edit) → HasKeysOf seen (Insert f v) e → AreOfOneKind e (Insert path value)
+      → (e : Edit) → HasKeysOf seen (Insert f v) e → LeavesAlone e (Insert path value)
   insert_alone f path v value lacks (Insert p w) (text, ends, has) =
       λ same. lacks text (subst (λ (l : List Part). EndsIn l (key text)) same ends) has
   insert_alone f path v value lacks (Remove p) h = absurd h
@@ -85,28 +105,22 @@ module _ (seen : SeenKeys) where
   pub rename_alone : (f path : List Part) (v name : String Global)
       → ((n : ℕ) (text : List ℕ) → slice_get path n ≡ Some (key text) → ¬ HasKey seen text)
       → ¬ HasKey seen (string_bytes name)
-      → (e : Edit) → HasKeysOf seen (Rename f v) e → AreOfOneKind e (Rename path name)
+      → (e : Edit) → HasKeysOf seen (Rename f v) e → LeavesAlone e (Rename path name)
   rename_alone f path v name lacks new (Insert p w) h = absurd h
   rename_alone f path v name lacks new (Remove p) h = absurd h
   rename_alone f path v name lacks new (Set p w) h = absurd h
   rename_alone f path v name lacks new (Rename p w) (text, ends, has, its) = record {
-    below = by (strip p path) refl;
+    below = not_below p path text ends (λ n is. lacks n text is has);
     new = λ same.
         let parts = renamed_parts (length p - 1) p path (string_bytes w) (string_bytes name) refl same in
         new (subst (HasKey seen) parts.0 its);
   }
-    where
-      by : (o : Option (List Part)) → strip p path ≡ o → strip p path ≡ None
-      by None e = e
-      by (Some more) e =
-          let begins = begins_with p path (λ none. let no : Some more ≡ None = sym e ∙ none in absurd cc) in
-          absurd (lacks (length p - 1) text (last_step p path begins.1 (key text) ends) has)
   rename_alone f path v name lacks new (Table ks) h = absurd h
   rename_alone f path v name lacks new (Element ks) h = absurd h
 
   pub table_alone : (f more : Vec (String Global) Global)
       → ((text : List ℕ) → EndsIn (key_texts more.items) text → ¬ HasKey seen text)
-      → (e : Edit) → HasKeysOf seen (Table f) e → AreOfOneKind e (Table more)
+      → (e : Edit) → HasKeysOf seen (Table f) e → LeavesAlone e (Table more)
   table_alone f more lacks (Insert p w) h = absurd h
   table_alone f more lacks (Remove p) h = absurd h
   table_alone f more lacks (Set p w) h = absurd h
@@ -123,15 +137,16 @@ was_added P (Ok true) h e = h refl
 was_added P (Ok false) h e = absurd cc
 was_added P (Err f) h e = absurd cc
 
-pub none_seen : (seen : SeenKeys) (edits : List Edit) (first : ℕ) → All (IsSeen seen) (slice_range edits first first)
-none_seen seen edits first =
+pub none_seen : (P : Edit → Type 0) (edits : List Edit) (first : ℕ) → All P (slice_range edits first first)
+none_seen P edits first =
     let none : 0 ≡ first - first = omega arith in
-    subst (λ (n : ℕ). All (IsSeen seen) (take n (drop first edits))) none (All-nil (IsSeen seen))
+    subst (λ (n : ℕ). All P (take n (drop first edits))) none (All-nil P)
 
-pub more_seen : (old new : SeenKeys) (edits : List Edit) (first n : ℕ) (d x : Edit) → first ≤ n → n < length edits
-    → get_or edits n d ≡ x → ((e : Edit) → IsSeen old e → IsSeen new e) → IsSeen new x
-    → All (IsSeen old) (slice_range edits first n) → All (IsSeen new) (slice_range edits first (suc n))
-more_seen old new edits first n d x low lt is on here all =
-    subst (All (IsSeen new)) (sym (taken_more edits first n d low lt))
-    (All-push (IsSeen new) (slice_range edits first n) (get_or edits n d)
-    (All-weaker (IsSeen old) (IsSeen new) on (slice_range edits first n) all) (subst (IsSeen new) (sym is) here))
+-- where what holds of an edit holds of it with one more key, too
+pub more_seen : (P Q : Edit → Type 0) (edits : List Edit) (first n : ℕ) (d x : Edit) → first ≤ n → n < length edits
+    → get_or edits n d ≡ x → ((e : Edit) → P e → Q e) → Q x → All P (slice_range edits first n)
+    → All Q (slice_range edits first (suc n))
+more_seen P Q edits first n d x low lt is on here all =
+    subst (All Q) (sym (taken_more edits first n d low lt))
+    (All-push Q (slice_range edits first n) (get_or edits n d) (All-weaker P Q on (slice_range edits first n) all)
+    (subst Q (sym is) here))

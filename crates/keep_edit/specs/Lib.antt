@@ -7,3 +7,4 @@ pub mod Runs
 pub mod Headers
 pub mod Children
 pub mod Seen
+pub mod SeenPaths

@@ -1,13 +1,15 @@
 -- Edits of a list that are made at once: each makes its change of the document before all of them.
-use Rattle.std.specs.Prelude.{◌≡◌, ◌≢◌, ⊤, ℕ, ◌+◌, List, All, take, slice_range}
-use Rattle.std.specs.Prelude.{string_bytes}
-use Rattle.keep_syntax.specs.Tree.{Document, Value}
-use Rattle.keep_path.specs.Path.{Part}
+use Rattle.std.specs.Prelude.{◌≡◌, ℕ, ◌+◌, Bool, true, false, ◌||◌, IsTrue, List, [], All, Option, drop, map, take}
+use Rattle.std.specs.Prelude.{slice_range, String, string_bytes}
+use Rattle.std.specs.Global.{Global}
+use Rattle.std.specs.List.{list_any}
+use Rattle.keep_syntax.specs.Tree.{Document, Value, inline, none}
+use Rattle.keep_path.specs.Path.{Part, key, strip}
 use Rattle.keep_edit_spec.specs.AddedItems.{AddsNextItem, IsItemRun, item_path}
-use Rattle.keep_edit_spec.specs.AppendedHeaders.{AreSameOrApart}
 use Rattle.keep_edit_spec.specs.Edits as law
-use Rattle.keep_edit_spec.specs.RenamedKeys.{ArePathsApart}
-use Rattle.keep_edit_spec.specs.Runs.{AreAlike, IsRun}
+use Rattle.keep_edit_spec.specs.Look.{keys_in}
+use Rattle.keep_edit_spec.specs.Runs as runs
+use Rattle.keep_edit_spec.specs.Runs.{IsRun}
 use Rattle.keep_edit_spec.specs.TextChanges.{TextChange, text_with}
 use Rattle.keep_edit_plan.specs.Headers.{key_texts}
 use Rattle.keep_edit_plan.specs.TextEdits.{change_of}
@@ -18,17 +20,33 @@ use Rattle.keep_edit_plan.specs.declared.edit.Edit.{Edit}
 use Rattle.keep_edit_plan.specs.declared.text_edit.TextEdit.{TextEdit}
 use Rattle.keep_edit_plan.specs.declared.edit.Edit.TheVariants.{Element, Insert, Remove, Rename, Set, Table}
 
--- Two edits of one kind: inserts of other paths, renames of paths apart, tables of other keys, and elements of the same
--- keys or of keys apart.
-abbrev pub AreOfOneKind : Edit → Edit → Type 0
-AreOfOneKind (Insert path value) (Insert other more) = path ≢ other
-AreOfOneKind (Remove path) (Remove other) = ⊤
-AreOfOneKind (Set path value) (Set other more) = ⊤
-AreOfOneKind (Rename path name) (Rename other more) =
-    ArePathsApart path (string_bytes name) other (string_bytes more)
-AreOfOneKind (Table keys) (Table more) = key_texts keys.items ≢ key_texts more.items
-AreOfOneKind (Element keys) (Element more) = AreSameOrApart (key_texts keys.items) (key_texts more.items)
-AreOfOneKind x y = ⊥
+-- a value that stands for any
+abbrev no_value : Value
+no_value = record { body = inline []; nested = none }
+
+-- an edit, as far as it tells which others it leaves alone: what it does, and its path and keys
+abbrev pub outline : Edit → law.Edit
+outline (Set path value) = law.set path no_value
+outline (Insert path value) = law.insert path no_value
+outline (Rename path name) = law.rename path (string_bytes name)
+outline (Remove path) = law.remove path
+outline (Table keys) = law.append_table (key_texts keys.items)
+outline (Element keys) = law.append_element (key_texts keys.items)
+
+-- The first edit leaves the second alone, which comes after it.
+abbrev pub LeavesAlone : Edit → Edit → Type 0
+LeavesAlone x y = runs.LeavesAlone (outline x) (outline y)
+
+-- the edit writes a line or a header with a newline of its own
+abbrev pub writes_anew : Edit → Bool
+writes_anew x = runs.is_insert (outline x) || runs.is_header (outline x)
+
+-- what is left of keys after so many, and after those of the steps of a path
+abbrev pub rest_from : List (String Global) → ℕ → List Part
+rest_from keys n = drop n (map key (key_texts keys))
+
+abbrev pub rest_after : List (String Global) → List Part → Option (List Part)
+rest_after keys path = strip (map key (keys_in path)) (map key (key_texts keys))
 
 -- the text with these changes
 abbrev pub changed_text : ProfiledText → List TextChange → ProfiledText
@@ -41,14 +59,19 @@ MakeChanges edits first end now changes =
     (s : Document) (old : ProfiledText) → AreMade s (take first edits) old now
     → AreMade s (take end edits) old (changed_text now changes)
 
--- The same, with what is known of the document: it is after a run of edits, which are alike to an edit of one kind with
--- each of these.
+-- The same, with what is known of the document: it is after a run of edits, which leave alone what each of these does.
 pub record IsRunTo (s : Document) (edits : List Edit) (first end : ℕ) (old now : ProfiledText) (before : Document)
     (changes : List TextChange) : Type 0 where
   pub made : AreMade s (take end edits) old (changed_text now changes)
   pub es : List law.Edit
-  pub alike : (y : Edit) (f : law.Edit) → IsEdit y f → All (λ x. AreOfOneKind x y) (slice_range edits first end)
-      → All (λ e. AreAlike e f) es
+  pub alone : (y : Edit) (f : law.Edit) → IsEdit y f → All (λ x. LeavesAlone x y) (slice_range edits first end)
+      → All (λ e. runs.LeavesAlone e f) es
+  pub inserts : All (λ x. runs.is_insert (outline x) ≡ true) (slice_range edits first end)
+      → All (λ e. IsTrue (runs.is_insert e)) es
+  pub headers : All (λ x. runs.is_header (outline x) ≡ true) (slice_range edits first end)
+      → All (λ e. IsTrue (runs.is_header e)) es
+  pub headless : All (λ x. runs.is_header (outline x) ≡ false) (slice_range edits first end)
+      → list_any runs.is_header es ≡ false
   pub run : IsRun now.profile limit before es changes made.tree
 
 -- ---- items

@@ -1,14 +1,15 @@
-//! Which edits of a list are of one kind, and of paths or keys that leave one another alone.
-ghost use Rattle.std.specs.Prelude.{◌≡◌, ◌≢◌, ◌≤◌, All, None, length, min, take};
+//! Which edits of a list leave one another alone, by their paths and keys.
+ghost use Rattle.std.specs.Prelude.{◌≡◌, ◌≢◌, ◌≤◌, All, IfSome, None, length, map, min, option_map, take};
 ghost use Rattle.std.specs.Bool.{Decides};
-ghost use Rattle.keep_edit.specs.Runs.{AreOfOneKind};
+ghost use Rattle.keep_edit.specs.Runs.{LeavesAlone, outline, rest_after, rest_from};
 ghost use Rattle.keep_edit_spec.specs.AppendedHeaders.{AreSameOrApart};
 ghost use Rattle.keep_edit_spec.specs.RenamedKeys.{ArePathsApart};
+ghost use Rattle.keep_edit_spec.specs.Runs.{AreApart, IsNoStep, PassesBy, PassesByPaths};
 ghost use Rattle.keep_edit_plan.specs.Headers.{key_texts};
-ghost use Rattle.keep_path.specs.Path.{beside, strip};
+ghost use Rattle.keep_path.specs.Path.{beside, key, strip};
 
 use keep_edit_plan::Edit;
-use keep_rules::Path;
+use keep_rules::{Path, Step};
 
 /// Whether two paths agree in so many steps from the first on. The last of them are compared first: paths of one list
 /// often begin alike.
@@ -50,10 +51,31 @@ fn is_renamed_alike(path: &Path, key: &str, other: &Path, other_key: &str) -> bo
 }
 
 /// Whether a rename of the second path can be made as if the first were not renamed before it.
-fn are_apart(path: &Path, key: &str, other: &Path, other_key: &str) -> bool
+fn are_renamed_apart(path: &Path, key: &str, other: &Path, other_key: &str) -> bool
     ensures { Decides result (ArePathsApart path.now key.now other.now other_key.now) }
 {
     !is_within(other, path) && !is_renamed_alike(path, key, other, other_key)
+}
+
+/// Whether neither of two paths is the other or below it.
+fn are_apart(path: &Path, other: &Path) -> bool
+    ensures { Decides result (AreApart path.now other.now) }
+{
+    !is_within(other, path) && !is_within(path, other)
+}
+
+/// Whether no step of a path is this key.
+fn lacks_step(path: &Path, key: &str) -> bool
+    ensures { Decides result (IsNoStep key.now path.now) }
+{
+    for number in 0..path.len() {
+        if let Some(Step::Key(own)) = path.step(number) {
+            if own.as_str() == key {
+                return false;
+            }
+        }
+    }
+    true
 }
 
 /// Whether two lists of keys agree as far as both go. The last of these are compared first, as in `agree`.
@@ -83,30 +105,111 @@ fn are_same_or_apart(keys: &[String], more: &[String]) -> bool
     keys.len() == more.len() || !keys_agree(keys, more)
 }
 
-/// Whether two edits are of one kind of those that are made at once, and their paths apart where that matters.
-fn are_of_one_kind(edit: &Edit, other: &Edit) -> bool
-    ensures { Decides result (AreOfOneKind edit.now other.now) }
+/// Whether neither of two lists of keys are the first of the other.
+fn are_keys_apart(keys: &[String], more: &[String]) -> bool
+    ensures { Decides result (AreApart (map key (key_texts keys.now)) (map key (key_texts more.now))) }
+{
+    !keys_agree(keys, more)
+}
+
+/// How many keys come before the rest of some, where these begin with the keys of so many steps of a path; None where
+/// they don't.
+fn keys_on_path(keys: &[String], path: &Path, count: usize) -> Option<usize>
+    requires { count ≤ length path.now }
+    ensures rest { option_map (rest_from keys.now) result ≡ rest_after keys.now (take count path.now) }
+    ensures few { IfSome result (λ n. n ≤ length keys.now) }
+{
+    let mut next = 0;
+    for number in 0..count {
+        let Some(Step::Key(own)) = path.step(number) else {
+            continue;
+        };
+        if next == keys.len() || keys[next].as_str() != own.as_str() {
+            return None;
+        }
+        next += 1;
+    }
+    Some(next)
+}
+
+/// Whether no header of these keys is that of a path, or of a table below it.
+fn passes_by(keys: &[String], path: &Path) -> bool
+    ensures { Decides result (PassesBy (key_texts keys.now) path.now) }
+{
+    keys_on_path(keys, path, path.len()).is_none()
+}
+
+/// The same of the path with another key in place of its last step.
+fn passes_by_renamed(keys: &[String], path: &Path, key: &str) -> bool
+    ensures { Decides result (PassesBy (key_texts keys.now) (beside path.now key.now)) }
+{
+    match keys_on_path(keys, path, path.len().saturating_sub(1)) {
+        Some(next) => next == keys.len() || keys[next].as_str() != key,
+        None => true,
+    }
+}
+
+/// Whether a header of these keys passes by all paths of an edit.
+fn passes_by_paths(keys: &[String], edit: &Edit) -> bool
+    ensures { Decides result (PassesByPaths (key_texts keys.now) (outline edit.now)) }
+{
+    match edit {
+        Edit::Insert(path, _) | Edit::Remove(path) | Edit::Set(path, _) => passes_by(keys, path),
+        Edit::Rename(path, key) => {
+            passes_by(keys, path) && passes_by_renamed(keys, path, key.as_str())
+        }
+        Edit::Table(_) | Edit::Element(_) => false,
+    }
+}
+
+/// Whether an edit leaves alone another, which comes after it.
+#[inline(always)]
+fn leaves_alone(edit: &Edit, other: &Edit) -> bool
+    ensures { Decides result (LeavesAlone edit.now other.now) }
 {
     match (edit, other) {
+        (Edit::Remove(_), Edit::Remove(_)) | (Edit::Set(_, _), Edit::Set(_, _)) => true,
         (Edit::Insert(path, _), Edit::Insert(other, _)) => !is_same(path, other),
         (Edit::Rename(path, key), Edit::Rename(other, other_key)) => {
-            are_apart(path, key.as_str(), other, other_key.as_str())
+            are_renamed_apart(path, key.as_str(), other, other_key.as_str())
         }
         (Edit::Table(keys), Edit::Table(more)) => !are_same_keys(keys.as_slice(), more.as_slice()),
         (Edit::Element(keys), Edit::Element(more)) => {
             are_same_or_apart(keys.as_slice(), more.as_slice())
         }
-        (Edit::Remove(_), Edit::Remove(_)) | (Edit::Set(_, _), Edit::Set(_, _)) => true,
-        _ => false,
+        (Edit::Table(keys), Edit::Element(more)) | (Edit::Element(keys), Edit::Table(more)) => {
+            are_keys_apart(keys.as_slice(), more.as_slice())
+        }
+        (
+            Edit::Table(keys) | Edit::Element(keys),
+            Edit::Insert(_, _) | Edit::Remove(_) | Edit::Set(_, _) | Edit::Rename(_, _),
+        ) => passes_by_paths(keys.as_slice(), other),
+        (
+            Edit::Insert(_, _) | Edit::Remove(_) | Edit::Set(_, _) | Edit::Rename(_, _),
+            Edit::Table(keys) | Edit::Element(keys),
+        ) => passes_by_paths(keys.as_slice(), edit),
+        (
+            Edit::Rename(path, key),
+            Edit::Insert(other, _) | Edit::Remove(other) | Edit::Set(other, _),
+        ) => are_apart(path, other) && lacks_step(other, key.as_str()),
+        (
+            Edit::Insert(path, _) | Edit::Remove(path) | Edit::Set(path, _),
+            Edit::Rename(other, key),
+        ) => are_apart(path, other) && lacks_step(path, key.as_str()),
+        (Edit::Insert(path, _), Edit::Remove(other) | Edit::Set(other, _))
+        | (Edit::Remove(path), Edit::Insert(other, _) | Edit::Set(other, _))
+        | (Edit::Set(path, _), Edit::Insert(other, _) | Edit::Remove(other)) => {
+            are_apart(path, other)
+        }
     }
 }
 
-/// Whether each of these edits is of one kind with another that comes after them.
-pub fn are_all_of_one_kind(edits: &[Edit], other: &Edit) -> bool
-    ensures { Decides result (All (λ e. AreOfOneKind e other.now) edits.now) }
+/// Whether each of these edits leaves alone another that comes after them.
+pub fn all_leave_alone(edits: &[Edit], other: &Edit) -> bool
+    ensures { Decides result (All (λ e. LeavesAlone e other.now) edits.now) }
 {
     for edit in edits {
-        if !are_of_one_kind(edit, other) {
+        if !leaves_alone(edit, other) {
             return false;
         }
     }

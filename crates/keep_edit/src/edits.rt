@@ -82,9 +82,9 @@ impl Document {
 
     /// Makes all edits in their order, each on the document after those before it; or none of them: after a refusal the
     /// document is as before. More than one are made on a copy, which is read of the document's text once; then each
-    /// edit reads the lines that it touches. Where many inserts that add lines or items come in a row, or many removes
-    /// that take lines, they are made at once, and the text is read anew after them. An empty list takes no memory. The
-    /// document's own allocator gives the memory.
+    /// edit reads the lines that it touches. Where many come in a row that leave one another alone, they are made at
+    /// once, and the text is read anew after them. An empty list takes no memory. The document's own allocator gives
+    /// the memory.
     ///
     /// # Errors
     ///

@@ -33,8 +33,8 @@
 //!
 //! **What it costs.** Reading goes over the text once. Of a new text an edit scans the lines that it touches: in a
 //! document of 1 MB a `set` of a scalar by a scalar and a `rename` take some 0.4 % of a reading, an `insert` or a
-//! `remove` of a line 4 %. Of a list of edits `apply_all` makes many inserts of lines or items in a row, or removes of
-//! lines, at once, and reads the text anew after them. Who wants no more than the new text calls `text_with` and its
+//! `remove` of a line 4 %. Of a list of edits `apply_all` makes many in a row at once that leave one another alone,
+//! and reads the text anew after them. Who wants no more than the new text calls `text_with` and its
 //! like, which read nothing anew. A question that answers without an allocator takes no memory.
 //!
 //! **What it does not promise.** Time; how much memory is taken; that memory is there. Out of memory is a fault of its
@@ -51,6 +51,7 @@ mod patch;
 mod planned;
 mod runs;
 mod seen;
+mod seen_paths;
 
 pub use document::{Counts, Document, Entry};
 pub use keep_edit_plan::{Edit, TextEdit};

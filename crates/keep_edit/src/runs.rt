@@ -1,33 +1,83 @@
-//! Edits of a list in their order. Where many of one kind come in a row, and each makes its change elsewhere, they are
-//! made at once: each is known by the document before all of them.
-ghost use Rattle.std.specs.Prelude.{◌≡◌, ◌+◌, ◌<◌, ◌≤◌, ◌↔◌, ℕ, All, IfErr, IfOk, IfSome, List, MatchResult, Some};
+//! Edits of a list in their order. Where many come in a row that each make their change elsewhere, and leave one
+//! another alone, they are made at once: each is known by the document before all of them.
+ghost use Rattle.std.specs.Prelude.{◌≡◌, ◌≢◌, ◌+◌, ◌<◌, ◌≤◌, ◌↔◌, ℕ, All, IfErr, IfOk, IfSome, List, MatchResult, Some};
 ghost use Rattle.std.specs.Prelude.{length, slice_get, take};
 ghost use Rattle.std.specs.Bool.{Decides};
 ghost use Rattle.keep_syntax.specs.Tree as tree;
 ghost use Rattle.keep_edit.specs.Lists.{AreMade, StopsAt};
 ghost use Rattle.keep_edit.specs.Reading.{ProfiledText};
-ghost use Rattle.keep_edit.specs.Runs.{AddsItemHere, MakeChanges, changed_text};
+ghost use Rattle.keep_edit.specs.Runs.{AddsItemHere, MakeChanges, changed_text, outline, writes_anew};
 ghost use Rattle.keep_edit_plan.specs.TextEdits.{IsChangeIn};
 ghost use Rattle.keep_edit_spec.specs.AddedItems.{item_path};
+ghost use Rattle.keep_edit_spec.specs.Runs as runs;
+ghost use Rattle.keep_edit_spec.specs.Runs.{IsPlain};
 ghost use Rattle.keep_path.specs.Path.{Part, index};
 
-use crate::alike::{agree, are_all_of_one_kind};
+use crate::alike::{agree, all_leave_alone};
 use crate::document::Document;
 use crate::seen::SeenKeys;
+use crate::seen_paths::SeenPaths;
 use keep_edit_plan::{Edit, TextEdit, TextEdits};
 use keep_edit_spec::EditFault;
 use keep_rules::{Path, Step};
+use memchr::memchr;
 
 /// No more edits than these are made at once, since the path of each may be compared with all those before it.
 const MOST_AT_ONCE: usize = 500;
-/// No insert or rename of a longer path, in bytes, is made at once with others, so that comparing them takes no longer.
+/// No edit of a longer path, in bytes, is made at once with others where its path is compared, so that this takes no
+/// longer.
 const LONGEST_PATH: usize = 128;
+/// What it takes to read a text anew, in parts of it.
+const READING: usize = 1000;
 
-/// Whether an edit has a path that would take long to compare.
+/// Whether an edit has a path that would take long to compare with those of its kind.
 fn has_long_path(edit: &Edit) -> bool {
     match edit {
         Edit::Insert(path, _) | Edit::Rename(path, _) => path.encoded_len() > LONGEST_PATH,
         _ => false,
+    }
+}
+
+/// Whether an edit has a path that would take long to compare with any.
+fn has_long_path_among_all(edit: &Edit) -> bool {
+    match edit {
+        Edit::Remove(path) | Edit::Set(path, _) => path.encoded_len() > LONGEST_PATH,
+        _ => has_long_path(edit),
+    }
+}
+
+/// Whether a text has no carriage return.
+fn is_plain(text: &str) -> bool
+    ensures { Decides result (IsPlain text.now) }
+{
+    memchr(b'\r', text.as_bytes()).is_none()
+}
+
+/// Whether an edit is an insert.
+fn is_insert(edit: &Edit) -> bool
+    ensures { result ≡ runs.is_insert (outline edit.now) }
+{
+    matches!(edit, Edit::Insert(_, _))
+}
+
+/// Whether an edit writes a line or a header with a newline of its own.
+fn writes_anew(edit: &Edit) -> bool
+    ensures { result ≡ writes_anew edit.now }
+{
+    matches!(edit, Edit::Insert(_, _) | Edit::Table(_) | Edit::Element(_))
+}
+
+/// Whether the second edit is there and of another kind.
+fn is_other_kind(edit: &Edit, other: Option<&Edit>) -> bool {
+    match (edit, other) {
+        (_, None)
+        | (Edit::Insert(_, _), Some(Edit::Insert(_, _)))
+        | (Edit::Remove(_), Some(Edit::Remove(_)))
+        | (Edit::Set(_, _), Some(Edit::Set(_, _)))
+        | (Edit::Rename(_, _), Some(Edit::Rename(_, _)))
+        | (Edit::Table(_), Some(Edit::Table(_)))
+        | (Edit::Element(_), Some(Edit::Element(_))) => false,
+        _ => true,
     }
 }
 
@@ -79,7 +129,7 @@ impl Document {
     {
         let changes = self.changes_at_once(edits, first);
         let end = first + changes.len();
-        if changes.len() > self.fewest_at_once(&edits[first]) {
+        if end > first && self.is_worth_reading(&edits[first..end]) {
             if let Some(document) = self.with_changes(&changes) {
                 *self = document;
                 return Ok(end);
@@ -114,21 +164,31 @@ impl Document {
         Ok(end)
     }
 
-    /// From more such edits on it is worth while to make them at once. The text is read anew after them, which takes as
-    /// long as 12 to 24 inserts, removes or sets of a list that are made one by one, and as 27 renames or sets of a
-    /// scalar at 10 KB, 88 at 100 KB and some 190 from 256 KB on; headers are so cheap that they are worth it in small
-    /// texts alone.
-    fn fewest_at_once(&self, edit: &Edit) -> usize {
+    /// Whether edits take longer one by one than to read the text anew after all of them.
+    fn is_worth_reading(&self, edits: &[Edit]) -> bool {
+        let mut taken = 0usize;
+        for edit in edits {
+            taken = taken.saturating_add(self.part_of_reading(edit));
+        }
+        taken > READING
+    }
+
+    /// What it takes to make an edit alone, in parts of what it takes to read the text anew: that takes as long as 12
+    /// to 24 inserts, removes or sets of a list, and as 27 renames or sets of a scalar at 10 KB, 88 at 100 KB and some
+    /// 190 from 256 KB on; headers are so cheap that they are worth it in small texts alone.
+    fn part_of_reading(&self, edit: &Edit) -> usize {
         let len = self.text.len();
-        match edit {
+        let as_many = match edit {
             Edit::Set(_, value) if value.depth() > 0 => 23,
             Edit::Set(_, _) | Edit::Rename(_, _) => 20 + (len / 1500).min(170),
             Edit::Table(_) | Edit::Element(_) => 25 + len / 600,
             Edit::Insert(_, _) | Edit::Remove(_) => 23,
-        }
+        };
+        READING / as_many
     }
 
-    /// What the edits from number `first` on change in the text, as far as they can be made at once.
+    /// What the edits from number `first` on change in the text, as far as they can be made at once: of one kind, or of
+    /// several where those are few.
     fn changes_at_once(&self, edits: &[Edit], first: usize) -> TextEdits
         requires { first < length edits.now }
         ensures few { first + length result ≤ length edits.now }
@@ -136,10 +196,20 @@ impl Document {
         ensures within { All (IsChangeIn self.now.text) result }
     {
         let changes = self.changes_by(edits, first);
-        if changes.len() > 0 {
+        let end = first + changes.len();
+        if end == first {
+            return self.items_by(edits, first);
+        }
+        if self.is_worth_reading(&edits[first..end])
+            || !is_other_kind(&edits[first], edits.get(end))
+        {
             return changes;
         }
-        self.items_by(edits, first)
+        let of_kinds = self.changes_of_kinds(edits, first);
+        if of_kinds.len() > changes.len() {
+            return of_kinds;
+        }
+        changes
     }
 
     /// What the edits from number `first` on change in the text, as far as all are of one kind and each makes its
@@ -156,7 +226,7 @@ impl Document {
         for number in first..end {
             let edit = &edits[number];
             if has_long_path(edit)
-                || !(keys.leaves_alone(edit) || are_all_of_one_kind(&edits[first..number], edit))
+                || !(keys.leaves_alone(edit) || all_leave_alone(&edits[first..number], edit))
                 || !keys.add(edit).unwrap_or(false)
             {
                 return changes;
@@ -164,6 +234,48 @@ impl Document {
             let Some(change) = self.as_ref().change_by(self.alloc(), edit) else {
                 return changes;
             };
+            if !changes.add(change).unwrap_or(false) {
+                return changes;
+            }
+        }
+        changes
+    }
+
+    /// What the edits from number `first` on change in the text, as far as they leave one another alone, of whatever
+    /// kinds, and each makes its change beside those before it. Where memory is refused, there are fewer.
+    fn changes_of_kinds(&self, edits: &[Edit], first: usize) -> TextEdits
+        requires { first < length edits.now }
+        ensures few { first + length result ≤ length edits.now }
+        ensures made { MakeChanges edits.now first (first + length result) self.now result }
+        ensures within { All (IsChangeIn self.now.text) result }
+    {
+        let mut changes = TextEdits::new(self.alloc());
+        let mut paths = SeenPaths::new(self.alloc());
+        let mut is_text_plain = false;
+        let mut are_plain = true;
+        let end = edits.len().min(first.saturating_add(MOST_AT_ONCE));
+        for number in first..end {
+            let edit = &edits[number];
+            if has_long_path_among_all(edit)
+                || !(paths.leave_alone(edit) || all_leave_alone(&edits[first..number], edit))
+                || !paths.add(edit).unwrap_or(false)
+            {
+                return changes;
+            }
+            let Some(change) = self.as_ref().change_by(self.alloc(), edit) else {
+                return changes;
+            };
+            are_plain = are_plain && is_plain(change.new.as_str());
+            let at = change.place.start;
+            if writes_anew(edit) {
+                is_text_plain = is_text_plain || is_plain(self.text.as_str());
+                if !is_text_plain || !are_plain || changes.take_up_to(at) {
+                    return changes;
+                }
+            }
+            if is_insert(edit) && paths.has_header() && at == self.text.len() {
+                return changes;
+            }
             if !changes.add(change).unwrap_or(false) {
                 return changes;
             }

@@ -1,7 +1,7 @@
-//! The keys of edits that are made at once, by which most are known to leave alone those before them.
+//! The keys of edits of one kind that are made at once, by which most are known to leave alone those before them.
 ghost use Rattle.std.specs.Prelude.{◌≡◌, ◌↔◌, ℕ, IfOk, IsTrue, List, Some, option_copied, slice_get};
 ghost use Rattle.keep_edit_plan.specs.declared.edit.Edit.{Edit};
-ghost use Rattle.keep_edit.specs.Runs.{AreOfOneKind};
+ghost use Rattle.keep_edit.specs.Runs.{LeavesAlone};
 ghost use Rattle.keep_edit.specs.Seen.{EndsIn, GoesOn, HasKey, IsSeen};
 ghost use Rattle.keep_edit_plan.specs.Headers.{key_texts};
 ghost use Rattle.keep_path.specs.Path.{key};
@@ -12,7 +12,7 @@ use std::alloc::{AllocError, Global};
 use std::collections::HashSet;
 
 /// The last step of a path, if it is a key.
-fn last_key(path: &Path) -> Option<&str>
+pub fn last_key(path: &Path) -> Option<&str>
     ensures { (text : List ℕ) → (option_copied result ≡ Some text) ↔ EndsIn path.now (key text) }
 {
     match path.step(path.len().saturating_sub(1))? {
@@ -22,7 +22,7 @@ fn last_key(path: &Path) -> Option<&str>
 }
 
 /// The last key of a header.
-fn last_name(keys: &[String]) -> Option<&str>
+pub fn last_name(keys: &[String]) -> Option<&str>
     ensures { (text : List ℕ) → (option_copied result ≡ Some text) ↔ EndsIn (key_texts keys.now) text }
 {
     Some(keys.last()?.as_str())
@@ -86,7 +86,7 @@ impl<'a> SeenKeys<'a> {
 
     /// Whether an edit is known by its keys to leave alone each one whose keys were added.
     pub fn leaves_alone(&self, edit: &Edit) -> bool
-        ensures { IsTrue result → (other : Edit) → IsSeen self.now other → AreOfOneKind other edit.now }
+        ensures { IsTrue result → (other : Edit) → IsSeen self.now other → LeavesAlone other edit.now }
     {
         match (self.first, edit) {
             (Edit::Insert(_, _), Edit::Insert(path, _)) => self.lacks(last_key(path)),

@@ -7,17 +7,19 @@
 -- Theorems: `follow_order`: the list is in order for the search; `place_found`: where that ends; `left_of_beside`,
 -- `right_of_beside`, `room_beside`: the two leave room exactly if none overlaps; `all_insert`, `insert_change`: the
 -- list with one edit more; `none_written`, `next_change`, `one_written`: what is written before the first edit and with
--- one more.
+-- one more; `one_takes`: an edit that replaces the byte before a place.
 use Rattle.std.proofs.Common.{◌≡◌, ℕ, zero, suc, ◌+◌, ◌-◌, ◌<◌, ◌≤◌, true, false, List, [], ◌∷◌, ◌++◌, length}
 use Rattle.std.proofs.Common.{get_or, take, drop, insert, map, slice_range, string_bytes, All, leb}
 use Rattle.std.proofs.Common.{IsUtf8, IsCharBoundary, refl, sym, ap, ◌∙◌, subst, append_assoc, drop-cons, add-one}
 use Rattle.std.proofs.Common.{arith, leb-true, leb-false, lt-ltb, le-ltb, ◌⊎◌, inl, inr}
 use Rattle.std.proofs.lemmas.List.{drop-take, get_or-map, length-map}
 use Rattle.std.proofs.lemmas.List.Elements.{All-append, All-cons, All-drop, All-map, All-take}
-use Rattle.std.proofs.lemmas.Bool.{cases_lt}
+use Rattle.std.specs.List.{list_any}
+use Rattle.std.proofs.lemmas.Bool.{cases_lt, eq-eqb, or_right}
 use Rattle.std.proofs.lemmas.List.Sorted.{IsNonDecreasingBy-from_all_adjacent}
 use Rattle.std.proofs.lemmas.Str.{IsCharBoundary-start}
 use Rattle.std.specs.List.Sorted.{IsNonDecreasingBy, IsPartitionPoint}
+use Rattle.keep_edit_spec.specs.Runs.{takes_up_to}
 use Rattle.keep_edit_spec.specs.TextChanges.{Follow, IsBeside, TextChange, text_with, with_change}
 use Rattle.keep_edit_plan.specs.declared.text_edit.TextEdit.{TextEdit}
 use Rattle.keep_edit_plan.specs.TextEdits.{IsChangeIn, IsOrdered, change_of}
@@ -218,3 +220,23 @@ module _ (bytes : List ℕ) (all : List TextEdit) (out : List ℕ) (from i : ℕ
       (subst (λ (n : ℕ). IsWrittenTo bytes (map change_of all) new n rest) end
       (subst (λ (xs : List ℕ). IsWrittenTo bytes (map change_of all) xs (start + (t.place.end - start)) rest) (sym is)
       here))
+
+-- ---- an edit that replaces the byte before a place
+
+takes_it : (place : ℕ) (t : TextEdit) → t.place.start < t.place.end → t.place.end ≡ place
+    → takes_up_to place (change_of t) ≡ true
+takes_it place t some end =
+    let size : 0 < t.place.end - t.place.start = omega (arith, some) in
+    let ends : t.place.start + (t.place.end - t.place.start) ≡ place = omega (arith, some, end) in
+    rw (lt-ltb 0 (t.place.end - t.place.start) size) (eq-eqb (t.place.start + (t.place.end - t.place.start)) place ends)
+
+pub one_takes : (place : ℕ) (ts : List TextEdit) (n : ℕ) (t : TextEdit) → n < length ts → t ≡ get_or ts n t
+    → t.place.start < t.place.end → t.place.end ≡ place → list_any (takes_up_to place) (map change_of ts) ≡ true
+one_takes place [] n t lt is some end = absurd (omega (arith, lt))
+one_takes place (x ∷ ts) zero t lt is some end =
+    let here : takes_up_to place (change_of x) ≡ true =
+    subst (λ (y : TextEdit). takes_up_to place (change_of y) ≡ true) is (takes_it place t some end) in
+    rw here refl
+one_takes place (x ∷ ts) (suc n) t lt is some end =
+    let rest = one_takes place ts n t (omega (arith, lt)) is some end in
+    or_right (takes_up_to place (change_of x)) (list_any (takes_up_to place) (map change_of ts)) rest

@@ -24,7 +24,7 @@ pub record IsChangeIn (bytes : List ℕ) (c : TextChange) : Type 0 where
   pub starts : IsCharBoundary bytes c.at
   pub ends : IsCharBoundary bytes (c.at + c.size)
 
--- The edit makes this change of the document of this text, as it does in a run of its kind.
+-- The edit makes this change of the document of this text, as it does in a run.
 pub record MakesChangeHere (now : ProfiledText) (x : Edit) (t : TextEdit) : Type 0 where
   pub edit : law.Edit
   pub is : IsEdit x edit

@@ -1,4 +1,4 @@
-//! What an edit changes of a text, where that is known of it after others of its kind.
+//! What an edit changes of a text, where that is known of it after others that leave it alone.
 ghost use Rattle.std.specs.Prelude.{IfSome};
 ghost use Rattle.keep_edit_plan.specs.TextEdits.{IsPlannedHere, MakesChangeHere};
 
@@ -9,9 +9,9 @@ use crate::text_edit::TextEdit;
 use std::alloc::Global;
 
 impl<'a> DocumentRef<'a> {
-    /// What an edit changes of the text, if it makes the same change after other such edits of its kind: an insert that
-    /// adds a line, a remove that takes one, a set, a rename, and a header after a newline. None for any other edit,
-    /// where it is refused, and where memory was refused.
+    /// What an edit changes of the text, if it makes the same change after other such edits that leave it alone: an
+    /// insert that adds a line, a remove that takes one, a set, a rename, and a header after a newline. None for any
+    /// other edit, where it is refused, and where memory was refused.
     pub fn change_by(&self, alloc: Global, edit: &Edit) -> Option<TextEdit>
         ensures { IfSome result (MakesChangeHere self.now edit.now) }
     {

@@ -1,6 +1,8 @@
 //! Edits of one text.
 ghost use Rattle.std.specs.Prelude.{◌≡◌, ◌≤◌, [], All, IfOk, OnErr, if◌then◌else◌, length, map, string_bytes};
 ghost use Rattle.std.specs.Bool.{Decides};
+ghost use Rattle.std.specs.List.{list_any};
+ghost use Rattle.keep_edit_spec.specs.Runs.{takes_up_to};
 ghost use Rattle.keep_edit_spec.specs.TextChanges.{IsBeside, text_with, with_change};
 ghost use Rattle.keep_edit_plan.specs.TextEdits.{IsChangeIn, IsOrdered, change_of};
 
@@ -71,6 +73,18 @@ impl TextEdits {
             Ok(()) => Ok(true),
             Err(_) => Err(AllocError),
         }
+    }
+
+    /// Whether one of the edits replaces the byte before this place.
+    pub fn take_up_to(&self, place: usize) -> bool
+        ensures { result ≡ list_any (takes_up_to place) self.now }
+    {
+        for edit in self.edits.iter() {
+            if edit.place.start < edit.place.end && edit.place.end == place {
+                return true;
+            }
+        }
+        false
     }
 
     /// The text after the edits, in one allocation or a few. The only error is out of memory.

@@ -1,12 +1,18 @@
 -- Edits of a list that are known by the document before all of them: each makes its own change of that document's text.
-use Rattle.std.specs.Prelude.{◌≡◌, ◌≢◌, ⊤, ℕ, List, [], ◌∷◌, All, None}
+use Rattle.std.specs.Prelude.{◌≡◌, ◌≢◌, ◌⊎◌, ⊤, ℕ, ◌+◌, ◌==◌, nat_lt, Bool, true, false, not, ◌&&◌, ◌||◌, IsTrue}
+use Rattle.std.specs.Prelude.{List, [], ◌∷◌, length, map, All, Some, None, slice_get}
+use Rattle.std.specs.List.{list_any}
 use Rattle.keep_types.specs.declared.leaf.Profile.{Profile}
+use Rattle.keep_syntax.specs.Tree as tree
 use Rattle.keep_syntax.specs.Tree.{Document, text}
+use Rattle.keep_path.specs.Path.{Part, beside, key, strip}
 use Rattle.keep_edit_spec.specs.AddedLines.{AddsLine}
 use Rattle.keep_edit_spec.specs.AppendedHeaders.{AppendsElement, AppendsTable, AreSameOrApart}
 use Rattle.keep_edit_spec.specs.Edits.{Edit, append_element, append_table, edited_document, insert, place, remove}
 use Rattle.keep_edit_spec.specs.Edits.{rename, set}
 use Rattle.keep_edit_spec.specs.Laws.{IsEditable}
+use Rattle.keep_edit_spec.specs.Lines.{newline_of}
+use Rattle.keep_edit_spec.specs.Look.{keys_in}
 use Rattle.keep_edit_spec.specs.Refusals.{refusal}
 use Rattle.keep_edit_spec.specs.RemovedLines.{RemovesLine}
 use Rattle.keep_edit_spec.specs.RenamedKeys.{ArePathsApart, RenamesKey}
@@ -23,35 +29,124 @@ MakesChange profile limit s (rename path text) c = RenamesKey profile limit s pa
 MakesChange profile limit s (append_table keys) c = AppendsTable profile limit s keys c
 MakesChange profile limit s (append_element keys) c = AppendsElement profile limit s keys c
 
--- Two edits of one kind. Lines that are added have other paths, keys that are renamed paths apart, and headers of
--- tables other keys; those of elements the same keys, or keys apart.
-abbrev pub AreAlike : Edit → Edit → Type 0
-AreAlike (insert path value) (insert other more) = path ≢ other
-AreAlike (remove path) (remove other) = ⊤
-AreAlike (set path value) (set other more) = ⊤
-AreAlike (rename path text) (rename other more) = ArePathsApart path text other more
-AreAlike (append_table keys) (append_table more) = keys ≢ more
-AreAlike (append_element keys) (append_element more) = AreSameOrApart keys more
-AreAlike e f = ⊥
+-- neither path is the other or below it
+abbrev pub AreApart : List Part → List Part → Type 0
+AreApart path other = (strip path other ≡ None) × (strip other path ≡ None)
 
--- An edit makes its change after another that is alike made one beside it.
+-- no step of the path is that key
+abbrev pub IsNoStep : List ℕ → List Part → Type 0
+IsNoStep name path = (n : ℕ) → slice_get path n ≢ Some (key name)
+
+-- the path of an edit of what is there, or of what comes there; headers that are appended have none
+abbrev pub path_of : Edit → List Part
+path_of (set path value) = path
+path_of (insert path value) = path
+path_of (rename path name) = path
+path_of (remove path) = path
+path_of _ = []
+
+-- No header of these keys is that of the path, or of a table below it.
+abbrev pub PassesBy : List (List ℕ) → List Part → Type 0
+PassesBy keys path = strip (map key (keys_in path)) (map key keys) ≡ None
+
+-- the same of all paths of an edit
+abbrev pub PassesByPaths : List (List ℕ) → Edit → Type 0
+PassesByPaths keys (rename path name) = PassesBy keys path × PassesBy keys (beside path name)
+PassesByPaths keys e = PassesBy keys (path_of e)
+
+-- The first edit leaves the second alone. Of one kind, lines that are added have other paths, keys that are renamed
+-- paths apart, and headers of tables other keys; those of elements the same keys, or keys apart. Edits of two kinds
+-- have paths apart, and the new key of a rename is no step of the other path; a header passes by the paths of the other
+-- edit.
+abbrev pub LeavesAlone : Edit → Edit → Type 0
+LeavesAlone (insert path value) (insert other more) = path ≢ other
+LeavesAlone (remove path) (remove other) = ⊤
+LeavesAlone (set path value) (set other more) = ⊤
+LeavesAlone (rename path name) (rename other more) = ArePathsApart path name other more
+LeavesAlone (append_table keys) (append_table more) = keys ≢ more
+LeavesAlone (append_element keys) (append_element more) = AreSameOrApart keys more
+LeavesAlone (append_table keys) (append_element more) = AreApart (map key keys) (map key more)
+LeavesAlone (append_element keys) (append_table more) = AreApart (map key keys) (map key more)
+LeavesAlone (append_table keys) f = PassesByPaths keys f
+LeavesAlone (append_element keys) f = PassesByPaths keys f
+LeavesAlone e (append_table keys) = PassesByPaths keys e
+LeavesAlone e (append_element keys) = PassesByPaths keys e
+LeavesAlone (rename path name) f = AreApart path (path_of f) × IsNoStep name (path_of f)
+LeavesAlone e (rename other name) = AreApart (path_of e) other × IsNoStep name (path_of e)
+LeavesAlone e f = AreApart (path_of e) (path_of f)
+
+abbrev pub is_insert : Edit → Bool
+is_insert (insert path value) = true
+is_insert _ = false
+
+abbrev pub is_header : Edit → Bool
+is_header (append_table keys) = true
+is_header (append_element keys) = true
+is_header _ = false
+
+-- A new line or header after an edit of another kind: the document's first newline is the same then, and what is before
+-- the new bytes is not gone, nor comes anything there but a line.
+abbrev pub StaysPlaced : Document → Edit → TextChange → TextChange → Type 0
+StaysPlaced s e c d =
+    (newline_of (edited_document s e) ≡ newline_of s) × (is_insert e ≡ false → c.at + c.size ≢ d.at)
+
+abbrev pub is_new_after : Edit → Edit → Bool
+is_new_after e f = (is_insert f && not (is_insert e)) || (is_header f && not (is_header e))
+
+abbrev pub IsStillPlaced : Document → Edit → TextChange → Edit → TextChange → Type 0
+IsStillPlaced s e c f d = IsTrue (is_new_after e f) → StaysPlaced s e c d
+
+-- An edit makes its change after another that leaves it alone made one beside it.
 abbrev pub StillMakesChange : Type 0
 StillMakesChange =
     (profile : Profile) (limit : ℕ) (s : Document) (e : Edit) (c : TextChange) (f : Edit) (d : TextChange)
     → IsEditable profile limit s → MakesChange profile limit s e c → MakesChange profile limit s f d
-    → AreAlike e f → IsBeside c d → MakesChange profile limit (edited_document s e) f (moved c d)
+    → LeavesAlone e f → IsBeside c d → IsStillPlaced s e c f d
+    → MakesChange profile limit (edited_document s e) f (moved c d)
+
+-- ---- edits of several kinds
+
+-- no carriage return, so that each newline is a line feed
+abbrev pub IsPlain : List ℕ → Type 0
+IsPlain bytes = All (λ b. b ≢ 0x0D) bytes
+
+-- the change takes the byte before this one
+abbrev pub takes_up_to : ℕ → TextChange → Bool
+takes_up_to at c = nat_lt 0 c.size && (c.at + c.size == at)
+
+-- each newline is alike, and no change takes the byte before this one
+abbrev pub IsPlainBefore : List ℕ → List TextChange → ℕ → Type 0
+IsPlainBefore bytes changes at =
+    IsPlain bytes × All (λ d. IsPlain d.new) changes × (list_any (takes_up_to at) changes ≡ false)
+
+-- no header is appended, or this byte is not at the end, where one would come
+abbrev pub IsBeforeHeaders : List ℕ → List Edit → ℕ → Type 0
+IsBeforeHeaders bytes edits at = (list_any is_header edits ≡ false) ⊎ (at ≢ length bytes)
+
+-- A new line or header is written after these edits as before them, and after the same line.
+abbrev pub KeepsPlace : List ℕ → List Edit → List TextChange → Edit → TextChange → Type 0
+KeepsPlace bytes edits changes (insert path value) c =
+    All (λ e. IsTrue (is_insert e)) edits
+    ⊎ (IsPlainBefore bytes changes c.at × IsBeforeHeaders bytes edits c.at)
+KeepsPlace bytes edits changes (append_table keys) c =
+    All (λ e. IsTrue (is_header e)) edits ⊎ IsPlainBefore bytes changes c.at
+KeepsPlace bytes edits changes (append_element keys) c =
+    All (λ e. IsTrue (is_header e)) edits ⊎ IsPlainBefore bytes changes c.at
+KeepsPlace bytes edits changes e c = ⊤
 
 -- ---- a run of edits
 
 -- The document after these edits, each of which makes its change of the first document's text: the text is that of the
--- first with the changes, and an edit alike that makes a change beside them makes it still.
+-- first with the changes, and an edit that they leave alone makes its change beside them still.
 pub record IsRun (profile : Profile) (limit : ℕ) (s : Document) (edits : List Edit) (changes : List TextChange)
     (now : Document) : Type 0 where
+  pub first : IsEditable profile limit s
   pub editable : IsEditable profile limit now
   pub follow : Follow 0 changes
   pub text : text now ≡ text_with 0 (text s) changes
-  pub later : (e : Edit) (c : TextChange) → MakesChange profile limit s e c → All (λ f. AreAlike f e) edits
-      → All (λ d. IsBeside d c) changes → MakesChange profile limit now e (moved_past changes c)
+  pub later : (e : Edit) (c : TextChange) → MakesChange profile limit s e c → All (λ f. LeavesAlone f e) edits
+      → All (λ d. IsBeside d c) changes → KeepsPlace (tree.text s) edits changes e c
+      → MakesChange profile limit now e (moved_past changes c)
 
 -- one edit more: it is not refused, and the run is longer
 pub record IsRunLonger (profile : Profile) (limit : ℕ) (s : Document) (edits : List Edit) (changes : List TextChange)
@@ -67,5 +162,6 @@ abbrev pub RunGoesOn : Type 0
 RunGoesOn =
     (profile : Profile) (limit : ℕ) (s : Document) (edits : List Edit) (changes : List TextChange) (now : Document)
     (e : Edit) (c : TextChange)
-    → IsRun profile limit s edits changes now → MakesChange profile limit s e c → All (λ f. AreAlike f e) edits
-    → All (λ d. IsBeside d c) changes → IsRunLonger profile limit s edits changes now e c
+    → IsRun profile limit s edits changes now → MakesChange profile limit s e c → All (λ f. LeavesAlone f e) edits
+    → All (λ d. IsBeside d c) changes → KeepsPlace (text s) edits changes e c
+    → IsRunLonger profile limit s edits changes now e c

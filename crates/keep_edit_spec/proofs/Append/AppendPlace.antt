@@ -34,7 +34,7 @@ text_is s =
     ∙ ap (λ (t : List ℕ). ended_text s.ended ++ t)
     (text_of-append (line_leaves s.last) (token leaf.End []) ∙ append-nil (line_text s.last)))
 
-empty_text : (l : Line) → is_empty l ≡ true → line_text l ≡ []
+pub empty_text : (l : Line) → is_empty l ≡ true → line_text l ≡ []
 empty_text l h = ap text_of (by (line_leaves l) h)
   where
     by : (ws : List Written) → is_empty_list ws ≡ true → ws ≡ []
@@ -215,7 +215,7 @@ module _ (profile : Profile) (s : Document) (valid : IsDocument profile s) where
       ∙ ends_after (text_of (bom_leaves s.bom)) t some
 
   -- the last line has no bytes, and no line comes before it
-  none_written : s.ended ≡ [] → is_empty s.last ≡ true → is_bare_start (text s) ≡ true
+  pub none_written : s.ended ≡ [] → is_empty s.last ≡ true → is_bare_start (text s) ≡ true
   none_written none empty =
       let nothing : ended_text s.ended ++ line_text s.last ≡ [] =
       ap (λ (es : List Ended). ended_text es ++ line_text s.last) none ∙ empty_text s.last empty in
@@ -223,7 +223,7 @@ module _ (profile : Profile) (s : Document) (valid : IsDocument profile s) where
       ∙ no_text s.bom
 
   -- the last line has bytes
-  last_written : is_empty s.last ≡ false → (is_bare_start (text s) ≡ false) × (ends_in_newline (text s) ≡ false)
+  pub last_written : is_empty s.last ≡ false → (is_bare_start (text s) ≡ false) × (ends_in_newline (text s) ≡ false)
   last_written some =
       let long : 0 < length (line_text s.last) = line_some profile s.last valid.last some in
       let all : 0 < length (ended_text s.ended ++ line_text s.last) =
@@ -234,7 +234,7 @@ module _ (profile : Profile) (s : Document) (valid : IsDocument profile s) where
       )
 
   -- the last line has none, and lines with newlines come before it
-  lines_written : (e : Ended) (es : List Ended) → s.ended ≡ e ∷ es → is_empty s.last ≡ true
+  pub lines_written : (e : Ended) (es : List Ended) → s.ended ≡ e ∷ es → is_empty s.last ≡ true
       → (is_bare_start (text s) ≡ false) × (ends_in_newline (text s) ≡ true)
   lines_written e es are empty =
       let end = all_end profile e es (subst (λ (x : List Ended). AllByRecursion (IsEnded profile) x) are valid.ended) in

@@ -37,7 +37,7 @@ pub or_true : (a b : Bool) → b ≡ true → (a || b) ≡ true
 or_true true b h = refl
 or_true false b h = h
 
-some_named : (p : List Part) (ms : List Mention) → SomeOf (IsSolidAt p) ms → list_any (is_at p) ms ≡ true
+pub some_named : (p : List Part) (ms : List Mention) → SomeOf (IsSolidAt p) ms → list_any (is_at p) ms ≡ true
 some_named p [] h = absurd h
 some_named p (m ∷ ms) (inl h) =
     let e : same_path m.path p ≡ true =

@@ -300,7 +300,8 @@ pub under_below : (p : List Part) (ms : List Mention) → AllOf (IsUnder p) (map
 under_below p [] = tt
 under_below p (m ∷ ms) = ((m.path, strip-append p m.path), under_below p ms)
 
-under_run : (p : List Part) (mention_kind : MentionKind) (ms : List Mention) → AllOf (IsUnder p) (run p mention_kind ms)
+pub under_run : (p : List Part) (mention_kind : MentionKind) (ms : List Mention)
+    → AllOf (IsUnder p) (run p mention_kind ms)
 under_run p mention_kind ms = (([], ap (strip p) (sym (append-nil p)) ∙ strip-append p []), under_below p ms)
 
 -- what is exclusive allows the same

@@ -27,7 +27,7 @@ abbrev pub mapped : (List Part → List Part) → Option (List Part) → Option 
 mapped f None = None
 mapped f (Some x) = Some (f x)
 
-passing_map : (T : List Part → Bool) (f : List Part → List Part) (xs : List (List Part))
+pub passing_map : (T : List Part → Bool) (f : List Part → List Part) (xs : List (List Part))
     → last_passing T (map f xs) ≡ mapped f (last_passing (λ x. T (f x)) xs)
 passing_map T f [] = refl
 passing_map T f (x ∷ xs) =

@@ -46,7 +46,7 @@ later_few n i m h = elim (cases_lt i n) [
 
 -- ---- the document after the insert
 
-lines_put : (n : ℕ) (k : Ended) (es : List Ended) (last : Line) → n ≤ length es
+pub lines_put : (n : ℕ) (k : Ended) (es : List Ended) (last : Line) → n ≤ length es
     → map line_of (take n es ++ k ∷ drop n es) ++ last ∷ []
     ≡ take n (map line_of es ++ last ∷ []) ++ line_of k ∷ drop n (map line_of es ++ last ∷ [])
 lines_put zero k [] last h = refl
@@ -59,7 +59,7 @@ lines_put (suc n) k (e ∷ es) last h =
 -- ---- one line more, and a body's length
 
 -- of lines, from that of the lines after the first
-abbrev length_after : Content → ℕ → ℕ
+abbrev pub length_after : Content → ℕ → ℕ
 length_after x n = elim x [
   | blank ↦ more_lines false n
   | keyval name value ↦ more_lines true n
@@ -74,7 +74,7 @@ after_few (keyval name v) m n h = omega (arith, h)
 after_few (header b k a) m n h = omega arith
 after_few (element b k a) m n h = omega arith
 
-header_none : (x : Content) (m : ℕ) → is_header x ≡ true → length_after x m ≡ 0
+pub header_none : (x : Content) (m : ℕ) → is_header x ≡ true → length_after x m ≡ 0
 header_none blank m h = absurd cc
 header_none (keyval name v) m h = absurd cc
 header_none (header b k a) m h = refl
@@ -113,19 +113,19 @@ drop_none : (ls : List Line) → drop 0 ls ≡ ls
 drop_none [] = refl
 drop_none (l ∷ ls) = refl
 
-abbrev end_at : List Line → Option ℕ → Option ℕ
+abbrev pub end_at : List Line → Option ℕ → Option ℕ
 end_at ls o = elim o [ None ↦ None | Some i ↦ Some (body_end i ls) ]
 
 -- for a path that is not the root
-abbrev end_in : List Part → Reading → List Line → Option ℕ
+abbrev pub end_in : List Part → Reading → List Line → Option ℕ
 end_in a r ls = end_at ls (last_line (begins a) r ls)
 
 -- from the end among the lines after one line: that, or the end of the body which the line begins
-abbrev end_or : Bool → ℕ → Option ℕ → Option ℕ
+abbrev pub end_or : Bool → ℕ → Option ℕ → Option ℕ
 end_or b m None = cond b (Some (suc m)) None
 end_or b m (Some n) = Some (suc n)
 
-end_cons : (a : List Part) (r : Reading) (l : Line) (ls : List Line)
+pub end_cons : (a : List Part) (r : Reading) (l : Line) (ls : List Line)
     → end_in a r (l ∷ ls) ≡ end_or (begins a r l) (body_length ls) (end_in a (after_line r l) ls)
 end_cons a r l ls = by (last_line (begins a) (after_line r l) ls) (begins a r l)
   where
@@ -289,11 +289,11 @@ module _ (name : Name) (v : Value) where
   cut_at s (p ∷ ps) n h = cut_after (p ∷ ps) (lines s) (last_line (begins (p ∷ ps)) start (lines s)) n refl h
 
   -- for any path
-  abbrev end_among : List Part → List Line → Option ℕ
+  abbrev pub end_among : List Part → List Line → Option ℕ
   end_among [] ls = Some (body_length ls)
   end_among (p ∷ ps) ls = end_in (p ∷ ps) start ls
 
-  end_is_among : (s : Document) (a : List Part) → end_of s a ≡ end_among a (lines s)
+  pub end_is_among : (s : Document) (a : List Part) → end_of s a ≡ end_among a (lines s)
   end_is_among s [] = refl
   end_is_among s (p ∷ ps) = refl
 

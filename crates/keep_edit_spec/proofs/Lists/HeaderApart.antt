@@ -46,7 +46,7 @@ use Rattle.keep_edit_spec.proofs.Insert.LinesNamed.{counted}
 abbrev pub GoesNotOn : List (List ℕ) → List (List ℕ) → Type 0
 GoesNotOn keys more = (x : List ℕ) (xs : List (List ℕ)) → more ≡ keys ++ x ∷ xs → ⊥
 
-entered_keys : (tables : List (List Part)) (q : List Part) → keys_in (entered_path tables q) ≡ keys_in q
+pub entered_keys : (tables : List (List Part)) (q : List Part) → keys_in (entered_path tables q) ≡ keys_in q
 entered_keys tables q = by (0 == elements_of q tables)
   where
     by : (b : Bool) → keys_in (cond b q (q ++ index (elements_of q tables - 1) ∷ [])) ≡ keys_in q
@@ -58,7 +58,7 @@ one_key : (at : List Part) (k : List ℕ) → keys_in (at ++ key k ∷ []) ≡ k
 one_key at k = filter_map-append key_text at (key k ∷ [])
 
 -- the keys of a path on the way, and those after it
-keys_split : (at : List Part) (k : List ℕ) (ks all : List (List ℕ)) → keys_in at ++ k ∷ ks ≡ all
+pub keys_split : (at : List Part) (k : List ℕ) (ks all : List (List ℕ)) → keys_in at ++ k ∷ ks ≡ all
     → all ≡ keys_in (at ++ key k ∷ []) ++ ks
 keys_split at k ks all e =
     sym e ∙ sym (append_assoc (keys_in at) (k ∷ []) ks) ∙ ap (λ (x : List (List ℕ)). x ++ ks) (sym (one_key at k))
@@ -104,7 +104,7 @@ module _ (tables : List (List Part)) (role : Role) (q : List Part) where
           absurd cc
 
   -- where the way does not come
-  way_other : (at : List Part) (keys all : List (List ℕ)) → keys_in at ++ keys ≡ all → GoesNotOn (keys_in q) all
+  pub way_other : (at : List Part) (keys all : List (List ℕ)) → keys_in at ++ keys ≡ all → GoesNotOn (keys_in q) all
       → is_refused (marks (header_prefixes tables at keys)) role q ≡ false
   way_other at [] all e far = refl
   way_other at (k ∷ []) all e far = refl
@@ -127,11 +127,11 @@ module _ (tables : List (List Part)) (role : Role) (q : List Part) where
           (same_path-sound (at ++ key k ∷ []) q f)))
 
 -- the marks of a header
-abbrev own_marks : List (List Part) → List (List ℕ) → Role → List Mark
+abbrev pub own_marks : List (List Part) → List (List ℕ) → Role → List Mark
 own_marks tables keys role =
     marks (header_prefixes tables [] keys) ++ record { role = role; path = header_path tables [] keys } ∷ []
 
-passes_own : (tables : List (List Part)) (keys : List (List ℕ)) (own role : Role) (q : List Part)
+pub passes_own : (tables : List (List Part)) (keys : List (List ℕ)) (own role : Role) (q : List Part)
     → is_refused (marks (header_prefixes tables [] keys)) role q ≡ false
     → (header_path tables [] keys ≡ q → allows own role ≡ true)
     → is_refused (own_marks tables keys own) role q ≡ false
@@ -152,7 +152,7 @@ passes_own tables keys own role q way here =
 -- ---- a header, key by key
 
 -- what its last mark meets
-last_passes : (earlier : List Mark) (tables : List (List Part)) (role : Role) (at : List Part) (k : List ℕ)
+pub last_passes : (earlier : List Mark) (tables : List (List Part)) (role : Role) (at : List Part) (k : List ℕ)
     (ks : List (List ℕ)) → header_conflict earlier tables at (k ∷ ks) role ≡ None
     → is_refused earlier role (header_path tables at (k ∷ ks)) ≡ false
 last_passes earlier tables role at k [] h = by (is_refused earlier role (at ++ key k ∷ [])) h
@@ -175,7 +175,7 @@ last_passes earlier tables role at k (l ∷ ks) h =
 
 -- Of a header with these keys: at each path on its way as many elements are as before, and the new marks let headers
 -- through where none are.
-abbrev Onward : List Mark → List (List Part) → List (List Part) → List (List ℕ) → Type 0
+abbrev pub Onward : List Mark → List (List Part) → List (List Part) → List (List ℕ) → Type 0
 Onward own tables now all =
     (q : List Part) (x : List ℕ) (xs : List (List ℕ)) → all ≡ keys_in q ++ x ∷ xs
     → (elements_of q now ≡ elements_of q tables)
@@ -189,7 +189,7 @@ module _ (earlier own : List Mark) (tables now : List (List Part)) (role : Role)
       list_any-append (refuses (record { role = r; path = q })) earlier own
       ∙ ap (λ (b : Bool). b || is_refused own r q) h ∙ g
 
-  goes_on : (at : List Part) (k : List ℕ) (ks : List (List ℕ)) → keys_in at ++ k ∷ ks ≡ all
+  pub goes_on : (at : List Part) (k : List ℕ) (ks : List (List ℕ)) → keys_in at ++ k ∷ ks ≡ all
       → is_refused own role (header_path tables at (k ∷ ks)) ≡ false
       → header_conflict earlier tables at (k ∷ ks) role ≡ None
       → header_conflict (earlier ++ own) now at (k ∷ ks) role ≡ None
@@ -228,10 +228,10 @@ module _ (earlier own : List Mark) (tables now : List (List Part)) (role : Role)
 
 -- the marks on the way of a header that is let come, and its own
 module _ (tables now : List (List Part)) (k : List ℕ) (ks all : List (List ℕ)) where
-  abbrev own_path : List Part
+  abbrev pub own_path : List Part
   own_path = header_path tables [] (k ∷ ks)
 
-  onward_table : now ≡ tables → Onward (own_marks tables (k ∷ ks) Define) tables now all
+  pub onward_table : now ≡ tables → Onward (own_marks tables (k ∷ ks) Define) tables now all
   onward_table same q x xs e = (
     ap (elements_of q) same,
     λ none. passes_own tables (k ∷ ks) Define Through q (way_open tables Through q refl none [] (k ∷ ks)) (λ f. refl),
@@ -244,7 +244,7 @@ module _ (tables now : List (List Part)) (k : List ℕ) (ks all : List (List ℕ
       far x xs (e ∙ ap (λ (l : List (List ℕ)). l ++ x ∷ xs)
       (ap keys_in (sym same) ∙ path_keys tables [] k ks))
 
-  onward_element : now ≡ tables ++ own_path ∷ [] → GoesNotOn (k ∷ ks) all
+  pub onward_element : now ≡ tables ++ own_path ∷ [] → GoesNotOn (k ∷ ks) all
       → Onward (own_marks tables (k ∷ ks) Element) tables now all
   onward_element more far q x xs e = (
     ap (elements_of q) more ∙ by (same_path own_path q) refl,
@@ -260,7 +260,7 @@ module _ (tables now : List (List Part)) (k : List ℕ) (ks all : List (List ℕ
 
 -- ---- what is said with a header more
 
-no_reason : (o : Option Why) → option_map fault.Conflict o ≡ None → o ≡ None
+pub no_reason : (o : Option Why) → option_map fault.Conflict o ≡ None → o ≡ None
 no_reason None h = refl
 no_reason (Some w) h = absurd cc
 
@@ -268,7 +268,7 @@ module _ (ms : List Mention) where
   abbrev pub with_statement : Statement → List Mention
   with_statement st = ms ++ statement_mentions (end_reading ms) st
 
-  marks_with : (keys : List (List ℕ)) (role : Role) (last : List Mention)
+  pub marks_with : (keys : List (List ℕ)) (role : Role) (last : List Mention)
       → marks last ≡ record { role = role; path = header_path (tables_in ms) [] keys } ∷ []
       → marks (ms ++ (header_prefixes (tables_in ms) [] keys ++ last)) ≡ marks ms ++ own_marks (tables_in ms) keys role
   marks_with keys role last e =
@@ -277,7 +277,7 @@ module _ (ms : List Mention) where
       ∙ ap (λ (l : List Mark). marks ms ++ l)
       (filter_map-append mark_of way last ∙ ap (λ (l : List Mark). marks way ++ l) e)
 
-  tables_with : (keys : List (List ℕ)) (last : List Mention)
+  pub tables_with : (keys : List (List ℕ)) (last : List Mention)
       → tables_in (ms ++ (header_prefixes (tables_in ms) [] keys ++ last)) ≡ tables_in ms ++ tables_in last
   tables_with keys last =
       let way : List Mention = header_prefixes (tables_in ms) [] keys in

@@ -255,18 +255,18 @@ stays_framed at from qs qs' outer left right c e h =
     subst (λ (n : ℕ). PartsStay n (length c.old) (length c.new) qs qs') same h
 
 -- of a change that is a cut of the text too
-cut_within : {A B : Type 0} (f : A → List ℕ) (x : A) (P : Changed A → Type 0) (Q : Changed B → Type 0) (outer : A → B)
-    (left right : List ℕ) (o : Option (Changed A))
+cut_within : {A B : Type 0} (f : A → List ℕ) (x : A) (P : Changed A → Type 0) (Q : Changed B → Type 0)
+    (outer : A → B) (left right : List ℕ) (o : Option (Changed A))
     → ((c : Changed A) → IsChangeOf f x c → P c → Q (framed_change outer left right c)) → EachIs f x o → EachOf P o
     → EachOf Q (within outer left right o)
 cut_within f x P Q outer left right None g is h = tt
 cut_within f x P Q outer left right (Some c) g is h = g c is h
 
-record IsCutLong {A : Type 0} (text : A → List ℕ) (x : A) (c : Changed A) : Type 0 where
-  fits : length c.before + length c.old ≤ length (text x)
-  grown : length (text c.to) + length c.old ≡ length (text x) + length c.new
+pub record IsCutLong {A : Type 0} (text : A → List ℕ) (x : A) (c : Changed A) : Type 0 where
+  pub fits : length c.before + length c.old ≤ length (text x)
+  pub grown : length (text c.to) + length c.old ≡ length (text x) + length c.new
 
-cut_long : {A : Type 0} (text : A → List ℕ) (x : A) (c : Changed A) → IsChangeOf text x c → IsCutLong text x c
+pub cut_long : {A : Type 0} (text : A → List ℕ) (x : A) (c : Changed A) → IsChangeOf text x c → IsCutLong text x c
 cut_long text x c cut =
     let was : length (text x) ≡ length c.before + (length c.old + length c.after) =
     three (text x) c.before c.old c.after cut.was in
@@ -692,7 +692,7 @@ line_long l =
       width-append (content_leaves l.content) (l.after ++ comment_leaves l.comment),
     )
 
-ended_long : (e : Ended) → width (ended_leaves e) ≡ length (line_text e.line) + length e.newline.text
+pub ended_long : (e : Ended) → width (ended_leaves e) ≡ length (line_text e.line) + length e.newline.text
 ended_long e =
     omega (arith, width-append (line_leaves e.line) (e.newline ∷ []), length-append e.newline.text [])
 

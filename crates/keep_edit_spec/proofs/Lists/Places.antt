@@ -7,7 +7,7 @@
 -- has none in it, or if a line comes before the new one.
 --
 -- Theorems: `place_is`, `edited_is`, `newline_stays`, `place_stays`; `place_moves`: the same of any insert that leaves
--- the newline; `scalar_quiet`: a scalar has no newline in it.
+-- the newline; `scalar_quiet`: a scalar has no newline in it; `item_none`.
 use Rattle.std.proofs.Common.{◌≡◌, ℕ, zero, suc, ◌+◌, ◌-◌, ◌<◌, ◌≤◌, Bool, true, false, cond, List, [], ◌∷◌, ◌++◌}
 use Rattle.std.proofs.Common.{length, take, drop, refl, sym, ap, subst, ◌∙◌, append_assoc, length-append, arith}
 use Rattle.std.proofs.Common.{Option, Some, None, inl, inr}
@@ -47,7 +47,7 @@ abbrev pub later_line : ℕ → ℕ → ℕ
 later_line n i = if nat_lt i n then i else suc i
 
 -- a path that ends in a key is of no item
-item_none : (path a : List Part) (text : List ℕ) → path ≡ a ++ key text ∷ [] → (ms : List Mention)
+pub item_none : (path a : List Part) (text : List ℕ) → path ≡ a ++ key text ∷ [] → (ms : List Mention)
     → item_number path ms ≡ None
 item_none path a text one ms = rw (ap last_part one ∙ last_pushed a (key text), item_number) refl
 
@@ -91,7 +91,7 @@ module _ (s : Document) (path : List Part) (value : Value) (text : List ℕ) (n 
   here : IsPutHere n (line ∷ []) (newline_of s) s.ended s.last
   here = put_here n (line ∷ []) (newline_of s) s.ended s.last few
 
-  changes : change s (insert path value) ≡ at_line s n (keyval (name_with (text ∷ [])) value ∷ [])
+  pub changes : change s (insert path value) ≡ at_line s n (keyval (name_with (text ∷ [])) value ∷ [])
   changes = change_here s path value n no_item ends
       ∙ ap (λ (ps : List Part). at_line s n (new_keyval ps value ∷ []))
       (ap (drop (length (holder path (mentions_in s)))) one
@@ -293,11 +293,11 @@ module _ (profile : Profile) (limit : ℕ) (s : Document) (path : List Part) (va
       (length (text_of (bom_leaves s.bom) ++ ended_text (take h.number s.ended))) (text_of (ended_leaves added))
   placed_at = place_is s path value h.text h.number no_item h.one h.ends h.closed
 
-  at_is : l.at ≡ length (text_of (bom_leaves s.bom)) + width (take h.number s.ended)
+  pub at_is : l.at ≡ length (text_of (bom_leaves s.bom)) + width (take h.number s.ended)
   at_is = ap (λ (p : Place). p.start) (sym h.is ∙ placed_at)
       ∙ length-append (text_of (bom_leaves s.bom)) (ended_text (take h.number s.ended))
 
-  line_is : l.new ≡ text_of (ended_leaves added)
+  pub line_is : l.new ≡ text_of (ended_leaves added)
   line_is = ap (λ (p : Place). p.new) (sym h.is ∙ placed_at)
 
   pub newline_stays : IsEditable profile limit s → (first_newline (value_leaves value) ≡ None) ⊎ (0 < h.number)

@@ -31,13 +31,13 @@ use Rattle.keep_edit_spec.proofs.Common.Runs.{Rules, strip-append}
 use Rattle.keep_edit_spec.proofs.Common.SetDocument.{whole_mentions}
 use Rattle.keep_edit_spec.proofs.Remove.RemoveLines.{IsOwnLine, own_line}
 use Rattle.keep_edit_spec.proofs.Lists.BodyEnds.{later_before, later_from, later_suc}
-use Rattle.keep_edit_spec.proofs.Lists.OtherPaths.{node_kinds}
 use Rattle.keep_edit_spec.proofs.Lists.Places.{later_line}
 use Rattle.keep_edit_spec.proofs.Lists.RemovedPlaces.{mine}
+use Rattle.keep_edit_spec.proofs.Lists.SaidOfPrefixes.{node_kinds}
 
 -- ---- the last line that passes
 
-abbrev last_or : Bool → Option ℕ → Option ℕ
+abbrev pub last_or : Bool → Option ℕ → Option ℕ
 last_or b o = elim o [ Some n ↦ Some (suc n) | None ↦ cond b (Some zero) None ]
 
 pub last_without : (test : Reading → Line → Bool) (r : Reading) (first : List Line) (l : Line) (more : List Line)
@@ -66,24 +66,24 @@ or_none : {A : Type 0} (a b : Option A) → or_else a b ≡ None → (a ≡ None
 or_none None b e = (refl, e)
 or_none (Some a) b e = absurd cc
 
-within_none : {A B : Type 0} (outer : A → B) (left right : List ℕ) (o : Option (Changed A))
+pub within_none : {A B : Type 0} (outer : A → B) (left right : List ℕ) (o : Option (Changed A))
     → within outer left right o ≡ None → o ≡ None
 within_none outer left right None e = refl
 within_none outer left right (Some c) e = absurd cc
 
 module _ (f : Reading → Line → Option (Changed Line)) (last : Line) where
-  abbrev here_in : Reading → Ended → List Ended → Option (Changed Line) → Option (Changed Page)
+  abbrev pub here_in : Reading → Ended → List Ended → Option (Changed Line) → Option (Changed Page)
   here_in r e es = within (λ l. record { ended = record { line = l; newline = e.newline } ∷ es; last = last }) []
       (e.newline.text ++ page_text (record { ended = es; last = last }))
 
-  abbrev later_in : Ended → Option (Changed Page) → Option (Changed Page)
+  abbrev pub later_in : Ended → Option (Changed Page) → Option (Changed Page)
   later_in e = within (λ b. record { ended = e ∷ b.ended; last = b.last }) (text_of (ended_leaves e)) []
 
-  record IsNone (r : Reading) (e : Ended) (es : List Ended) : Type 0 where
-    here : f r e.line ≡ None
-    later : in_lines f (after_line r e.line) es last ≡ None
+  pub record IsNone (r : Reading) (e : Ended) (es : List Ended) : Type 0 where
+    pub here : f r e.line ≡ None
+    pub later : in_lines f (after_line r e.line) es last ≡ None
 
-  none_parts : (r : Reading) (e : Ended) (es : List Ended) → in_lines f r (e ∷ es) last ≡ None → IsNone r e es
+  pub none_parts : (r : Reading) (e : Ended) (es : List Ended) → in_lines f r (e ∷ es) last ≡ None → IsNone r e es
   none_parts r e es h =
       let rest : Option (Changed Page) = in_lines f (after_line r e.line) es last in
       let both : (here_in r e es (f r e.line) ≡ None) × (later_in e rest ≡ None) =

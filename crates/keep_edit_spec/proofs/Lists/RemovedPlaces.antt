@@ -81,7 +81,7 @@ width_after (x ∷ first) e more =
       width_after first e more,
     )
 
-width_few : (n : ℕ) (es : List Ended) → width (take n es) ≤ width es
+pub width_few : (n : ℕ) (es : List Ended) → width (take n es) ≤ width es
 width_few zero [] = omega arith
 width_few (suc n) [] = omega arith
 width_few zero (e ∷ es) = omega arith
@@ -131,7 +131,7 @@ module _ (s : Document) (path : List Part) (n : ℕ)
       ])
       (nested removal path s)
 
-  changes : change s (remove path) ≡ without_lines s n 1
+  pub changes : change s (remove path) ≡ without_lines s n 1
   changes =
       ap₂ (λ (o : Option (Changed Page)) (p : Option ℕ).
       or_else (in_document s o) (or_else (elim p [ None ↦ None | Some i ↦ without_lines s i 1 ]) otherwise))
@@ -156,12 +156,12 @@ module _ (s : Document) (path : List Part) (n : ℕ)
       ap (λ (c : Option (Changed Document)). (changed_or_same s c).to) changes
       ∙ ap (λ (b : Page). record { bom = s.bom; ended = b.ended; last = b.last }) drops.to
 
-  before_is : width (take n s.ended) ≡ width cut.first
+  pub before_is : width (take n s.ended) ≡ width cut.first
   before_is =
       ap₂ (λ (k : ℕ) (es : List Ended). width (take k es)) cut.number cut.was
       ∙ width_before cut.first cut.here cut.more
 
-  after_is : width (take (suc n) s.ended) ≡ width cut.first + size cut.here
+  pub after_is : width (take (suc n) s.ended) ≡ width cut.first + size cut.here
   after_is =
       ap₂ (λ (k : ℕ) (es : List Ended). width (take (suc k) es)) cut.number cut.was
       ∙ width_after cut.first cut.here cut.more

@@ -29,7 +29,7 @@ use Rattle.keep_edit_spec.specs.TextChanges.{TextChange}
 use Rattle.keep_edit_spec.proofs.Common.LineLaws.{Cases, beyond, one_part, prefix_cases, within_first}
 use Rattle.keep_edit_spec.proofs.Common.Moves.{mentions_moved, moved}
 use Rattle.keep_edit_spec.proofs.Common.Runs.{AllOf, IsDisjoint, kinds_at-disjoint, none_or_some}
-use Rattle.keep_edit_spec.proofs.Lists.OtherPaths.{node_kinds}
+use Rattle.keep_edit_spec.proofs.Lists.SaidOfPrefixes.{node_kinds}
 use Rattle.keep_edit_spec.proofs.Rename.RenamedPath.{IsBeside, disjoint_renamed, strip_more}
 use Rattle.keep_edit_spec.proofs.Rename.RenameNodes.{IsClear, IsNodeRenamed, nodes_renamed}
 use Rattle.keep_edit_spec.proofs.Rename.RenameOnce.{counted, uncounted}
@@ -37,7 +37,7 @@ use Rattle.keep_edit_spec.proofs.Rename.RenameWhole.{IsRenamable, beside_is, ren
 
 -- ---- what is not refused
 
-unrefused : (profile : Profile) (limit : ℕ) (path : List Part) (text : List ℕ) (ms : List Mention)
+pub unrefused : (profile : Profile) (limit : ℕ) (path : List Part) (text : List ℕ) (ms : List Mention)
     → IsRenamable path text ms → refusal_by profile limit ms (rename path text) ≡ None
 unrefused profile limit path text ms h =
     by (is_node path ms) (is_root path) (ends_in_index path) (is_node (beside path text) ms) (mark_count path ms == 1)
@@ -55,10 +55,10 @@ kinds_with : (q : List Part) (m : Mention) (ms : List Mention) (b : Bool) → is
 kinds_with q m ms true e = rw e refl
 kinds_with q m ms false e = rw e refl
 
-abbrev role_count : List MentionKind → ℕ
+abbrev pub role_count : List MentionKind → ℕ
 role_count kinds = length (filter_map role_of kinds)
 
-mark_kinds : (q : List Part) (ms : List Mention) → mark_count q ms ≡ role_count (kinds_at q ms)
+pub mark_kinds : (q : List Part) (ms : List Mention) → mark_count q ms ≡ role_count (kinds_at q ms)
 mark_kinds q [] = refl
 mark_kinds q (m ∷ ms) = by (role_of m.kind) refl (is_at q m) refl (mark_kinds q ms)
   where
@@ -121,7 +121,7 @@ module _ (path b : List Part) (s s' : Document) (h : IsNodeRenamed path b s s') 
   abbrev now : List Mention
   now = mentions_in s'
 
-  kinds_stay : (q : List Part) → strip path q ≡ None → strip b q ≡ None → kinds_at q now ≡ kinds_at q ms
+  pub kinds_stay : (q : List Part) → strip path q ≡ None → strip b q ≡ None → kinds_at q now ≡ kinds_at q ms
   kinds_stay q apart clear =
       ap (kinds_at q) h.moved.mentioned
       ∙ ap (λ (p : List Part). kinds_at p (map (moved (moved_path path b)) ms)) (sym (disjoint_renamed path b q apart))

@@ -122,7 +122,7 @@ module _ (f : List Part → List Part) where
 
   -- a path that stays, where different paths stay different
   module _ (P : List Part → Type 0) (different : IsInjectiveOn P f) (q : List Part) (fits : P q) (stays : f q ≡ q) where
-    same_moved : (p : List Part) → P p → same_path (f p) q ≡ same_path p q
+    pub same_moved : (p : List Part) → P p → same_path (f p) q ≡ same_path p q
     same_moved p h = by (same_path (f p) q) (same_path p q) refl refl
       where
         by : (c d : Bool) → same_path (f p) q ≡ c → same_path p q ≡ d → c ≡ d
@@ -154,18 +154,18 @@ module _ (f : List Part → List Part) where
 -- ---- after a rename
 
 -- the numbers of a change that is at a place
-record IsChangeAt {A : Type 0} (c : TextChange) (x : Changed A) : Type 0 where
-  at : length x.before ≡ c.at
-  size : length x.old ≡ c.size
-  new : length x.new ≡ length c.new
+pub record IsChangeAt {A : Type 0} (c : TextChange) (x : Changed A) : Type 0 where
+  pub at : length x.before ≡ c.at
+  pub size : length x.old ≡ c.size
+  pub new : length x.new ≡ length c.new
 
-change_at : {A : Type 0} (c : TextChange) (x : Changed A) → place_of x ≡ place_of_change c → IsChangeAt c x
+pub change_at : {A : Type 0} (c : TextChange) (x : Changed A) → place_of x ≡ place_of_change c → IsChangeAt c x
 change_at c x e =
     let at : length x.before ≡ c.at = ap (λ (p : Place). p.start) e in
     let end : length x.before + length x.old ≡ c.at + c.size = ap (λ (p : Place). p.end) e in
     record { at = at; size = omega (arith, at, end); new = ap (λ (p : Place). length p.new) e }
 
-placed : (s : Document) (e : Edit) (x : Changed Document) (c : TextChange) → change s e ≡ Some x
+pub placed : (s : Document) (e : Edit) (x : Changed Document) (c : TextChange) → change s e ≡ Some x
     → place s e ≡ place_of_change c → place_of x ≡ place_of_change c
 placed s e x c is at = ap (λ (o : Option (Changed Document)). place_of (changed_or_same s o)) (sym is) ∙ at
 

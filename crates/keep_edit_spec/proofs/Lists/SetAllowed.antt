@@ -1,17 +1,19 @@
--- A set that is not refused is not refused after another set, if its path does not begin with the path of that one.
+-- A set that is not refused is not refused where the facts at its path and at the prefixes of it are as before.
 --
--- By the law of set the new document has the facts of the old one at each path that does not begin with the one that
--- was set (`fact_stays`). The other path does not, so none of its prefixes does (`prefix_clear`). So as many arrays and
--- inline tables enclose it as before (`enclosing_stays`), and it has a value as before, which makes it a node
--- (`node_alone`). That is all that a refusal asks of the document (`unrefused`, the converse of `settable`).
+-- As many arrays and inline tables enclose it as before, and it has a value as before, which makes it a node
+-- (`node_alone`). That is all that a refusal asks of the document (`unrefused`, the converse of `settable`). So it is
+-- after another set, if the path does not begin with the path of that one: by the law of set the new document has the
+-- facts of the old one at each path that does not begin with the one that was set (`fact_stays`). The other path does
+-- not, so none of its prefixes does (`prefix_clear`).
 --
--- Theorem: `set_allowed`.
+-- Theorems: `prefix_clear`; `set_kept`, `facts_kept`: where what a set asks, or where the facts stay; `set_allowed`:
+-- after another set.
 use Rattle.std.proofs.Common.{◌≡◌, ℕ, ◌+◌, Bool, true, false, not, List, [], ◌∷◌, ◌++◌, refl, sym, ap, subst, ◌∙◌}
 use Rattle.std.proofs.Common.{append_assoc, arith, Option, Some, None, inl, inr}
 use Rattle.std.specs.List.{list_any}
 use Rattle.std.proofs.lemmas.Bool.{le-ltb}
+use Rattle.std.proofs.lemmas.List.{append-nil}
 use Rattle.keep_types.specs.declared.leaf.Profile.{Profile}
-use Rattle.keep_types.specs.declared.leaf.Profile.TheVariants.{Wide}
 use Rattle.keep_syntax.specs.Tree.{Value, Document, value_depth}
 use Rattle.keep_syntax.specs.Profiles.{is_allowed_in}
 use Rattle.keep_path.specs.Path.{Part, same_path, strip}
@@ -21,7 +23,7 @@ use Rattle.keep_meaning.specs.Meaning.{mentions_in, mentions_of_value}
 use Rattle.keep_meaning.specs.Nodes.{fact_at, is_at, is_node, is_root}
 use Rattle.keep_edit_spec.specs.declared.fault.EditFault.TheVariants as fault
 use Rattle.keep_edit_spec.specs.Edits.{edited_document, set}
-use Rattle.keep_edit_spec.specs.Laws.{IsEditable, IsGivenValue, IsLawfulEdit}
+use Rattle.keep_edit_spec.specs.Laws.{IsEditable}
 use Rattle.keep_edit_spec.specs.Look.{enclosing, is_bracket_at}
 use Rattle.keep_edit_spec.specs.Refusals.{first_that_holds, has_value, is_too_deep, refusal, refusal_by}
 use Rattle.keep_edit_spec.specs.SetValues.{SetsValue}
@@ -63,7 +65,7 @@ node_alone path ms h = or_true (is_root path) (list_any (is_at path) ms) (some_t
 
 -- ---- what is no prefix of a path is none of a prefix of it
 
-prefix_clear : (path other q rest : List Part) → strip path other ≡ None → other ≡ q ++ rest → strip path q ≡ None
+pub prefix_clear : (path other q rest : List Part) → strip path other ≡ None → other ≡ q ++ rest → strip path q ≡ None
 prefix_clear path other q rest clear is = elim (none_or_some (strip path q)) [
   | inl e ↦ e
   | inr r ↦
@@ -73,46 +75,34 @@ prefix_clear path other q rest clear is = elim (none_or_some (strip path q)) [
       absurd cc
 ]
 
--- ---- after a set
+-- ---- where what it asks stays
 
 -- what is asked of a fact
-abbrev value_of : Option Fact → Bool
+abbrev pub value_of : Option Fact → Bool
 value_of None = false
 value_of (Some f) = is_value_fact f
 
-module _ (profile : Profile) (limit : ℕ) (s : Document) (path : List Part) (value : Value)
-    (editable : IsEditable profile limit s) (valued : IsGivenValue Wide value)
-    (allowed : refusal profile limit s (set path value) ≡ None) where
-  abbrev ms : List Mention
-  ms = mentions_in s
+module _ (profile : Profile) (limit : ℕ) (other : List Part) (more : Value) (ms now : List Mention) where
+  pub set_kept : has_value other now ≡ has_value other ms
+      → ((q : List Part) (k : Part) (qs : List Part) → other ≡ q ++ k ∷ qs → is_bracket_at now q ≡ is_bracket_at ms q)
+      → refusal_by profile limit ms (set other more) ≡ None → refusal_by profile limit now (set other more) ≡ None
+  set_kept same brackets allowed =
+      let was : IsSettable profile limit other more ms = settable profile limit other more ms allowed in
+      let there : has_value other now ≡ true = same ∙ was.valued in
+      unrefused profile limit other more now (record {
+        node = node_alone other now (alone_of_has other now there);
+        valued = there;
+        shallow = omega (arith, count_same (is_bracket_at now) (is_bracket_at ms) other brackets, was.shallow);
+        suits = was.suits;
+      })
 
-  abbrev now : List Mention
-  now = mentions_in (edited_document s (set path value))
+  pub facts_kept : ((q rest : List Part) → other ≡ q ++ rest → fact_at q now ≡ fact_at q ms)
+      → refusal_by profile limit ms (set other more) ≡ None → refusal_by profile limit now (set other more) ≡ None
+  facts_kept stays allowed =
+      set_kept (ap value_of (stays other [] (sym (append-nil other))))
+      (λ q k qs is. ap bracket_of (stays q (k ∷ qs) is)) allowed
 
-  law : IsLawfulEdit profile limit s (set path value)
-  law = set_lawful profile limit s path value editable valued allowed
-
-  fact_stays : (q : List Part) → strip path q ≡ None → fact_at q now ≡ fact_at q ms
-  fact_stays q clear = law.tree q ∙ ap (fact_from ms (mentions_of_value value)) by
-    where
-      by : source ms (set path value) q ≡ from q
-      by = rw (clear, source) refl
-
-  module _ (other : List Part) (clear : strip path other ≡ None) where
-    enclosing_stays : enclosing other now ≡ enclosing other ms
-    enclosing_stays =
-        count_same (is_bracket_at now) (is_bracket_at ms) other
-        (λ q k qs is. ap bracket_of (fact_stays q (prefix_clear path other q (k ∷ qs) clear is)))
-
-    settable_stays : (more : Value) → IsSettable profile limit other more ms → IsSettable profile limit other more now
-    settable_stays more h =
-        let there : has_value other now ≡ true = ap value_of (fact_stays other clear) ∙ h.valued in
-        record {
-          node = node_alone other now (alone_of_has other now there);
-          valued = there;
-          shallow = omega (arith, enclosing_stays, h.shallow);
-          suits = h.suits;
-        }
+-- ---- after a set
 
 pub set_allowed : (profile : Profile) (limit : ℕ) (s : Document) (path : List Part) (value : Value) (c : TextChange)
     (other : List Part) (more : Value) (d : TextChange)
@@ -120,6 +110,17 @@ pub set_allowed : (profile : Profile) (limit : ℕ) (s : Document) (path : List 
     → strip path other ≡ None → strip other path ≡ None
     → refusal profile limit (edited_document s (set path value)) (set other more) ≡ None
 set_allowed profile limit s path value c other more d editable h g clear apart =
-    unrefused profile limit other more (mentions_in (edited_document s (set path value)))
-    (settable_stays profile limit s path value editable h.given h.allowed other clear more
-    (settable profile limit other more (mentions_in s) g.allowed))
+    facts_kept profile limit other more ms (mentions_in (edited_document s (set path value)))
+    (λ q rest is. fact_stays q (prefix_clear path other q rest clear is)) g.allowed
+  where
+    ms : List Mention
+    ms = mentions_in s
+
+    fact_stays : (q : List Part) → strip path q ≡ None
+        → fact_at q (mentions_in (edited_document s (set path value))) ≡ fact_at q ms
+    fact_stays q e =
+        (set_lawful profile limit s path value editable h.given h.allowed).tree q
+        ∙ ap (fact_from ms (mentions_of_value value)) (by e)
+      where
+        by : strip path q ≡ None → source ms (set path value) q ≡ from q
+        by e = rw (e, source) refl

@@ -29,7 +29,6 @@ use Rattle.keep_meaning.specs.Counts.{is_value}
 use Rattle.keep_meaning.proofs.Shared.{valued-below, valued-entries, length-entries_values}
 use Rattle.keep_edit_spec.specs.Changed.{Changed, Place}
 use Rattle.keep_edit_spec.specs.Values.{replacement}
-use Rattle.keep_edit_spec.specs.Edits.{place}
 use Rattle.keep_edit_spec.specs.Laws.{IsEditable}
 use Rattle.keep_edit_spec.specs.Refusals.{has_value}
 use Rattle.keep_edit_spec.specs.TextChanges.{IsBeside, TextChange, place_of_change}

@@ -4,10 +4,11 @@
 -- other. `Stays` says of a change c and another change d of the same thing: what c gives has d too, with the same old
 -- and new text, either after c, moved by the bytes that c brings and takes, or before c, at the same place. It holds of
 -- two acts that are done at the end of their paths, by induction over entries (`entries_stay`), in a value
--- (`value_stays`), in a line (`line_stays`) and in all lines (`lines_stay`). Where the searches part, the length of the
+-- (`ends_stay`), in a line (`line_stays`) and in all lines (`lines_stay`). Where the searches part, the length of the
 -- text that is passed is known from the cut of the change in it (`first_stays`, `later_stays`).
 --
--- Theorems: `nested_stays`; of sets `set_stays`, `set_still`, `set_goes_on` and `set_place_stays`.
+-- Theorems: `either_stays`, `or_stays`: of the first of two changes that there is; `document_stays`, `acts_stay`,
+-- `nested_stays`; `still_place`, `place_after`: the place of an edit whose change stays; `set_place_stays`: of a set.
 use Rattle.std.proofs.Common.{◌≡◌, ℕ, ◌+◌, ◌<◌, ◌≤◌, List, [], ◌∷◌, ◌++◌, length, refl, sym, ap, ap₂, subst, ◌∙◌}
 use Rattle.std.proofs.Common.{append_assoc, length-append, arith, Option, Some, None, inl, inr}
 use Rattle.std.specs.Prelude.{◌⊎◌, ⊤}
@@ -22,8 +23,9 @@ use Rattle.keep_meaning.specs.Meaning.{step, after_line}
 use Rattle.keep_edit_spec.specs.Look.{strip}
 use Rattle.keep_edit_spec.specs.Changed.{Changed, IsChangeOf, framed_change, within, or_else, Place, place_of}
 use Rattle.keep_edit_spec.specs.Values.{Act, entry_prefix, entry_back, text_of_value, in_entries, in_value, replacement}
-use Rattle.keep_edit_spec.specs.Lines.{line_text, Page, page_text, with_page, page_of, in_lines, in_content, in_line}
-use Rattle.keep_edit_spec.specs.Edits.{set, nested, change, changed_or_same, edited_document, place}
+use Rattle.keep_edit_spec.specs.Lines.{line_text, Page, page_text, with_page, page_of, in_document, in_lines}
+use Rattle.keep_edit_spec.specs.Lines.{in_content, in_line}
+use Rattle.keep_edit_spec.specs.Edits.{Edit, set, nested, change, changed_or_same, edited_document, place}
 use Rattle.keep_edit_spec.specs.TextChanges.{TextChange, place_of_change, moved_by, moved}
 use Rattle.keep_edit_spec.proofs.Common.Runs.{strip-sound, strip_both}
 use Rattle.keep_edit_spec.proofs.Common.Texts.{EachIs, IsAct, text_of-append, in_value-is, replacement-is}
@@ -57,13 +59,31 @@ EachStays (Some c) f x = Stays c (f x) (f c.to)
 
 -- ---- a change of a part, seen from the whole
 
-stays_as : {A : Type 0} (c : Changed A) (o o' p p' : Option (Changed A)) → p ≡ o → p' ≡ o' → Stays c o o' → Stays c p p'
+pub stays_as : {A : Type 0} (c : Changed A) (o o' p p' : Option (Changed A)) → p ≡ o → p' ≡ o' → Stays c o o'
+    → Stays c p p'
 stays_as c o o' p p' e e' h =
     subst (λ (q : Option (Changed _)). Stays c q p') (sym e)
     (subst (λ (q : Option (Changed _)). Stays c o q) (sym e') h)
 
+-- of two changes the first that there is
+pub either_stays : {A : Type 0} (c : Changed A) (o o' p p' : Option (Changed A)) → Stays c o o' → Stays c p p'
+    → Stays c (or_else o p) (or_else o' p')
+either_stays c None o' p p' h k = subst (λ (q : Option (Changed _)). Stays c p (or_else q p')) (sym h) k
+either_stays c (Some d) o' p p' h k = record {
+  next = h.next;
+  is = ap (λ (q : Option (Changed _)). or_else q p') h.is;
+  old = h.old;
+  given = h.given;
+  place = h.place;
+}
+
+pub or_stays : {A : Type 0} (o : Option (Changed A)) (f g : A → Option (Changed A)) (x : A) → EachStays o f x
+    → EachStays o g x → EachStays o (λ y. or_else (f y) (g y)) x
+or_stays None f g x h k = tt
+or_stays (Some c) f g x h k = either_stays c (f x) (f c.to) (g x) (g c.to) h k
+
 -- both changes are of the same part
-framed_stays : {A B : Type 0} (outer : A → B) (left right : List ℕ) (c : Changed A) (o o' : Option (Changed A))
+pub framed_stays : {A B : Type 0} (outer : A → B) (left right : List ℕ) (c : Changed A) (o o' : Option (Changed A))
     → Stays c o o'
     → Stays (framed_change outer left right c) (within outer left right o) (within outer left right o')
 framed_stays outer left right c None o' h = ap (within outer left right) h
@@ -84,7 +104,7 @@ framed_stays outer left right c (Some d) o' h = record {
   ];
 }
 
-each_within : {A B : Type 0} (outer : A → B) (left right : List ℕ) (o : Option (Changed A))
+pub each_within : {A B : Type 0} (outer : A → B) (left right : List ℕ) (o : Option (Changed A))
     (f : A → Option (Changed A)) (g : B → Option (Changed B)) (x : A)
     → ((y : A) → g (outer y) ≡ within outer left right (f y)) → EachStays o f x
     → EachStays (within outer left right o) g (outer x)
@@ -95,7 +115,7 @@ each_within outer left right (Some c) f g x same h =
 
 -- ---- where the searches part
 
-length_cut : (t before mid after : List ℕ) → t ≡ before ++ (mid ++ after)
+pub length_cut : (t before mid after : List ℕ) → t ≡ before ++ (mid ++ after)
     → length t ≡ length before + (length mid + length after)
 length_cut t before mid after is =
     ap length is ∙ length-append before (mid ++ after)
@@ -108,7 +128,7 @@ length_past left t more before =
     ∙ ap (λ (n : ℕ). n + length before) (length_cut (left ++ (t ++ more)) left t more refl)
 
 -- The change c is of a part of this text, and the other of what comes after it.
-first_stays : {A B C : Type 0} (t : A → List ℕ) (x : A) (outer : A → B) (left right more : List ℕ) (c : Changed A)
+pub first_stays : {A B C : Type 0} (t : A → List ℕ) (x : A) (outer : A → B) (left right more : List ℕ) (c : Changed A)
     (inside inside' : C → B) (o : Option (Changed C)) → IsChangeOf t x c
     → Stays (framed_change outer left right c) (within inside (left ++ (t x ++ more)) [] o)
     (within inside' (left ++ (t c.to ++ more)) [] o)
@@ -131,7 +151,7 @@ first_stays t x outer left right more c inside inside' (Some d) h =
     }
 
 -- The other is of a part of this text, and the change c of what comes after it.
-later_stays : {A B C : Type 0} (t : A → List ℕ) (x : A) (inside inside' : A → B) (left right right' more : List ℕ)
+pub later_stays : {A B C : Type 0} (t : A → List ℕ) (x : A) (inside inside' : A → B) (left right right' more : List ℕ)
     (o : Option (Changed A)) (outer : C → B) (c : Changed C) → EachIs t x o
     → Stays (framed_change outer (left ++ (t x ++ more)) [] c) (within inside left right o)
     (within inside' left right' o)
@@ -152,7 +172,7 @@ later_stays t x inside inside' left right right' more (Some d) outer c h =
 -- ---- paths
 
 -- what is left of two paths parts as they do
-rest_none : (s path other more rest : List Part) → strip s path ≡ Some more → strip s other ≡ Some rest
+pub rest_none : (s path other more rest : List Part) → strip s path ≡ Some more → strip s other ≡ Some rest
     → strip path other ≡ None → strip more rest ≡ None
 rest_none s path other more rest e f h =
     sym (strip_both s more rest)
@@ -165,7 +185,7 @@ or_none None = refl
 or_none (Some x) = refl
 
 -- what an act that is done at the end of a path alone does in a value before that
-past_end : (act : Act) → IsAtEnd act → (p : Part) (ps : List Part) (v : Value)
+pub past_end : (act : Act) → IsAtEnd act → (p : Part) (ps : List Part) (v : Value)
     → in_value act (p ∷ ps) v ≡ within (λ es. record v { nested = es }) (text_of (opening v.body))
     (text_of (closing v.body)) (in_entries act (p ∷ ps) 0 v.nested)
 past_end act ends p ps v =
@@ -175,29 +195,174 @@ past_end act ends p ps v =
     (text_of (closing v.body)) (in_entries act (p ∷ ps) 0 v.nested))
 
 -- an entry's text up to the comma, with its value's text in the middle
-past_entry : (name : Option Name) (v : Value) (after : Gap) (comma : Option Gap)
+pub past_entry : (name : Option Name) (v : Value) (after : Gap) (comma : Option Gap)
     → entry_prefix name v.body v.nested ++ (text_of after ++ text_of (comma_leaves comma))
     ≡ text_of (named_leaves name) ++ (text_of_value v ++ (text_of after ++ text_of (comma_leaves comma)))
 past_entry name v after comma = simp (text_of-append, append_assoc) refl
 
-past_line : (l : Line) (newline : Written)
+pub past_line : (l : Line) (newline : Written)
     → text_of (ended_leaves (record { line = l; newline = newline })) ≡ line_text l ++ newline.text
 past_line l newline =
     text_of-append (line_leaves l) (newline ∷ []) ∙ ap (λ (t : List ℕ). line_text l ++ t) (append-nil newline.text)
 
--- Two acts that are done at the end of a path alone. The first makes the change c, the second the other.
-module _ (one two : Act) (is_one : IsAct one) (is_two : IsAct two) (ends : IsAtEnd one) (ends_two : IsAtEnd two) where
-  value_stays : (path other : List Part) → strip path other ≡ None → strip other path ≡ None → (v : Value)
-      → EachStays (in_entries one path 0 v.nested) (in_entries two other 0) v.nested
-      → EachStays (in_value one path v) (in_value two other) v
-  value_stays [] other h g v k = absurd cc
-  value_stays (p ∷ ps) [] h g v k = absurd cc
-  value_stays (p ∷ ps) (q ∷ qs) h g v k =
-      subst (λ (o : Option (Changed Value)). EachStays o (in_value two (q ∷ qs)) v) (sym (past_end one ends p ps v))
-      (each_within (λ es. record v { nested = es }) (text_of (opening v.body)) (text_of (closing v.body))
-      (in_entries one (p ∷ ps) 0 v.nested) (in_entries two (q ∷ qs) 0) (in_value two (q ∷ qs)) v.nested
-      (λ y. past_end two ends_two q qs (record v { nested = y })) k)
+-- What stays among a value's entries stays in the value.
+abbrev pub InValueStays : Act → Act → Type 0
+InValueStays one two = (path other : List Part) → strip path other ≡ None → strip other path ≡ None → (v : Value)
+    → EachStays (in_entries one path 0 v.nested) (in_entries two other 0) v.nested
+    → EachStays (in_value one path v) (in_value two other) v
 
+-- so it is with acts that are done at the end of a path alone
+ends_stay : (one two : Act) → IsAtEnd one → IsAtEnd two → InValueStays one two
+ends_stay one two ends ends_two [] other h g v k = absurd cc
+ends_stay one two ends ends_two (p ∷ ps) [] h g v k = absurd cc
+ends_stay one two ends ends_two (p ∷ ps) (q ∷ qs) h g v k =
+    subst (λ (o : Option (Changed Value)). EachStays o (in_value two (q ∷ qs)) v) (sym (past_end one ends p ps v))
+    (each_within (λ es. record v { nested = es }) (text_of (opening v.body)) (text_of (closing v.body))
+    (in_entries one (p ∷ ps) 0 v.nested) (in_entries two (q ∷ qs) 0) (in_value two (q ∷ qs)) v.nested
+    (λ y. past_end two ends_two q qs (record v { nested = y })) k)
+
+-- ---- in lines
+
+-- Two changes of lines. A line that the first changes is read as before, and the second's change of it stays.
+module _ (one two : Reading → Line → Option (Changed Line))
+    (is_one : (r : Reading) (l : Line) → EachIs line_text l (one r l))
+    (is_two : (r : Reading) (l : Line) → EachIs line_text l (two r l))
+    (keeps : (r : Reading) (l : Line) → EachTo (λ y. after_line r y ≡ after_line r l) (one r l))
+    (each : (r : Reading) (l : Line) → EachStays (one r l) (two r) l) where
+  lines_stay : (r : Reading) (es : List Ended) (last : Line)
+      → EachStays (in_lines one r es last) (λ (b : Page). in_lines two r b.ended b.last)
+      (record { ended = es; last = last })
+  lines_stay r [] last =
+      each_within (λ (l : Line). record { ended = []; last = l }) [] [] (one r last) (two r)
+      (λ (b : Page). in_lines two r b.ended b.last) last (λ y. refl) (each r last)
+  lines_stay r (e ∷ es) last =
+      by (one r e.line) (is_one r e.line) (keeps r e.line) (each r e.line)
+      (in_lines one (after_line r e.line) es last) (lines_stay (after_line r e.line) es last)
+    where
+      page : Page
+      page = record { ended = es; last = last }
+
+      -- with another line, or with other lines behind it
+      with_line : Page → Line → Page
+      with_line b l = record { ended = record { line = l; newline = e.newline } ∷ b.ended; last = b.last }
+
+      before_lines : Line → Page → Page
+      before_lines l b = with_line b l
+
+      right : Page → List ℕ
+      right b = e.newline.text ++ page_text b
+
+      second : Page → Option (Changed Page)
+      second b = in_lines two r b.ended b.last
+
+      further : Page → Option (Changed Page)
+      further b = in_lines two (after_line r e.line) b.ended b.last
+
+      found : (b : Page) (l : Line) (d : Changed Line) → two r l ≡ Some d
+          → second (with_line b l) ≡ within (with_line b) [] (right b) (Some d)
+      found b l d f = rw f refl
+
+      passed : (b : Page) (l : Line) → two r l ≡ None → after_line r l ≡ after_line r e.line
+          → second (with_line b l) ≡ within (before_lines l) (line_text l ++ e.newline.text) [] (further b)
+      passed b l f k =
+          rw f (ap₂ (λ (t : List ℕ) (q : Reading). within (before_lines l) t [] (in_lines two q b.ended b.last))
+          (past_line l e.newline) k)
+
+      -- the first change is of this line
+      first : (c : Changed Line) → IsChangeOf line_text e.line c → after_line r c.to ≡ after_line r e.line
+          → (o : Option (Changed Line)) → two r e.line ≡ o → Stays c o (two r c.to)
+          → Stays (framed_change (with_line page) [] (right page) c) (second (with_line page e.line))
+          (second (with_line page c.to))
+      first c cut same None f k =
+          stays_as (framed_change (with_line page) [] (right page) c)
+          (within (before_lines e.line) (line_text e.line ++ e.newline.text) [] (further page))
+          (within (before_lines c.to) (line_text c.to ++ e.newline.text) [] (further page))
+          (second (with_line page e.line)) (second (with_line page c.to)) (passed page e.line f refl)
+          (passed page c.to k same)
+          (first_stays line_text e.line (with_line page) [] (right page) e.newline.text c (before_lines e.line)
+          (before_lines c.to) (further page) cut)
+      first c cut same (Some d) f k =
+          stays_as (framed_change (with_line page) [] (right page) c)
+          (within (with_line page) [] (right page) (Some d))
+          (within (with_line page) [] (right page) (two r c.to))
+          (second (with_line page e.line)) (second (with_line page c.to)) (found page e.line d f)
+          (found page c.to k.next k.is ∙ sym (ap (within (with_line page) [] (right page)) k.is))
+          (framed_stays (with_line page) [] (right page) c (Some d) (two r c.to) k)
+
+      -- the first change is of a later line
+      later : (o : Option (Changed Line)) → two r e.line ≡ o → EachIs line_text e.line o
+          → (p : Option (Changed Page)) → EachStays p further page
+          → EachStays (within (before_lines e.line) (line_text e.line ++ e.newline.text) [] p) second
+          (with_line page e.line)
+      later None f cut p k =
+          each_within (before_lines e.line) (line_text e.line ++ e.newline.text) [] p further second page
+          (λ y. passed y e.line f refl) k
+      later (Some d) f cut None k = tt
+      later (Some d) f cut (Some c) k =
+          stays_as (framed_change (before_lines e.line) (line_text e.line ++ e.newline.text) [] c)
+          (within (with_line page) [] (right page) (Some d))
+          (within (with_line c.to) [] (right c.to) (Some d))
+          (second (with_line page e.line)) (second (with_line c.to e.line)) (found page e.line d f)
+          (found c.to e.line d f)
+          (later_stays line_text e.line (with_line page) (with_line c.to) [] (right page) (right c.to) e.newline.text
+          (Some d) (before_lines e.line) c cut)
+
+      by : (o : Option (Changed Line)) → EachIs line_text e.line o
+          → EachTo (λ y. after_line r y ≡ after_line r e.line) o → EachStays o (two r) e.line
+          → (p : Option (Changed Page)) → EachStays p further page
+          → EachStays (or_else (within (with_line page) [] (right page) o)
+          (within (before_lines e.line) (text_of (ended_leaves e)) [] p)) second (with_line page e.line)
+      by (Some c) cut same k p i = first c cut same (two r e.line) refl k
+      by None cut same k p i =
+          subst (λ (t : List ℕ). EachStays (within (before_lines e.line) t [] p) second (with_line page e.line))
+          (sym (past_line e.line e.newline))
+          (later (two r e.line) refl (is_two r e.line) p i)
+
+  -- in a document
+  pub document_stays : (s : Document) → EachStays (in_document s (in_lines one start s.ended s.last))
+      (λ (t : Document). in_document t (in_lines two start t.ended t.last)) s
+  document_stays s =
+      each_within (with_page s) (text_of (bom_leaves s.bom)) [] (in_lines one start s.ended s.last)
+      (λ (b : Page). in_lines two start b.ended b.last)
+      (λ (t : Document). in_document t (in_lines two start t.ended t.last)) (page_of s) (λ y. refl)
+      (lines_stay start s.ended s.last)
+
+-- ---- in values and their lines
+
+-- a line whose value changes is read as before
+pub reading_stays : (one : Act) (path : List Part) (r : Reading) (l : Line)
+    → EachTo (λ y. after_line r y ≡ after_line r l) (in_line one path r l)
+reading_stays one path r l =
+    to_within (λ y. after_line r (record l { content = y }) ≡ after_line r l)
+    (λ y. after_line r y ≡ after_line r l) (λ c. record l { content = c }) (text_of l.before)
+    (text_of l.after ++ text_of (comment_leaves l.comment)) (in_content one r.body path l.content) (λ y k. k)
+    (of_content l.content)
+  where
+    reading : Content → Reading
+    reading c = after_line r (record l { content = c })
+
+    of_value : (name : Name) (value : Value) (o : Option (Changed Value))
+        → EachTo (λ y. reading y ≡ reading (keyval name value))
+        (within (keyval name) (text_of (name_leaves name)) [] o)
+    of_value name value None = tt
+    of_value name value (Some c) = refl
+
+    by : (name : Name) (value : Value) (o : Option (List Part))
+        → EachTo {A = Content} (λ y. reading y ≡ reading (keyval name value)) (elim o [
+          | None ↦ None
+          | Some more ↦ within (keyval name) (text_of (name_leaves name)) [] (in_value one more value)
+        ])
+    by name value None = tt
+    by name value (Some more) = of_value name value (in_value one more value)
+
+    of_content : (c : Content) → EachTo (λ y. reading y ≡ reading c) (in_content one r.body path c)
+    of_content blank = tt
+    of_content (header before k after) = tt
+    of_content (element before k after) = tt
+    of_content (keyval name value) = by name value (strip (r.body ++ step 0 (Some name)) path)
+
+-- The first act makes the change c, the second the other.
+module _ (one two : Act) (is_one : IsAct one) (is_two : IsAct two) (value_stays : InValueStays one two) where
   entries_stay : (path other : List Part) → strip path other ≡ None → strip other path ≡ None → (n : ℕ) (es : Entries)
       → EachStays (in_entries one path n es) (in_entries two other n) es
   entries_stay path other h g n none = tt
@@ -341,173 +506,22 @@ module _ (one two : Act) (is_one : IsAct one) (is_two : IsAct two) (ends : IsAtE
       (in_content two r.body other) (in_line two other r) l.content (λ y. refl)
       (content_stays r.body path other h g l.content)
 
-  -- a line whose value changes is read as before
-  reading_stays : (path : List Part) (r : Reading) (l : Line)
-      → EachTo (λ y. after_line r y ≡ after_line r l) (in_line one path r l)
-  reading_stays path r l =
-      to_within (λ y. after_line r (record l { content = y }) ≡ after_line r l)
-      (λ y. after_line r y ≡ after_line r l) (λ c. record l { content = c }) (text_of l.before)
-      (text_of l.after ++ text_of (comment_leaves l.comment)) (in_content one r.body path l.content) (λ y k. k)
-      (of_content l.content)
-    where
-      reading : Content → Reading
-      reading c = after_line r (record l { content = c })
-
-      of_value : (name : Name) (value : Value) (o : Option (Changed Value))
-          → EachTo (λ y. reading y ≡ reading (keyval name value))
-          (within (keyval name) (text_of (name_leaves name)) [] o)
-      of_value name value None = tt
-      of_value name value (Some c) = refl
-
-      by : (name : Name) (value : Value) (o : Option (List Part))
-          → EachTo {A = Content} (λ y. reading y ≡ reading (keyval name value)) (elim o [
-            | None ↦ None
-            | Some more ↦ within (keyval name) (text_of (name_leaves name)) [] (in_value one more value)
-          ])
-      by name value None = tt
-      by name value (Some more) = of_value name value (in_value one more value)
-
-      of_content : (c : Content) → EachTo (λ y. reading y ≡ reading c) (in_content one r.body path c)
-      of_content blank = tt
-      of_content (header before k after) = tt
-      of_content (element before k after) = tt
-      of_content (keyval name value) = by name value (strip (r.body ++ step 0 (Some name)) path)
-
-  lines_stay : (path other : List Part) → strip path other ≡ None → strip other path ≡ None
-      → (r : Reading) (es : List Ended) (last : Line)
-      → EachStays (in_lines (in_line one path) r es last)
-      (λ (b : Page). in_lines (in_line two other) r b.ended b.last) (record { ended = es; last = last })
-  lines_stay path other h g r [] last =
-      each_within (λ (l : Line). record { ended = []; last = l }) [] [] (in_line one path r last)
-      (in_line two other r) (λ (b : Page). in_lines (in_line two other) r b.ended b.last) last (λ y. refl)
-      (line_stays path other h g r last)
-  lines_stay path other h g r (e ∷ es) last =
-      by (in_line one path r e.line) (in_line-is one is_one path r e.line) (reading_stays path r e.line)
-      (line_stays path other h g r e.line) (in_lines (in_line one path) (after_line r e.line) es last)
-      (lines_stay path other h g (after_line r e.line) es last)
-    where
-      page : Page
-      page = record { ended = es; last = last }
-
-      -- with another line, or with other lines behind it
-      with_line : Page → Line → Page
-      with_line b l = record { ended = record { line = l; newline = e.newline } ∷ b.ended; last = b.last }
-
-      before_lines : Line → Page → Page
-      before_lines l b = with_line b l
-
-      right : Page → List ℕ
-      right b = e.newline.text ++ page_text b
-
-      second : Page → Option (Changed Page)
-      second b = in_lines (in_line two other) r b.ended b.last
-
-      further : Page → Option (Changed Page)
-      further b = in_lines (in_line two other) (after_line r e.line) b.ended b.last
-
-      found : (b : Page) (l : Line) (d : Changed Line) → in_line two other r l ≡ Some d
-          → second (with_line b l) ≡ within (with_line b) [] (right b) (Some d)
-      found b l d f = rw f refl
-
-      passed : (b : Page) (l : Line) → in_line two other r l ≡ None → after_line r l ≡ after_line r e.line
-          → second (with_line b l) ≡ within (before_lines l) (line_text l ++ e.newline.text) [] (further b)
-      passed b l f k =
-          rw f (ap₂ (λ (t : List ℕ) (q : Reading). within (before_lines l) t []
-          (in_lines (in_line two other) q b.ended b.last)) (past_line l e.newline) k)
-
-      -- the first change is of this line
-      first : (c : Changed Line) → IsChangeOf line_text e.line c → after_line r c.to ≡ after_line r e.line
-          → (o : Option (Changed Line)) → in_line two other r e.line ≡ o → Stays c o (in_line two other r c.to)
-          → Stays (framed_change (with_line page) [] (right page) c) (second (with_line page e.line))
-          (second (with_line page c.to))
-      first c cut same None f k =
-          stays_as (framed_change (with_line page) [] (right page) c)
-          (within (before_lines e.line) (line_text e.line ++ e.newline.text) [] (further page))
-          (within (before_lines c.to) (line_text c.to ++ e.newline.text) [] (further page))
-          (second (with_line page e.line)) (second (with_line page c.to)) (passed page e.line f refl)
-          (passed page c.to k same)
-          (first_stays line_text e.line (with_line page) [] (right page) e.newline.text c (before_lines e.line)
-          (before_lines c.to) (further page) cut)
-      first c cut same (Some d) f k =
-          stays_as (framed_change (with_line page) [] (right page) c)
-          (within (with_line page) [] (right page) (Some d))
-          (within (with_line page) [] (right page) (in_line two other r c.to))
-          (second (with_line page e.line)) (second (with_line page c.to)) (found page e.line d f)
-          (found page c.to k.next k.is ∙ sym (ap (within (with_line page) [] (right page)) k.is))
-          (framed_stays (with_line page) [] (right page) c (Some d) (in_line two other r c.to) k)
-
-      -- the first change is of a later line
-      later : (o : Option (Changed Line)) → in_line two other r e.line ≡ o → EachIs line_text e.line o
-          → (p : Option (Changed Page)) → EachStays p further page
-          → EachStays (within (before_lines e.line) (line_text e.line ++ e.newline.text) [] p) second
-          (with_line page e.line)
-      later None f cut p k =
-          each_within (before_lines e.line) (line_text e.line ++ e.newline.text) [] p further second page
-          (λ y. passed y e.line f refl) k
-      later (Some d) f cut None k = tt
-      later (Some d) f cut (Some c) k =
-          stays_as (framed_change (before_lines e.line) (line_text e.line ++ e.newline.text) [] c)
-          (within (with_line page) [] (right page) (Some d))
-          (within (with_line c.to) [] (right c.to) (Some d))
-          (second (with_line page e.line)) (second (with_line c.to e.line)) (found page e.line d f)
-          (found c.to e.line d f)
-          (later_stays line_text e.line (with_line page) (with_line c.to) [] (right page) (right c.to) e.newline.text
-          (Some d) (before_lines e.line) c cut)
-
-      by : (o : Option (Changed Line)) → EachIs line_text e.line o
-          → EachTo (λ y. after_line r y ≡ after_line r e.line) o → EachStays o (in_line two other r) e.line
-          → (p : Option (Changed Page)) → EachStays p further page
-          → EachStays (or_else (within (with_line page) [] (right page) o)
-          (within (before_lines e.line) (text_of (ended_leaves e)) [] p)) second (with_line page e.line)
-      by (Some c) cut same k p i = first c cut same (in_line two other r e.line) refl k
-      by None cut same k p i =
-          subst (λ (t : List ℕ). EachStays (within (before_lines e.line) t [] p) second (with_line page e.line))
-          (sym (past_line e.line e.newline))
-          (later (in_line two other r e.line) refl (in_line-is two is_two other r e.line) p i)
-
-  -- in a document
-  pub nested_stays : (path other : List Part) → strip path other ≡ None → strip other path ≡ None → (s : Document)
+  pub acts_stay : (path other : List Part) → strip path other ≡ None → strip other path ≡ None → (s : Document)
       → EachStays (nested one path s) (nested two other) s
-  nested_stays path other h g s =
-      each_within (with_page s) (text_of (bom_leaves s.bom)) [] (in_lines (in_line one path) start s.ended s.last)
-      (λ (b : Page). in_lines (in_line two other) start b.ended b.last) (nested two other) (page_of s) (λ y. refl)
-      (lines_stay path other h g start s.ended s.last)
+  acts_stay path other h g s =
+      document_stays (in_line one path) (in_line two other) (λ r l. in_line-is one is_one path r l)
+      (λ r l. in_line-is two is_two other r l) (λ r l. reading_stays one path r l)
+      (λ r l. line_stays path other h g r l) s
 
--- ---- sets
+-- of acts that are done at the end of a path alone
+pub nested_stays : (one two : Act) → IsAct one → IsAct two → IsAtEnd one → IsAtEnd two
+    → (path other : List Part) → strip path other ≡ None → strip other path ≡ None → (s : Document)
+    → EachStays (nested one path s) (nested two other) s
+nested_stays one two is_one is_two ends ends_two path other h g s =
+    acts_stay one two is_one is_two (ends_stay one two ends ends_two) path other h g s
 
-pub set_stays : (s : Document) (path : List Part) (value : Value) (other : List Part) (more : Value)
-    → strip path other ≡ None → strip other path ≡ None
-    → EachStays (change s (set path value)) (λ (t : Document). change t (set other more)) s
-set_stays s path value other more h g =
-    nested_stays (replacement value) (replacement more) (replacement-is value) (replacement-is more)
-    (λ p ps v. refl) (λ p ps v. refl) path other h g s
+-- ---- the moved place
 
--- where both sets are made
-pub set_still : (s : Document) (path : List Part) (value : Value) (other : List Part) (more : Value)
-    (x y : Changed Document)
-    → strip path other ≡ None → strip other path ≡ None
-    → change s (set path value) ≡ Some x → change s (set other more) ≡ Some y
-    → IsStill x y (change (edited_document s (set path value)) (set other more))
-set_still s path value other more x y h g made made' =
-    let goes : Stays x (change s (set other more)) (change x.to (set other more)) =
-    subst (λ (o : Option (Changed Document)). EachStays o (λ (t : Document). change t (set other more)) s) made
-    (set_stays s path value other more h g) in
-    let edited : x.to ≡ edited_document s (set path value) =
-    ap (λ (o : Option (Changed Document)). (changed_or_same s o).to) (sym made) in
-    subst (λ (t : Document). IsStill x y (change t (set other more))) edited
-    (subst (λ (o : Option (Changed Document)). Stays x o (change x.to (set other more))) made' goes)
-
-pub set_goes_on : (s : Document) (path : List Part) (value : Value) (other : List Part) (more : Value)
-    (x y : Changed Document)
-    → strip path other ≡ None → strip other path ≡ None
-    → change s (set path value) ≡ Some x → change s (set other more) ≡ Some y
-    → (next : Changed Document) × (change (edited_document s (set path value)) (set other more) ≡ Some next)
-set_goes_on s path value other more x y h g made made' =
-    let still : IsStill x y (change (edited_document s (set path value)) (set other more)) =
-    set_still s path value other more x y h g made made' in
-    (still.next, still.is)
-
--- the moved place
 moved_start : {A : Type 0} (c d : TextChange) (x y next : Changed A) → place_of x ≡ place_of_change c
     → place_of y ≡ place_of_change d → 0 < d.size → IsMovedBy x y next → length next.before ≡ moved_by c d.at
 moved_start c d x y next e f some k =
@@ -539,19 +553,42 @@ moved_place c d x y next e f some old given k =
     ap₂ (λ (a n : ℕ). record { start = a; end = a + n; new = next.new }) at long
     ∙ ap (λ (t : List ℕ). record { start = moved_by c d.at; end = moved_by c d.at + d.size; new = t }) new
 
+-- of an edit whose change stays
+pub still_place : (c d : TextChange) (s t : Document) (e : Edit) (x y : Changed Document)
+    → place_of x ≡ place_of_change c → place s e ≡ place_of_change d → 0 < d.size → change s e ≡ Some y
+    → Stays x (change s e) (change t e) → place t e ≡ place_of_change (moved c d)
+still_place c d s t e x y is is' some made goes =
+    let still : IsStill x y (change t e) =
+    subst (λ (o : Option (Changed Document)). Stays x o (change t e)) made goes in
+    ap (λ (o : Option (Changed Document)). place_of (changed_or_same t o)) still.is
+    ∙ moved_place c d x y still.next is
+    (ap (λ (o : Option (Changed Document)). place_of (changed_or_same s o)) (sym made) ∙ is') some still.old
+    still.given still.place
+
+-- of an edit whose change stays after that of another
+pub place_after : (s : Document) (first second : Edit) (c d : TextChange) (x y : Changed Document)
+    → EachStays (change s first) (λ (t : Document). change t second) s
+    → change s first ≡ Some x → change s second ≡ Some y → 0 < d.size
+    → place s first ≡ place_of_change c → place s second ≡ place_of_change d
+    → place (edited_document s first) second ≡ place_of_change (moved c d)
+place_after s first second c d x y stays made made' some is is' =
+    let edited : x.to ≡ edited_document s first =
+    ap (λ (o : Option (Changed Document)). (changed_or_same s o).to) (sym made) in
+    let goes : Stays x (change s second) (change x.to second) =
+    subst (λ (o : Option (Changed Document)). EachStays o (λ (t : Document). change t second) s) made stays in
+    still_place c d s (edited_document s first) second x y
+    (ap (λ (o : Option (Changed Document)). place_of (changed_or_same s o)) (sym made) ∙ is) is' some made'
+    (subst (λ (t : Document). Stays x (change s second) (change t second)) edited goes)
+
+-- ---- sets
+
 pub set_place_stays : (s : Document) (path : List Part) (value : Value) (c : TextChange) (other : List Part)
     (more : Value) (d : TextChange) (x y : Changed Document)
     → strip path other ≡ None → strip other path ≡ None
-    → change s (set path value) ≡ Some x → change s (set other more) ≡ Some y
-    → 0 < c.size → 0 < d.size
+    → change s (set path value) ≡ Some x → change s (set other more) ≡ Some y → 0 < d.size
     → place s (set path value) ≡ place_of_change c → place s (set other more) ≡ place_of_change d
     → place (edited_document s (set path value)) (set other more) ≡ place_of_change (moved c d)
-set_place_stays s path value c other more d x y h g made made' some some' is is' =
-    let t : Document = edited_document s (set path value) in
-    let still : IsStill x y (change t (set other more)) =
-    set_still s path value other more x y h g made made' in
-    ap (λ (o : Option (Changed Document)). place_of (changed_or_same t o)) still.is
-    ∙ moved_place c d x y still.next
-    (ap (λ (o : Option (Changed Document)). place_of (changed_or_same s o)) (sym made) ∙ is)
-    (ap (λ (o : Option (Changed Document)). place_of (changed_or_same s o)) (sym made') ∙ is')
-    some' still.old still.given still.place
+set_place_stays s path value c other more d x y h g made made' some is is' =
+    place_after s (set path value) (set other more) c d x y
+    (nested_stays (replacement value) (replacement more) (replacement-is value) (replacement-is more)
+    (λ p ps v. refl) (λ p ps v. refl) path other h g s) made made' some is is'

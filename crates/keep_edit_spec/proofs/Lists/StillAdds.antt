@@ -39,14 +39,14 @@ later_positive n i h = elim (cases_lt i n) [
 pub still_adds : StillAddsLine
 still_adds profile limit s path value l other more m fine h k differs =
     let same : holder other (mentions_in (edited_document s (insert path value))) ≡ holder other (mentions_in s) =
-    holder_stays profile limit s path value l other more m fine h k differs in
+    holder_stays profile limit s path value l h other more m k differs in
     let end : end_of (edited_document s (insert path value)) (holder other (mentions_in s))
     ≡ Some (later_line h.number k.number) =
     end_stays profile limit s path value l other more m h k in
     record {
       utf8 = k.utf8;
       given = k.given;
-      allowed = refusal_stays profile limit s path value l other more m fine h k differs;
+      allowed = refusal_stays profile limit s path value l h other more m k differs;
       text = k.text;
       one = k.one ∙ ap (λ (p : List Part). p ++ key k.text ∷ []) (sym same);
       number = later_line h.number k.number;

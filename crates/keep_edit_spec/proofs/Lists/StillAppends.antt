@@ -3,7 +3,7 @@
 -- The new document says what the old one said, and then what the first header says (`said`, by `append_law`). So the
 -- second header is not refused: two tables that differ, and two elements whose keys are the same or not the first of
 -- one another, are not in each other's way (HeaderApart). By the law of the first append the new document is valid, so
--- the second header is written after the first as it would have been without it (HeaderPlaces).
+-- the second header is written after the first as it would have been without it (HeaderStays).
 --
 -- Theorems: `still_appends_table`, `still_appends_element`.
 use Rattle.std.proofs.Common.{◌≡◌, ℕ, List, [], ◌∷◌, ◌++◌, length, map, sym, ap, ◌∙◌, length-append, arith, Option}
@@ -24,14 +24,15 @@ use Rattle.keep_edit_spec.specs.Edits.{append, append_element, append_table, cha
 use Rattle.keep_edit_spec.specs.Laws.{IsEditable, IsLawfulEdit}
 use Rattle.keep_edit_spec.specs.Lines.{plain_line}
 use Rattle.keep_edit_spec.specs.Refusals.{conflict, refusal}
-use Rattle.keep_edit_spec.proofs.EditLaws.{append_element_lawful, append_table_lawful, change_put}
+use Rattle.keep_edit_spec.proofs.EditLaws.{append_element_lawful, append_table_lawful}
 use Rattle.keep_edit_spec.proofs.Append.AppendLaw.{append_law}
 use Rattle.keep_edit_spec.proofs.Append.AppendTable.{tables_stated}
 use Rattle.keep_edit_spec.proofs.Common.NewLines.{key_means}
 use Rattle.keep_edit_spec.proofs.Common.Runs.{strip-append}
 use Rattle.keep_edit_spec.proofs.Common.SetLaw.{EachTo}
 use Rattle.keep_edit_spec.proofs.Lists.HeaderApart.{GoesNotOn, element_goes_on, table_goes_on, with_statement}
-use Rattle.keep_edit_spec.proofs.Lists.HeaderPlaces.{ends_again, header_moves}
+use Rattle.keep_edit_spec.proofs.Lists.HeaderLines.{ends_again, newline_again}
+use Rattle.keep_edit_spec.proofs.Lists.HeaderStays.{element_again, table_again}
 use Rattle.keep_edit_spec.proofs.Rename.KeyTexts.{key_texts}
 
 -- ---- what is said after an append
@@ -41,7 +42,7 @@ each_edited : (P : Document → Type 0) (s : Document) (o : Option (Changed Docu
 each_edited P s None c is h = absurd cc
 each_edited P s (Some x) c is h = h
 
-said : (s : Document) (content : Content) (st : Statement) (c : Changed Document) → append s content ≡ Some c
+pub said : (s : Document) (content : Content) (st : Statement) (c : Changed Document) → append s content ≡ Some c
     → ((r : Reading) → line_mentions r (plain_line content)
     ≡ statement_mentions (record { tables = r.tables; body = [] }) st)
     → mentions_in (changed_or_same s (append s content)).to ≡ with_statement (mentions_in s) st
@@ -66,7 +67,7 @@ same_goes_not keys more e x xs f =
       length-append keys (x ∷ xs),
     )
 
-apart_goes_not : (keys more : List (List ℕ)) → strip (map key keys) (map key more) ≡ None → GoesNotOn keys more
+pub apart_goes_not : (keys more : List (List ℕ)) → strip (map key keys) (map key more) ≡ None → GoesNotOn keys more
 apart_goes_not keys more none x xs f =
     let some : strip (map key keys) (map key more) ≡ Some (map key (x ∷ xs)) =
     ap (strip (map key keys)) (ap (map key) f ∙ map-append key keys (x ∷ xs))
@@ -99,14 +100,10 @@ still_appends_table profile limit s keys c more d fine h g differ =
     let law : IsLawfulEdit profile limit s (append_table keys) =
     append_table_lawful profile limit s keys fine h.utf8 h.allowed in
     let one : Content = header [] (key_with keys) [] in
-    record {
-      utf8 = g.utf8;
-      allowed = table_allowed profile limit s keys more fine h.utf8 differ h.allowed g.allowed;
-      closed = ends_again profile s fine.valid h.closed one (change_put s (append_table keys));
-      adds = g.adds;
-      is = header_moves profile s fine.valid h.closed one (change_put s (append_table keys))
-          (header [] (key_with more) []) c d law.reads.valid h.is h.adds g.is g.adds;
-    }
+    table_again profile limit s (append_table keys) c more d fine law h.is
+    (newline_again profile s fine.valid h.closed one)
+    (λ e. ends_again profile s fine.valid h.closed one law.reads.valid)
+    (table_allowed profile limit s keys more fine h.utf8 differ h.allowed g.allowed) g
 
 -- ---- elements
 
@@ -131,11 +128,7 @@ still_appends_element profile limit s keys c more d fine h g apart =
     let law : IsLawfulEdit profile limit s (append_element keys) =
     append_element_lawful profile limit s keys fine h.utf8 h.allowed in
     let one : Content = element [] (key_with keys) [] in
-    record {
-      utf8 = g.utf8;
-      allowed = element_allowed profile limit s keys more fine h.utf8 apart h.allowed g.allowed;
-      closed = ends_again profile s fine.valid h.closed one (change_put s (append_element keys));
-      adds = g.adds;
-      is = header_moves profile s fine.valid h.closed one (change_put s (append_element keys))
-          (element [] (key_with more) []) c d law.reads.valid h.is h.adds g.is g.adds;
-    }
+    element_again profile limit s (append_element keys) c more d fine law h.is
+    (newline_again profile s fine.valid h.closed one)
+    (λ e. ends_again profile s fine.valid h.closed one law.reads.valid)
+    (element_allowed profile limit s keys more fine h.utf8 apart h.allowed g.allowed) g

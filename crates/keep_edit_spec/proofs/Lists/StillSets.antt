@@ -24,5 +24,5 @@ still_sets profile limit s path value c other more d fine h k beside =
       allowed = set_allowed profile limit s path value c other more d fine h k apart.0 apart.1;
       some = k.some;
       is = set_place_stays s path value c other more d first.changed second.changed apart.0 apart.1 first.is second.is
-          h.some k.some h.is k.is;
+          k.some h.is k.is;
     }

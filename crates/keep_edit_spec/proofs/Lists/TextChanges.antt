@@ -6,17 +6,19 @@
 -- with it is the text with the others, changed at the place to which the others move it, and changes keep their order
 -- when they are moved. Each is by induction on the changes.
 --
--- Theorems: `follow_with`, `text_with_one`, `moved_with`, `beside_past`, `all_with`, `one_of_all`, `rest_of_all`,
--- `length_with`.
-use Rattle.std.proofs.Common.{◌≡◌, ℕ, ◌+◌, ◌-◌, ◌<◌, ◌≤◌, Bool, true, false, cond, List, [], ◌∷◌, ◌++◌, length, take}
-use Rattle.std.proofs.Common.{drop, get_or, suc, All, refl, sym, ap, ap₂, ◌∙◌, append_assoc, arith, length-drop, inl}
-use Rattle.std.proofs.Common.{inr}
-use Rattle.std.specs.Prelude.{nat_lt}
-use Rattle.std.proofs.lemmas.Bool.{lt-ltb, le-ltb, ltb-true, ltb-false}
+-- Theorems: `follow_with`, `text_with_one`, `moved_with`, `beside_past`, `end_apart`, `begins_apart`,
+-- `all_with`, `one_of_all`, `rest_of_all`, `none_with`, `length_with`.
+use Rattle.std.proofs.Common.{◌≡◌, ◌≢◌, ℕ, ◌+◌, ◌-◌, ◌<◌, ◌≤◌, Bool, true, false, cond, List, [], ◌∷◌, ◌++◌, length}
+use Rattle.std.proofs.Common.{take, drop, get_or, suc, All, refl, sym, ap, ap₂, ◌∙◌, append_assoc, arith, length-drop}
+use Rattle.std.proofs.Common.{inl, inr}
+use Rattle.std.specs.Prelude.{nat_lt, ◌⊎◌}
+use Rattle.std.specs.List.{list_any}
+use Rattle.std.proofs.lemmas.Bool.{cases_lt, eq-eqb, le-ltb, lt-ltb, ltb-false, ltb-true, or_from, or_parts}
 use Rattle.std.proofs.lemmas.List.{drop-append-le, drop-drop, drop-take, length-take, take-append-le, take-take}
 use Rattle.std.proofs.lemmas.List.Elements.{All-cons, All-head, All-nil, All-tail}
 use Rattle.std.proofs.Math.Seq.{take-append-add, drop-append-add}
 use Rattle.keep_edit_spec.specs.Changed.{Place, put}
+use Rattle.keep_edit_spec.specs.Runs.{takes_up_to}
 use Rattle.keep_edit_spec.specs.TextChanges.{Follow, IsBeside, TextChange, come_to, gone_to, moved, moved_by_all}
 use Rattle.keep_edit_spec.specs.TextChanges.{moved_by, moved_past, change_at, place_of_change, text_with, with_change}
 
@@ -49,6 +51,20 @@ rest_of_all P (c ∷ cs) d h = by (nat_lt d.at c.at) (rest_of_all P cs d) h
     by true ih all = All-tail P d (c ∷ cs) all
     by false ih all =
         All-cons P c cs (All-head P c (with_change cs d) all) (ih (All-tail P c (with_change cs d) all))
+
+pub none_with : (test : TextChange → Bool) (cs : List TextChange) (d : TextChange)
+    → list_any test (with_change cs d) ≡ false → (test d ≡ false) × (list_any test cs ≡ false)
+none_with test [] d h = or_parts (test d) false h
+none_with test (c ∷ cs) d h = by (nat_lt d.at c.at) (none_with test cs d) h
+  where
+    by : (b : Bool) → (list_any test (with_change cs d) ≡ false → (test d ≡ false) × (list_any test cs ≡ false))
+        → list_any test (cond b (d ∷ c ∷ cs) (c ∷ with_change cs d)) ≡ false
+        → (test d ≡ false) × (list_any test (c ∷ cs) ≡ false)
+    by true ih all = or_parts (test d) (list_any test (c ∷ cs)) all
+    by false ih all =
+        let parts = or_parts (test c) (list_any test (with_change cs d)) all in
+        let rest = ih parts.1 in
+        (rest.0, or_from (test c) (list_any test cs) parts.0 rest.1)
 
 pub length_with : (cs : List TextChange) (d : TextChange) → length (with_change cs d) ≡ suc (length cs)
 length_with [] d = refl
@@ -266,6 +282,65 @@ pub moved_with : (cs : List TextChange) (d e : TextChange) → Follow 0 cs → A
     → moved_past (with_change cs d) e ≡ moved (moved_past cs d) (moved_past cs e)
 moved_with cs d e h left right beside =
     ap (λ (at : ℕ). change_at at e.size e.new) (moved_with_at cs d e h left right beside)
+
+-- ---- changes that end before another's place
+
+-- A change that does not take the byte before a place is beside that byte, too.
+beside_before : (c e : TextChange) (before : ℕ) → suc before ≡ e.at → IsBeside c e → takes_up_to e.at c ≡ false
+    → IsBeside c (change_at before 0 [])
+beside_before c e before is (inl ends) clear = by (cases_lt 0 c.size) (cases_lt (c.at + c.size) e.at)
+  where
+    by : (0 < c.size) ⊎ (c.size ≤ 0) → (c.at + c.size < e.at) ⊎ (e.at ≤ c.at + c.size)
+        → IsBeside c (change_at before 0 [])
+    by some (inl less) = inl (omega (arith, is, less))
+    by (inl some) (inr up) =
+        let same : c.at + c.size ≡ e.at = omega (arith, ends, up) in
+        let takes : takes_up_to e.at c ≡ true = rw (lt-ltb 0 c.size some) (eq-eqb (c.at + c.size) e.at same) in
+        absurd cc
+    by (inr none) (inr up) = inr ((omega (arith, is, none, up)), omega (arith, is, none, up))
+beside_before c e before is (inr after) clear = inr ((omega (arith, is, after.0)), omega (arith, is, after.0))
+
+all_before : (cs : List TextChange) (e : TextChange) (before : ℕ) → suc before ≡ e.at → All (λ c. IsBeside c e) cs
+    → list_any (takes_up_to e.at) cs ≡ false → All (λ c. IsBeside c (change_at before 0 [])) cs
+all_before [] e before is h clear = All-nil (λ c. IsBeside c (change_at before 0 []))
+all_before (c ∷ cs) e before is h clear =
+    let parts = or_parts (takes_up_to e.at c) (list_any (takes_up_to e.at) cs) clear in
+    All-cons (λ x. IsBeside x (change_at before 0 [])) c cs
+    (beside_before c e before is (All-head (λ x. IsBeside x e) c cs h) parts.0)
+    (all_before cs e before is (All-tail (λ x. IsBeside x e) c cs h) parts.1)
+
+-- So where none of them takes it, one that ends elsewhere still does once they are made.
+pub end_apart : (cs : List TextChange) (d e : TextChange) → Follow 0 cs → All (λ c. IsBeside c d) cs
+    → All (λ c. IsBeside c e) cs → list_any (takes_up_to e.at) cs ≡ false → IsBeside d e → d.at + d.size ≢ e.at
+    → moved_by_all cs d.at + d.size ≢ moved_by_all cs e.at
+end_apart cs d e h left right clear (inl first) differs same =
+    elim (cases_lt (d.at + d.size) e.at) [
+      | inl less ↦
+          let before : ℕ = e.at - 1 in
+          let is : suc before ≡ e.at = omega (arith, less) in
+          let byte : TextChange = change_at before 0 [] in
+          let all = all_before cs e before is right clear in
+          omega (
+            arith,
+            same,
+            past_later cs d byte (omega (arith, less)) h left all,
+            past_less cs byte e (omega (arith, less)) h all right,
+          )
+      | inr up ↦ differs (omega (arith, first, up))
+    ]
+end_apart cs d e h left right clear (inr first) differs same =
+    omega (arith, same, past_less cs e d first.0 h right left)
+
+-- Two that begin at two places still do.
+pub begins_apart : (cs : List TextChange) (d e : TextChange) → Follow 0 cs → All (λ c. IsBeside c d) cs
+    → All (λ c. IsBeside c e) cs → d.at ≢ e.at → moved_by_all cs d.at ≢ moved_by_all cs e.at
+begins_apart cs d e h left right differs same = elim (cases_lt d.at e.at) [
+  | inl less ↦ omega (arith, same, past_less cs d e less h left right)
+  | inr up ↦ elim (cases_lt e.at d.at) [
+    | inl less ↦ omega (arith, same, past_less cs e d less h right left)
+    | inr down ↦ differs (omega (arith, up, down))
+  ]
+]
 
 -- ---- texts
 

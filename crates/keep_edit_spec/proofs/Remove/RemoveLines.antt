@@ -59,7 +59,7 @@ keyval_run body name v =
     ∙ ap (λ l. map (below body) (keyed_mentions (keys_of name.key) []) ++ l)
     (map_twice body (map key (keys_of name.key)) vs)
 
-line_cut : (pre post : List Line) (l : Line) (name : Name) (v : Value) → l.content ≡ keyval name v
+pub line_cut : (pre post : List Line) (l : Line) (name : Name) (v : Value) → l.content ≡ keyval name v
     → Rules (lines_mentions start (pre ++ l ∷ post))
     → IsCut ((reading_after_lines start pre).body ++ step 0 (Some name)) (lines_mentions start (pre ++ l ∷ post))
     (lines_mentions start pre ++ lines_mentions (reading_after_lines start pre) post)

@@ -126,7 +126,7 @@ way_silent : (tables : List (List Part)) (q : List Part) (b : Bool)
 way_silent tables q true = (refl, tt)
 way_silent tables q false = (refl, (refl, tt))
 
-silent_prefixes : (tables : List (List Part)) (at : List Part) (keys : List (List ℕ))
+pub silent_prefixes : (tables : List (List Part)) (at : List Part) (keys : List (List ℕ))
     → AllOf (λ (m : Mention). fact_of m.kind ≡ None) (header_prefixes tables at keys)
 silent_prefixes tables at [] = tt
 silent_prefixes tables at (k ∷ []) = tt

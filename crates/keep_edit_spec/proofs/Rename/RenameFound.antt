@@ -256,7 +256,7 @@ content_cases profile new p ends r (element x k y) valid rules s =
     begun_never (inl h) = let x = h.kind in absurd cc
     begun_never (inr h) = h
 
-line_there : (profile : Profile) (new : Written) (p : List Part) → EndsInKey p → (r : Reading) (l : Line)
+pub line_there : (profile : Profile) (new : Written) (p : List Part) → EndsInKey p → (r : Reading) (l : Line)
     → IsLine profile l → Rules (line_mentions r l) → SomeOf (IsSolidAt p) (line_mentions r l)
     → IsSome (rename_line new p r l) ⊎ IsSome (in_line (renaming new) p r l)
 line_there profile new p ends r l valid rules s =

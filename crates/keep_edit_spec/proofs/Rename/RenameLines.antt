@@ -35,7 +35,7 @@ use Rattle.keep_edit_spec.proofs.Rename.RenameContent.{content_mentions, content
 use Rattle.keep_edit_spec.proofs.Rename.RenameContent.{content_preserved, IsContentRenamed, content_renamed}
 
 -- the full paths of the `[[..]]` lines are not at or under a path where nothing is said there
-clear_content : (b : List Part) (r : Reading) (c : Content) → AreClear b r.tables
+pub clear_content : (b : List Part) (r : Reading) (c : Content) → AreClear b r.tables
     → AllOf (IsDisjoint b) (content_mentions r c) → AreClear b (content_after r c).tables
 clear_content b r blank clear disjoint = clear
 clear_content b r (keyval name v) clear disjoint = clear

@@ -64,7 +64,8 @@ marks_with p m ms a true at is =
     let r = mark_role m.kind is in counted p m ms r.0 r.1 ∙ ap {B = ℕ} (λ x. cond x 1 0 + mark_count p ms) at
 marks_with p m ms a false at is = omega (arith, uncounted p m ms (no_role m.kind is))
 
-mark_count-append : (p : List Part) (xs ys : List Mention) → mark_count p (xs ++ ys) ≡ mark_count p xs + mark_count p ys
+pub mark_count-append : (p : List Part) (xs ys : List Mention)
+    → mark_count p (xs ++ ys) ≡ mark_count p xs + mark_count p ys
 mark_count-append p xs ys =
     ap (count_by (λ (m : Mark). same_path m.path p)) (filter_map-append mark_of xs ys)
     ∙ sum_by-append (λ (m : Mark). cond (same_path m.path p) 1 0) (marks xs) (marks ys)

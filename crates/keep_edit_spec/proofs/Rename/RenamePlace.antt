@@ -526,7 +526,7 @@ module _ (new : Written) where
       renamed_framed_line p r c l (in_content (renaming new) r.body p l.content)
       (renamed_content p r (content_start c l) l.content)
 
-  renamed_own_line : (p : List Part) (r : Reading) (c : syntax.Count) (l : Line)
+  pub renamed_own_line : (p : List Part) (r : Reading) (c : syntax.Count) (l : Line)
       → EachOf (in_a_line p r c l) (rename_line new p r l)
   renamed_own_line p r c l = by (position (same_path p) (part_paths r l.content)) refl
     where

@@ -228,6 +228,7 @@ pub record IsRenamedWhole (profile : Profile) (s : Document) (path : List Part) 
   pub is : change s (rename path t) ≡ Some changed
   pub whole : IsSetWhole profile s (rename path t) changed
   pub flat : depth changed.to ≤ depth s
+  pub by_line : IsMovedTo path (beside path t) s changed.to
   pub moved : IsDocumentMoved (moved_path path (beside path t)) s changed.to
   pub two : IsBeside t path (beside path t)
   pub clear : AllOf (IsDisjoint (beside path t)) (mentions_in s)
@@ -270,6 +271,7 @@ rename_whole profile limit s path t valid obeys utf8 allowed =
       whole = subst (EachChange (IsSetWhole profile s e)) is
           (together profile s e (change s e) (valid_rename profile s path b t valid text two) (change-is s e) lawful);
       flat = subst (EachTo (λ s'. depth s' ≤ depth s)) is (rename_depth profile s path b t text two);
+      by_line = subst (EachTo (IsMovedTo path b s)) is moves;
       moved = moved_document (moved_path path b) s c.to (subst (EachTo (IsMovedTo path b s)) is moves);
       two = two;
       clear = clear;

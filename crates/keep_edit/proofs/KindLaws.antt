@@ -1,0 +1,92 @@
+-- Where an edit that is made at once with others writes a line or a header: either they are all of its kind, or each
+-- newline is alike.
+--
+-- Keys are added only for edits of the kind of the first one (`of_kind`).
+--
+-- Theorems: `placed_of_kind`, `placed_plain`.
+use Rattle.std.proofs.Common.{◌≡◌, ◌≢◌, ℕ, Bool, true, false, List, length, All, refl, sym, ◌∙◌, inl, inr, slice_range}
+use Rattle.std.specs.Prelude.{◌⊎◌}
+use Rattle.std.specs.List.{list_any}
+use Rattle.std.proofs.lemmas.List.Elements.{All-weaker}
+use Rattle.std.proofs.lemmas.Bool.{or_parts}
+use Rattle.keep_edit_spec.specs.Runs as runs
+use Rattle.keep_edit_spec.specs.Runs.{IsPlain, takes_up_to}
+use Rattle.keep_edit_spec.specs.TextChanges.{TextChange}
+use Rattle.keep_edit_plan.specs.declared.edit.Edit.{Edit}
+use Rattle.keep_edit_plan.specs.declared.edit.Edit.TheVariants.{Element, Insert, Remove, Rename, Set, Table}
+use Rattle.keep_edit.specs.Runs.{outline, writes_anew}
+use Rattle.keep_edit.specs.Seen.{HasKeysOf, IsSeen}
+use Rattle.keep_edit.specs.declared.seen.SeenKeys.{SeenKeys}
+use Rattle.keep_edit.proofs.RunSteps.{IsPlaced}
+
+-- the two write a line, or a header, alike
+abbrev IsOfKind : Edit → Edit → Type 0
+IsOfKind x f = (runs.is_insert (outline x) ≡ runs.is_insert (outline f))
+    × (runs.is_header (outline x) ≡ runs.is_header (outline f))
+
+of_kind : (seen : SeenKeys) (f x : Edit) → HasKeysOf seen f x → IsOfKind x f
+of_kind seen (Insert f v) (Insert p w) h = (refl, refl)
+of_kind seen (Insert f v) (Remove p) h = absurd h
+of_kind seen (Insert f v) (Set p w) h = absurd h
+of_kind seen (Insert f v) (Rename p w) h = absurd h
+of_kind seen (Insert f v) (Table ks) h = absurd h
+of_kind seen (Insert f v) (Element ks) h = absurd h
+of_kind seen (Remove f) (Insert p w) h = absurd h
+of_kind seen (Remove f) (Remove p) h = (refl, refl)
+of_kind seen (Remove f) (Set p w) h = absurd h
+of_kind seen (Remove f) (Rename p w) h = absurd h
+of_kind seen (Remove f) (Table ks) h = absurd h
+of_kind seen (Remove f) (Element ks) h = absurd h
+of_kind seen (Set f v) (Insert p w) h = absurd h
+of_kind seen (Set f v) (Remove p) h = absurd h
+of_kind seen (Set f v) (Set p w) h = (refl, refl)
+of_kind seen (Set f v) (Rename p w) h = absurd h
+of_kind seen (Set f v) (Table ks) h = absurd h
+of_kind seen (Set f v) (Element ks) h = absurd h
+of_kind seen (Rename f v) (Insert p w) h = absurd h
+of_kind seen (Rename f v) (Remove p) h = absurd h
+of_kind seen (Rename f v) (Set p w) h = absurd h
+of_kind seen (Rename f v) (Rename p w) h = (refl, refl)
+of_kind seen (Rename f v) (Table ks) h = absurd h
+of_kind seen (Rename f v) (Element ks) h = absurd h
+of_kind seen (Table f) (Insert p w) h = absurd h
+of_kind seen (Table f) (Remove p) h = absurd h
+of_kind seen (Table f) (Set p w) h = absurd h
+of_kind seen (Table f) (Rename p w) h = absurd h
+of_kind seen (Table f) (Table ks) h = (refl, refl)
+of_kind seen (Table f) (Element ks) h = absurd h
+of_kind seen (Element f) (Insert p w) h = absurd h
+of_kind seen (Element f) (Remove p) h = absurd h
+of_kind seen (Element f) (Set p w) h = absurd h
+of_kind seen (Element f) (Rename p w) h = absurd h
+of_kind seen (Element f) (Table ks) h = absurd h
+of_kind seen (Element f) (Element ks) h = (refl, refl)
+
+same_kind : (seen : SeenKeys) (x y : Edit) → IsSeen seen x → IsSeen seen y → IsOfKind y x
+same_kind seen x y h k =
+    let one = of_kind seen seen.first.now x h in
+    let other = of_kind seen seen.first.now y k in
+    (other.0 ∙ sym one.0, other.1 ∙ sym one.1)
+
+pub placed_of_kind : (seen : SeenKeys) (edits : List Edit) (first end : ℕ) (bytes : List ℕ) (changes : List TextChange)
+    (x : Edit) (at : ℕ) → All (IsSeen seen) (slice_range edits first end) → IsSeen seen x
+    → IsPlaced edits first end bytes changes x at
+placed_of_kind seen edits first end bytes changes x at all h = record {
+  insert = λ is. inl (All-weaker (IsSeen seen) (λ y. runs.is_insert (outline y) ≡ true)
+      (λ y k. (same_kind seen x y h k).0 ∙ is) (slice_range edits first end) all);
+  header = λ is. inl (All-weaker (IsSeen seen) (λ y. runs.is_header (outline y) ≡ true)
+      (λ y k. (same_kind seen x y h k).1 ∙ is) (slice_range edits first end) all);
+}
+
+-- where it writes none, or all is plain, and a line is before the end if a header comes there
+pub placed_plain : (edits : List Edit) (first end : ℕ) (bytes : List ℕ) (changes : List TextChange) (x : Edit) (at : ℕ)
+    (writes : Bool) → writes ≡ writes_anew x
+    → (writes ≡ true → IsPlain bytes × All (λ d. IsPlain d.new) changes × (list_any (takes_up_to at) changes ≡ false))
+    → (runs.is_insert (outline x) ≡ true
+    → All (λ y. runs.is_header (outline y) ≡ false) (slice_range edits first end) ⊎ (at ≢ length bytes))
+    → IsPlaced edits first end bytes changes x at
+placed_plain edits first end bytes changes x at false is h before =
+    let none = or_parts (runs.is_insert (outline x)) (runs.is_header (outline x)) (sym is) in
+    record { insert = λ yes. absurd cc; header = λ yes. absurd cc }
+placed_plain edits first end bytes changes x at true is h before =
+    record { insert = λ yes. inr (h refl, before yes); header = λ yes. inr (h refl) }

@@ -1,0 +1,130 @@
+-- A header that an append writes at the end of a text that ends in a newline, of a table or of an element.
+--
+-- All that another edit asks of it is in `HeaderComes`: what it says is said after the rest, and has paths that its
+-- keys lead to (HeaderSays); it states nothing of a path whose body begins in the document (HeaderNew); it comes before
+-- the last line (HeaderLines), where the change is stated to be; and it has no value, nor a key part that leads to a
+-- path that its keys pass by.
+--
+-- Theorems: `table_comes`, `element_comes`.
+use Rattle.std.proofs.Common.{◌≡◌, ℕ, true, List, [], ◌∷◌, ◌++◌, map, refl, sym, ap, subst, ◌∙◌, Option, Some}
+use Rattle.std.proofs.Common.{None}
+use Rattle.std.specs.Prelude.{position}
+use Rattle.keep_types.specs.declared.leaf.Profile.{Profile}
+use Rattle.keep_syntax.specs.Tree.{Content, Document, Line, blank, comment_leaves, element, header, text}
+use Rattle.keep_syntax.specs.Tree.{text_of}
+use Rattle.keep_path.specs.Path.{Part, same_path}
+use Rattle.keep_meaning.specs.Marks as marks_of
+use Rattle.keep_meaning.specs.Marks.{Mention, Reading, Statement, header_path, marks, statement_mentions}
+use Rattle.keep_meaning.specs.Meaning.{keys_of, line_mentions, mentions_in}
+use Rattle.keep_meaning.specs.Rules.{ObeysRules}
+use Rattle.keep_edit_spec.specs.AppendedHeaders.{AppendsElement, AppendsTable}
+use Rattle.keep_edit_spec.specs.Changed.{Changed, place_of, within}
+use Rattle.keep_edit_spec.specs.Edits.{append, changed_or_same, key_with}
+use Rattle.keep_edit_spec.specs.Laws.{IsEditable}
+use Rattle.keep_edit_spec.specs.Lines.{in_content, in_line, key_prefixes, part_paths, plain_line}
+use Rattle.keep_edit_spec.specs.Runs.{PassesBy}
+use Rattle.keep_edit_spec.specs.Refusals.{conflict, end_reading, tables_in}
+use Rattle.keep_edit_spec.specs.TextChanges.{TextChange, place_of_change}
+use Rattle.keep_edit_spec.specs.TextEnds.{ends_in_newline}
+use Rattle.keep_edit_spec.specs.Values.{Act}
+use Rattle.keep_edit_spec.proofs.Append.AppendTable.{no_conflict}
+use Rattle.keep_edit_spec.proofs.Common.Marks.{rules_of_document}
+use Rattle.keep_edit_spec.proofs.Common.NewLines.{key_means}
+use Rattle.keep_edit_spec.proofs.Common.Runs.{AllOf, Rules}
+use Rattle.keep_edit_spec.proofs.Lists.HeaderLines.{FindsNothing, append_is, headed, last_blank}
+use Rattle.keep_edit_spec.proofs.Lists.HeaderNew.{IsBegunIn, StatesNothing, element_new, table_new}
+use Rattle.keep_edit_spec.proofs.Lists.HeaderSays.{IsOfHeader, element_own, not_named, table_own}
+use Rattle.keep_edit_spec.proofs.Lists.StillAppends.{said}
+use Rattle.keep_edit_spec.proofs.Rename.KeyTexts.{key_texts}
+
+pub record HeaderComes (s : Document) (keys : List (List ℕ)) (c : TextChange) (content : Content) : Type 0 where
+  pub made : append s content ≡ Some (headed s content)
+  pub is : place_of (headed s content) ≡ place_of_change c
+  pub empty : s.last.content ≡ blank
+  pub own : List Mention
+  pub says : mentions_in (headed s content).to ≡ mentions_in s ++ own
+  pub stated : (r : Reading) → r.tables ≡ tables_in (mentions_in s) → line_mentions r (plain_line content) ≡ own
+  pub of_header : AllOf (IsOfHeader keys) own
+  pub new : (a : List Part) → IsBegunIn a (mentions_in s) → AllOf (StatesNothing a) own
+  pub no_value : (act : Act) (body path : List Part) → in_content act body path content ≡ None
+  pub no_part : (r : Reading) (q : List Part) → PassesBy keys q → position (same_path q) (part_paths r content) ≡ None
+
+-- what holds of the document after the change
+pub after_header : (P : Document → Type 0) (s : Document) (content : Content) (keys : List (List ℕ)) (c : TextChange)
+    → HeaderComes s keys c content → P (headed s content).to → P (changed_or_same s (append s content)).to
+after_header P s content keys c h holds =
+    subst (λ (o : Option (Changed Document)). P (changed_or_same s o).to) (sym h.made) holds
+
+-- A search in values passes it.
+pub values_pass : (s : Document) (keys : List (List ℕ)) (c : TextChange) (content : Content)
+    → HeaderComes s keys c content → (act : Act) (path : List Part) → FindsNothing (in_line act path) content
+values_pass s keys c content h act path = record {
+  blanks = λ r l e. none r l (ap (in_content act r.body path) e);
+  there = λ r. none r (plain_line content) (h.no_value act r.body path);
+}
+  where
+    none : (r : Reading) (l : Line) → in_content act r.body path l.content ≡ None → in_line act path r l ≡ None
+    none r l e =
+        ap (within (λ (x : Content). record l { content = x }) (text_of l.before)
+        (text_of l.after ++ text_of (comment_leaves l.comment))) e
+
+comes : (profile : Profile) (limit : ℕ) (s : Document) (k : List ℕ) (ks : List (List ℕ)) (c : TextChange)
+    (content : Content) (st : Statement) → IsEditable profile limit s → ends_in_newline (text s) ≡ true
+    → conflict st (mentions_in s) ≡ None → place_of (changed_or_same s (append s content)) ≡ place_of_change c
+    → ((r : Reading) → line_mentions r (plain_line content)
+    ≡ statement_mentions (record { tables = r.tables; body = [] }) st)
+    → AllOf (IsOfHeader (k ∷ ks)) (statement_mentions (end_reading (mentions_in s)) st)
+    → ((a : List Part) → IsBegunIn a (mentions_in s)
+    → Rules (mentions_in s ++ statement_mentions (end_reading (mentions_in s)) st)
+    → AllOf (StatesNothing a) (statement_mentions (end_reading (mentions_in s)) st))
+    → ((act : Act) (body path : List Part) → in_content act body path content ≡ None)
+    → ((r : Reading) → part_paths r content ≡ map (header_path r.tables []) (key_prefixes (k ∷ ks)))
+    → HeaderComes s (k ∷ ks) c content
+comes profile limit s k ks c content st fine closed free is states of_header new no_value parts =
+    let made : append s content ≡ Some (headed s content) = append_is profile s fine.valid closed content in
+    let all : List Mention = mentions_in s ++ statement_mentions (end_reading (mentions_in s)) st in
+    let says : mentions_in (headed s content).to ≡ all =
+    ap (λ (o : Option (Changed Document)). mentions_in (changed_or_same s o).to) (sym made)
+    ∙ said s content st (headed s content) made states in
+    let rules : Rules all =
+    subst Rules says (rules_of_document (headed s content).to
+    (subst (λ (ms : List Mention). ObeysRules (marks ms)) (sym says)
+    (no_conflict st (mentions_in s) fine.obeys free))) in
+    record {
+      made = made;
+      is = ap (λ (o : Option (Changed Document)). place_of (changed_or_same s o)) (sym made) ∙ is;
+      empty = last_blank profile s fine.valid closed;
+      own = statement_mentions (end_reading (mentions_in s)) st;
+      says = says;
+      stated = λ r e. states r
+          ∙ ap (λ (tables : List (List Part)). statement_mentions (record { tables = tables; body = [] }) st) e;
+      of_header = of_header;
+      new = λ a begins. new a begins rules;
+      no_value = no_value;
+      no_part = λ r q clear. ap (λ (l : List (List Part)). position (same_path q) l) (parts r)
+          ∙ not_named r.tables k ks q clear;
+    }
+
+pub table_comes : (profile : Profile) (limit : ℕ) (s : Document) (keys : List (List ℕ)) (c : TextChange)
+    → IsEditable profile limit s → AppendsTable profile limit s keys c
+    → HeaderComes s keys c (header [] (key_with keys) [])
+table_comes profile limit s [] c fine h = let no = h.allowed in absurd cc
+table_comes profile limit s (k ∷ ks) c fine h =
+    let same : keys_of (key_with (k ∷ ks)) ≡ k ∷ ks = key_means profile k ks (key_texts profile (k ∷ ks) h.utf8) in
+    comes profile limit s k ks c (header [] (key_with (k ∷ ks)) []) (marks_of.header (k ∷ ks)) fine h.closed h.allowed
+    h.is (λ r. ap (λ (x : List (List ℕ)). statement_mentions r (marks_of.header x)) same)
+    (table_own (tables_in (mentions_in s)) k ks [])
+    (λ a begins rules. table_new s k ks a begins rules) (λ act body path. refl)
+    (λ r. ap (λ (x : List (List ℕ)). map (header_path r.tables []) (key_prefixes x)) same)
+
+pub element_comes : (profile : Profile) (limit : ℕ) (s : Document) (keys : List (List ℕ)) (c : TextChange)
+    → IsEditable profile limit s → AppendsElement profile limit s keys c
+    → HeaderComes s keys c (element [] (key_with keys) [])
+element_comes profile limit s [] c fine h = let no = h.allowed in absurd cc
+element_comes profile limit s (k ∷ ks) c fine h =
+    let same : keys_of (key_with (k ∷ ks)) ≡ k ∷ ks = key_means profile k ks (key_texts profile (k ∷ ks) h.utf8) in
+    comes profile limit s k ks c (element [] (key_with (k ∷ ks)) []) (marks_of.element_header (k ∷ ks)) fine h.closed
+    h.allowed h.is (λ r. ap (λ (x : List (List ℕ)). statement_mentions r (marks_of.element_header x)) same)
+    (element_own (tables_in (mentions_in s)) k ks [])
+    (λ a begins rules. element_new s k ks a begins rules) (λ act body path. refl)
+    (λ r. ap (λ (x : List (List ℕ)). map (header_path r.tables []) (key_prefixes x)) same)

@@ -1,0 +1,74 @@
+-- Where bodies end once a header came at the end of a text that ends in a newline: where they did.
+--
+-- The lines that come, and the last line, which is blank, are none of a body that began before: blank lines at the end
+-- do not count, and a header ends the body before it. So a body's length is the same (`lengths_same`), and so is its
+-- end, if the header does not begin it once more (`ends_same`, both by induction over the lines).
+--
+-- Theorem: `end_headed`.
+use Rattle.std.proofs.Common.{◌≡◌, ℕ, true, false, List, [], ◌∷◌, ◌++◌, map, refl, sym, ap, ap₂, ◌∙◌, Option, Some}
+use Rattle.std.proofs.Common.{None}
+use Rattle.keep_syntax.specs.Tree.{Content, Document, Line, blank}
+use Rattle.keep_path.specs.Path.{Part}
+use Rattle.keep_meaning.specs.Marks.{Reading, start}
+use Rattle.keep_meaning.specs.Meaning.{after_line, line_of, lines, reading_after_lines}
+use Rattle.keep_edit_spec.specs.Edits.{end_of}
+use Rattle.keep_edit_spec.specs.Lines.{begins, body_length, is_header, last_line, more_lines, plain_line}
+use Rattle.keep_edit_spec.proofs.Lists.BodyEnds.{end_at, end_cons, end_in, end_or, header_none, length_after}
+use Rattle.keep_edit_spec.proofs.Lists.HeaderLines.{headed, lines_are, not_last, put_is}
+
+lengths_same : (first more others : List Line) → body_length more ≡ body_length others
+    → body_length (first ++ more) ≡ body_length (first ++ others)
+lengths_same [] more others h = h
+lengths_same (l ∷ first) more others h = ap (length_after l.content) (lengths_same first more others h)
+
+ends_same : (a : List Part) (r : Reading) (first more others : List Line) → body_length more ≡ body_length others
+    → end_in a (reading_after_lines r first) more ≡ end_in a (reading_after_lines r first) others
+    → end_in a r (first ++ more) ≡ end_in a r (first ++ others)
+ends_same a r [] more others h same = same
+ends_same a r (l ∷ first) more others h same =
+    end_cons a r l (first ++ more)
+    ∙ ap₂ (λ (n : ℕ) (o : Option ℕ). end_or (begins a r l) n o) (lengths_same first more others h)
+    (ends_same a (after_line r l) first more others h same)
+    ∙ sym (end_cons a r l (first ++ others))
+
+module _ (s : Document) (content : Content) (empty : s.last.content ≡ blank) (is : is_header content ≡ true) where
+  abbrev first : List Line
+  first = map line_of s.ended
+
+  abbrev last : List Line
+  last = s.last ∷ []
+
+  abbrev more : List Line
+  more = plain_line blank ∷ plain_line content ∷ last
+
+  abbrev at_end : Reading
+  at_end = reading_after_lines start first
+
+  -- no body goes on in them
+  none_more : body_length more ≡ body_length last
+  none_more =
+      ap (more_lines false) (header_none content (body_length last) is)
+      ∙ sym (ap (λ (x : Content). length_after x 0) empty)
+
+  none_begun : (a : List Part) → begins a at_end (plain_line content) ≡ false
+      → end_in a at_end more ≡ end_in a at_end last
+  none_begun a other =
+      let end : (r : Reading) → last_line (begins a) r last ≡ None =
+      λ r. not_last (begins a) r s.last [] (ap (λ (x : Content). begins a r (plain_line x)) empty) refl in
+      let next : Reading = after_line at_end (plain_line content) in
+      ap (end_at more)
+      (not_last (begins a) at_end (plain_line blank) (plain_line content ∷ last) refl
+      (not_last (begins a) at_end (plain_line content) last other (end next)))
+      ∙ sym (ap (end_at last) (end at_end))
+
+  now_are : lines (headed s content).to ≡ first ++ more
+  now_are = ap lines (put_is s content) ∙ lines_are s content
+
+  pub end_headed : (a : List Part) → begins a at_end (plain_line content) ≡ false
+      → end_of (headed s content).to a ≡ end_of s a
+  end_headed [] other =
+      ap (λ (ls : List Line). Some (body_length ls)) now_are
+      ∙ ap (λ (n : ℕ). Some n) (lengths_same first more last none_more)
+  end_headed (p ∷ ps) other =
+      ap (end_in (p ∷ ps) start) now_are
+      ∙ ends_same (p ∷ ps) start first more last none_more (none_begun (p ∷ ps) other)

@@ -1,0 +1,48 @@
+-- An insert that adds a line adds the same one after a rename made its own change elsewhere.
+--
+-- The insert's path is apart from the renamed one and from its new one, and so is each of its prefixes. So the same is
+-- said of these as before, and its holder's body ends at the same line (RenamedEnds). So the insert adds its line at
+-- the moved place (StaysBeside).
+--
+-- Theorem: `insert_after_rename`.
+use Rattle.std.proofs.Common.{◌≡◌, List, [], ◌∷◌, sym, ap, subst, ◌∙◌, Option}
+use Rattle.keep_syntax.specs.Tree.{Document}
+use Rattle.keep_path.specs.Path.{Part, beside, key}
+use Rattle.keep_meaning.specs.Meaning.{mentions_in}
+use Rattle.keep_edit_spec.specs.AddedLines.{AddsLine}
+use Rattle.keep_edit_spec.specs.Changed.{Changed}
+use Rattle.keep_edit_spec.specs.Edits.{changed_or_same, edited_document, rename}
+use Rattle.keep_edit_spec.specs.Lines.{newline_of}
+use Rattle.keep_edit_spec.specs.Look.{holder}
+use Rattle.keep_edit_spec.proofs.Lists.TwoKinds.{InsertAfterRename}
+use Rattle.keep_edit_spec.specs.TextChanges.{moved}
+use Rattle.keep_edit_spec.proofs.Common.DoneAtValue.{EachOf}
+use Rattle.keep_edit_spec.proofs.Lists.LineStarts.{LinesBegin, rename_lines_begin}
+use Rattle.keep_edit_spec.proofs.Lists.RenameAllowed.{kinds_stay}
+use Rattle.keep_edit_spec.proofs.Lists.RenamePlaces.{change_at, placed}
+use Rattle.keep_edit_spec.proofs.Lists.RenamedEnds.{end_renamed}
+use Rattle.keep_edit_spec.proofs.Lists.SetAllowed.{prefix_clear}
+use Rattle.keep_edit_spec.proofs.Lists.StaysBeside.{adds_beside}
+use Rattle.keep_edit_spec.proofs.Rename.RenameNodes.{IsNodeRenamed, nodes_renamed}
+use Rattle.keep_edit_spec.proofs.Rename.RenameWhole.{rename_whole}
+
+pub insert_after_rename : InsertAfterRename
+insert_after_rename profile limit s path name c other more d fine h g apart apart_new side newline differs =
+    let b : List Part = beside path name in
+    let a : List Part = holder other (mentions_in s) in
+    let r = rename_whole profile limit s path name fine.valid fine.obeys h.utf8 h.allowed in
+    let x : Changed Document = r.changed in
+    let to : edited_document s (rename path name) ≡ x.to =
+    ap (λ (o : Option (Changed Document)). (changed_or_same s o).to) r.is in
+    let renamed : IsNodeRenamed path b s x.to =
+    subst (IsNodeRenamed path b s) to
+    (nodes_renamed profile limit s path name fine.valid fine.obeys h.utf8 h.allowed) in
+    subst (λ (t : Document). AddsLine profile limit t other more (moved c d)) (sym to)
+    (adds_beside profile limit s x c (subst (EachOf (LinesBegin s)) r.is (rename_lines_begin s path name))
+    (change_at c x (placed s (rename path name) x c r.is h.is)) h.some other more d g side
+    (ap newline_of (sym to) ∙ newline)
+    (λ q rest is.
+    kinds_stay path b s x.to renamed q (prefix_clear path other q rest apart.0 is)
+    (prefix_clear b other q rest apart_new.0 is))
+    (end_renamed path b s x.to a r.by_line renamed.clear (prefix_clear path other a (key g.text ∷ []) apart.0 g.one)
+    (prefix_clear b other a (key g.text ∷ []) apart_new.0 g.one)))

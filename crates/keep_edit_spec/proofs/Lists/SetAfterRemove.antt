@@ -1,0 +1,57 @@
+-- A set makes the same change after a remove of another path took a line.
+--
+-- The set finds nothing in that line, since its path does not begin with the line's. So it makes the same change as
+-- before, at the moved place (LineGone). What the line says is at its path or under it, but for the tables that its key
+-- goes through, which state no fact. So the facts of other paths are as before, and the set is not refused
+-- (SetAllowed).
+--
+-- Theorem: `set_after_remove`.
+use Rattle.std.proofs.Common.{◌≡◌, ℕ, List, None, sym, subst}
+use Rattle.keep_types.specs.declared.leaf.Profile.{Profile}
+use Rattle.keep_syntax.specs.Tree.{Document, Value}
+use Rattle.keep_path.specs.Path.{Part, strip}
+use Rattle.keep_meaning.specs.Meaning.{mentions_in}
+use Rattle.keep_edit_spec.specs.Edits.{change, set}
+use Rattle.keep_edit_spec.specs.Laws.{IsEditable, IsLawfulEdit}
+use Rattle.keep_edit_spec.proofs.Lists.TwoKinds.{SetAfterRemove}
+use Rattle.keep_edit_spec.specs.Refusals.{refusal}
+use Rattle.keep_edit_spec.specs.RemovedLines.{RemovesLine}
+use Rattle.keep_edit_spec.specs.SetValues.{SetsValue}
+use Rattle.keep_edit_spec.specs.TextChanges.{TextChange, moved}
+use Rattle.keep_edit_spec.specs.Values.{replacement}
+use Rattle.keep_edit_spec.proofs.EditLaws.{set_lawful}
+use Rattle.keep_edit_spec.proofs.Common.Texts.{replacement-is}
+use Rattle.keep_edit_spec.proofs.Lists.LineGone as gone
+use Rattle.keep_edit_spec.proofs.Lists.SetAllowed.{facts_kept, prefix_clear}
+use Rattle.keep_edit_spec.proofs.Lists.SetPlaces.{Stays}
+
+module _ (profile : Profile) (limit : ℕ) (s : Document) (path : List Part) (c : TextChange) (other : List Part)
+    (more : Value) (d : TextChange) (fine : IsEditable profile limit s) (h : RemovesLine profile limit s path c)
+    (k : SetsValue profile limit s other more d) (apart : strip path other ≡ None) where
+  abbrev now : Document
+  now = gone.now profile limit s path c fine h
+
+  allowed_now : refusal profile limit now (set other more) ≡ None
+  allowed_now =
+      facts_kept profile limit other more (mentions_in s) (mentions_in now)
+      (λ q rest is. gone.fact_now profile limit s path c fine h q (prefix_clear path other q rest apart is)) k.allowed
+
+  stays : Stays (gone.removed profile limit s path c fine h) (change s (set other more)) (change now (set other more))
+  stays = gone.nested_without profile limit s path c fine h (replacement more) (replacement-is more) other apart
+
+  sets_now : SetsValue profile limit now other more (moved c d)
+  sets_now =
+      let law : IsLawfulEdit profile limit s (set other more) =
+      set_lawful profile limit s other more fine k.given k.allowed in
+      record {
+        given = k.given;
+        allowed = allowed_now;
+        some = k.some;
+        is = gone.place_without profile limit s path c fine h d (set other more) law.changed law.is k.is k.some stays;
+      }
+
+pub set_after_remove : SetAfterRemove
+set_after_remove profile limit s path c other more d fine h k apart beside =
+    subst (λ (t : Document). SetsValue profile limit t other more (moved c d))
+    (sym (gone.is_now profile limit s path c fine h))
+    (sets_now profile limit s path c other more d fine h k apart.0)

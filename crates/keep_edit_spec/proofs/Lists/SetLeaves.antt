@@ -1,0 +1,91 @@
+-- What a set leaves of a document: what is said of paths that do not begin with its own, and where bodies end.
+--
+-- A set replaces the run of mentions at and under its path (`document_set`), so of any other path the same is said. It
+-- changes the value of one line alone (`one_line_set`), which is a keyval as before: so the lengths of bodies and the
+-- lines that begin them are the same (`length_same`, `end_same`).
+--
+-- Theorems: `set_kinds`, `set_ends`.
+use Rattle.std.proofs.Common.{◌≡◌, ℕ, List, [], ◌∷◌, ◌++◌, sym, ap, ap₂, subst, ◌∙◌, Option, Some, None}
+use Rattle.keep_syntax.specs.Tree.{Name, Value, Content, keyval, Line, Document}
+use Rattle.keep_path.specs.Path.{Part, strip}
+use Rattle.keep_meaning.specs.Marks.{Mention, MentionKind, Reading, start}
+use Rattle.keep_meaning.specs.Meaning.{after_line, body_fact, entries_mentions, lines, mentions_in}
+use Rattle.keep_meaning.specs.Nodes.{kinds_at}
+use Rattle.keep_edit_spec.specs.Changed.{Changed}
+use Rattle.keep_edit_spec.specs.Edits.{change, end_of, set}
+use Rattle.keep_edit_spec.specs.Lines.{begins, body_length}
+use Rattle.keep_edit_spec.proofs.Common.Runs.{AllOf, IsUnder, Rules, kinds_at-append, kinds_at-under}
+use Rattle.keep_edit_spec.proofs.Common.SetDocument.{LinesSet, document_set, one_line_set, under_run}
+use Rattle.keep_edit_spec.proofs.Common.SetLaw.{EachTo, IsSet, run, tag_of}
+use Rattle.keep_edit_spec.proofs.Lists.BodyEnds.{end_cons, end_in, end_or, length_after}
+
+-- ---- what is said of other paths
+
+without_run : (p q : List Part) (before mid after : List Mention) → AllOf (IsUnder p) mid → strip p q ≡ None
+    → kinds_at q (before ++ (mid ++ after)) ≡ kinds_at q before ++ kinds_at q after
+without_run p q before mid after under clear =
+    kinds_at-append q before (mid ++ after)
+    ∙ ap (λ (l : List MentionKind). kinds_at q before ++ l)
+    (kinds_at-append q mid after
+    ∙ ap (λ (l : List MentionKind). l ++ kinds_at q after) (kinds_at-under p q mid under clear))
+
+run_kinds : (path : List Part) (new : Value) (from to : List Mention) (q : List Part) → IsSet path new from to
+    → strip path q ≡ None → kinds_at q to ≡ kinds_at q from
+run_kinds path new from to q h clear =
+    let old : List Mention = run path (tag_of h.name h.fact) (entries_mentions 0 h.entries) in
+    let now : List Mention = run path (tag_of h.name (body_fact new.body)) (entries_mentions 0 new.nested) in
+    ap (kinds_at q) h.is
+    ∙ without_run path q h.before now h.after
+    (under_run path (tag_of h.name (body_fact new.body)) (entries_mentions 0 new.nested)) clear
+    ∙ sym (ap (kinds_at q) h.was
+    ∙ without_run path q h.before old h.after (under_run path (tag_of h.name h.fact) (entries_mentions 0 h.entries))
+    clear)
+
+pub set_kinds : (s : Document) (path : List Part) (new : Value) (x : Changed Document) → Rules (mentions_in s)
+    → change s (set path new) ≡ Some x → (q : List Part) → strip path q ≡ None
+    → kinds_at q (mentions_in x.to) ≡ kinds_at q (mentions_in s)
+set_kinds s path new x rules made q clear =
+    run_kinds path new (mentions_in s) (mentions_in x.to) q
+    (subst (λ (o : Option (Changed Document)). EachTo (λ t. IsSet path new (mentions_in s) (mentions_in t)) o) made
+    (document_set s path new rules)) clear
+
+-- ---- where bodies end
+
+-- one line is a keyval of one name before and after
+module _ (name : Name) (v w : Value) (old now : Line) (was : old.content ≡ keyval name v)
+    (is : now.content ≡ keyval name w) where
+  length_same : (pre post : List Line) → body_length (pre ++ old ∷ post) ≡ body_length (pre ++ now ∷ post)
+  length_same [] post =
+      ap (λ (c : Content). length_after c (body_length post)) was
+      ∙ sym (ap (λ (c : Content). length_after c (body_length post)) is)
+  length_same (x ∷ pre) post = ap (length_after x.content) (length_same pre post)
+
+  end_same : (a : List Part) (r : Reading) (pre post : List Line)
+      → end_in a r (pre ++ old ∷ post) ≡ end_in a r (pre ++ now ∷ post)
+  end_same a r [] post =
+      end_cons a r old post ∙ ap (from old) was ∙ sym (end_cons a r now post ∙ ap (from now) is)
+    where
+      from : Line → Content → Option ℕ
+      from l c =
+          let x : Line = record { before = l.before; content = c; after = l.after; comment = l.comment } in
+          end_or (begins a r x) (body_length post) (end_in a (after_line r x) post)
+  end_same a r (x ∷ pre) post =
+      end_cons a r x (pre ++ old ∷ post)
+      ∙ ap₂ (end_or (begins a r x)) (length_same pre post) (end_same a (after_line r x) pre post)
+      ∙ sym (end_cons a r x (pre ++ now ∷ post))
+
+  ends_same : (s to : Document) (a : List Part) (pre post : List Line) → lines s ≡ pre ++ old ∷ post
+      → lines to ≡ pre ++ now ∷ post → end_of to a ≡ end_of s a
+  ends_same s to [] pre post e f =
+      ap (λ (n : ℕ). Some n) (ap body_length f ∙ sym (length_same pre post) ∙ sym (ap body_length e))
+  ends_same s to (p ∷ ps) pre post e f =
+      ap (end_in (p ∷ ps) start) f ∙ sym (end_same (p ∷ ps) start pre post) ∙ sym (ap (end_in (p ∷ ps) start) e)
+
+pub set_ends : (s : Document) (path : List Part) (new : Value) (x : Changed Document)
+    → change s (set path new) ≡ Some x → (a : List Part) → end_of x.to a ≡ end_of s a
+set_ends s path new x made a =
+    let h : LinesSet start path new (lines s) (lines x.to) =
+    subst (λ (o : Option (Changed Document)). EachTo (λ t. LinesSet start path new (lines s) (lines t)) o) made
+    (one_line_set s path new) in
+    ends_same h.content.name h.content.old h.content.now h.old h.now h.content.was h.content.is s x.to a h.pre h.post
+    h.was h.is
