@@ -52,7 +52,7 @@ READ_BY = {
     "nodes_of_value": [INDEX + "insert_value"],
     "set_text": [INDEX + "set_value", "keep_edit index_change::set_inside"],
     # what reads it again, for a list of edits
-    "copied": [DOCUMENT + "after_each"],
+    "copied": [DOCUMENT + "begun"],
     "after_each": [DOCUMENT + "apply_all"],
     "apply_all": [],
     # what reads the touched lines (`reread` is also a function of the syntax that makes another one)

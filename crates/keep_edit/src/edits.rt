@@ -1,8 +1,9 @@
 //! Edits that are given as values: one, and lists of them.
-ghost use Rattle.std.specs.Prelude.{◌≡◌, ◌⊎◌, ◌<◌, length, IfErr, IfOk, MatchResult, OnErr};
+ghost use Rattle.std.specs.Prelude.{◌≡◌, ◌⊎◌, ◌<◌, ◌≤◌, length, take, IfErr, IfOk, MatchResult, OnErr};
 ghost use Rattle.keep_syntax.specs.Tree as tree;
 ghost use Rattle.keep_edit_spec.specs.Edits as law;
-ghost use Rattle.keep_edit.specs.Reading.{IsAccepted, IsTextOfTree};
+ghost use Rattle.keep_edit_spec.specs.declared.fault.EditFault.TheVariants.{Memory};
+ghost use Rattle.keep_edit.specs.Reading.{IsAccepted, IsTextOfTree, ProfiledText};
 ghost use Rattle.keep_edit.specs.Answers.{EditDone, EditReported, EditWritten, IsSpanOf};
 ghost use Rattle.keep_edit.specs.Lists.{IsEdit, AllDone, AllWritten, AreMade, EachDone, IsNotCopied, StopsAt};
 
@@ -83,8 +84,8 @@ impl Document {
     /// Makes all edits in their order, each on the document after those before it; or none of them: after a refusal the
     /// document is as before. More than one are made on a copy, which is read of the document's text once; then each
     /// edit reads the lines that it touches. Where many come in a row that leave one another alone, they are made at
-    /// once, and the text is read anew after them. An empty list takes no memory. The document's own allocator gives
-    /// the memory.
+    /// once, and the text is read anew after them: of the first edits this is the copy. An empty list takes no memory.
+    /// The document's own allocator gives the memory.
     ///
     /// # Errors
     ///
@@ -132,12 +133,30 @@ impl Document {
         ensures number { IfErr result (λ stop. stop.0 < length edits.now) }
         ensures of { IsAccepted self.now }
     {
-        let mut copy = match self.copied() {
-            Ok(copy) => copy,
+        let (mut document, next) = match self.begun(edits) {
+            Ok(begun) => begun,
             Err(fault) => return Err((0, fault)),
         };
-        copy.apply_each(edits)?;
-        Ok(copy)
+        document.apply_from(edits, next)?;
+        Ok(document)
+    }
+
+    /// A copy on which as many of the first edits are made as are made at once, and the number of the next. The only
+    /// error is out of memory.
+    fn begun(&self, edits: &[Edit]) -> Result<(Document, usize), EditFault>
+        requires { 0 < length edits.now }
+        ensures made { IfOk result (λ begun. (s : tree.Document) (old : ProfiledText)
+            → AreMade s (take 0 edits.now) old self.now → AreMade s (take begun.1 edits.now) old begun.0) }
+        ensures next { IfOk result (λ begun. begun.1 ≤ length edits.now) }
+        ensures memory { IfErr result (λ fault. fault ≡ Memory) }
+        ensures of { IsAccepted self.now }
+    {
+        // The invariant of a document is known to the proof from where a field of it is looked at.
+        let _text = &self.text;
+        if let Some(begun) = self.after_first(edits) {
+            return Ok(begun);
+        }
+        Ok((self.copied()?, 0))
     }
 
     /// Makes the edits in their order, up to the first that is refused.
@@ -145,7 +164,19 @@ impl Document {
         ensures done { (s : tree.Document) → IsTextOfTree self.old s → EachDone s edits.now self.old self.new result }
         ensures number { IfErr result (λ stop. stop.0 < length edits.now) }
     {
-        let mut next = 0;
+        // The invariant of a document is known to the proof from where a field of it is looked at.
+        let _text = &self.text;
+        self.apply_from(edits, 0)
+    }
+
+    /// Makes the edits from number `first` on in their order, up to the first that is refused.
+    fn apply_from(&mut self, edits: &[Edit], first: usize) -> Result<(), (usize, EditFault)>
+        requires { first ≤ length edits.now }
+        ensures done { (s : tree.Document) (old : ProfiledText) → AreMade s (take first edits.now) old self.old
+            → EachDone s edits.now old self.new result }
+        ensures number { IfErr result (λ stop. stop.0 < length edits.now) }
+    {
+        let mut next = first;
         while next < edits.len() {
             next = self.apply_some(edits, next)?;
         }

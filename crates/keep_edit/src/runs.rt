@@ -138,6 +138,25 @@ impl Document {
         self.apply_up_to(edits, first, end.max(first + 1))
     }
 
+    /// The document after the first edits, as many as are made at once, and the number of the next; None where none
+    /// are. This one stays as it is.
+    pub(crate) fn after_first(&self, edits: &[Edit]) -> Option<(Document, usize)>
+        requires { 0 < length edits.now }
+        ensures made { IfSome result (λ after. (s : tree.Document) (old : ProfiledText)
+            → AreMade s (take 0 edits.now) old self.now → AreMade s (take after.1 edits.now) old after.0) }
+        ensures next { IfSome result (λ after. after.1 ≤ length edits.now) }
+    {
+        if !self.is_worth_reading(edits) {
+            return None;
+        }
+        let changes = self.changes_at_once(edits, 0);
+        let end = changes.len();
+        if !self.is_worth_reading(&edits[..end]) {
+            return None;
+        }
+        Some((self.with_changes(&changes)?, end))
+    }
+
     /// Makes the edits from number `first` up to that with number `end`, one by one. Returns that number.
     ///
     /// # Errors
