@@ -10,14 +10,20 @@ use Rattle.keep_args.specs.declared.subcommand.Word.{Word}
 use Rattle.keep_cli.specs.declared.fault.EntryWhy.{EntryWhy}
 use Rattle.keep_cli.specs.declared.fault.UseFault.{UseFault}
 use Rattle.keep_cli.specs.declared.fault.UseFault.TheVariants.{Entry}
+use Rattle.keep_cli.specs.declared.script.Element.{Element}
 use Rattle.keep_cli.specs.declared.script.Texts.{Texts}
-use Rattle.keep_cli.specs.Script.{element_count, element_path, given, word_key, AreEntries, HasWords, IsNoEntry}
-use Rattle.keep_cli.specs.Script.{MakesNoneFor}
+use Rattle.keep_cli.specs.Script.{element_count, element_path, given, key_path, word_key, AreEntries, HasWords}
+use Rattle.keep_cli.specs.Script.{IsNoEntry, MakesNoneFor}
 
 -- these edits are given by all elements
 pub record StatesEdits (profile : Profile) (s : Document) (edits : List Edit) : Type 0 where
   pub count : element_count s ≡ Some (length edits)
   pub entries : AreEntries profile s 0 edits
+
+-- what is known of the element with this number: the path of its op, and how many keys it has
+abbrev pub IsElement : Document → ℕ → Element → Type 0
+IsElement s n element =
+    (element.path ≡ key_path n (codes "op")) × (element.keys ≡ child_count_of (element_path n) s)
 
 -- the third key of an element, beside `op` and `path`: that of the second word
 abbrev pub third_key : List Word → Option (List ℕ)

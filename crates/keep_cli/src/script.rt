@@ -1,5 +1,5 @@
 //! Scripts: lists of edits as a document.
-ghost use Rattle.std.specs.Prelude.{◌≡◌, ◌⊎◌, IfOk, IfSome, MatchResult, option_map, string_bytes};
+ghost use Rattle.std.specs.Prelude.{◌≡◌, ◌⊎◌, ℕ, IfOk, IfSome, MatchResult, option_map, string_bytes};
 ghost use Rattle.keep_syntax.specs.Tree as tree;
 ghost use Rattle.keep_edit.specs.Reading.{IsTextOfTree};
 ghost use Rattle.keep_args.specs.Table.{edit_words};
@@ -7,13 +7,20 @@ ghost use Rattle.keep_cli.specs.EditWords.{words_for, Makes};
 ghost use Rattle.keep_cli.specs.Script as spec;
 ghost use Rattle.keep_cli.specs.Script.{IsEntry, IsScript, IsScriptFault, IsTreeFault};
 ghost use Rattle.keep_cli.specs.Scripting as steps;
-ghost use Rattle.keep_cli.specs.Scripting.{AreTexts, AreTextsOf, IsFaultAt, IsTextsFault, StatesEdits};
+ghost use Rattle.keep_cli.specs.Scripting.{AreTexts, AreTextsOf, IsElement, IsFaultAt, IsTextsFault, StatesEdits};
 
 use crate::edit::{WordFault, edit_of};
 use crate::fault::{EntryWhy, UseFault};
 use keep_args::{Op, Word, edit_named};
 use keep_edit::{Document, Edit, Kind, Path, Profile, ReadFault};
 use std::alloc::{AllocError, Global};
+
+// An element: the path of its op, beside which its other keys are, and how many keys it has.
+#[derive(Drop)]
+struct Element {
+    path: Path,
+    keys: Option<usize>,
+}
 
 // The texts of an element beside its op's. The third is empty where the op asks for none.
 #[derive(Drop)]
@@ -99,28 +106,41 @@ fn entry_of(
         → MatchResult result (IsEntry profile s index)
         (λ fault. (fault ≡ UseFault.Memory) ⊎ IsFaultAt profile s index fault) }
 {
-    let Some((op, words)) = op_of(alloc, document, index)? else {
+    let element = element_at(alloc, document, index)?;
+    let Some((op, words)) = op_of(alloc, document, &element)? else {
         let why = EntryWhy::Op;
         return Err(UseFault::Entry { index, why });
     };
-    let Some(texts) = texts_of(alloc, document, index, op, words)? else {
+    let Some(texts) = texts_of(alloc, document, &element, op, words)? else {
         let why = EntryWhy::Keys;
         return Err(UseFault::Entry { index, why });
     };
     edit_from(alloc, index, profile, op, &texts)
 }
 
+// The element of a number.
+fn element_at(alloc: Global, document: &Document, index: usize) -> Result<Element, AllocError>
+    ensures { (s : tree.Document) → IsTextOfTree document.now s → IfOk result (IsElement s index) }
+{
+    let mut path = Path::new(alloc);
+    path.push_key("edit")?;
+    path.push_index(index)?;
+    let keys = document.child_count(&path);
+    path.push_key("op")?;
+    Ok(Element { path, keys })
+}
+
 // The op of an element, and what its words are; None where it has no string `op`, or an unknown one.
 fn op_of(
     alloc: Global,
     document: &Document,
-    index: usize,
+    element: &Element,
 ) -> Result<Option<(Op, &'static [Word])>, AllocError>
-    ensures op { (s : tree.Document) → IsTextOfTree document.now s
-        → IfOk result (λ found. option_map (λ edit. edit.0) found ≡ spec.op_of s index) }
+    ensures op { (s : tree.Document) (n : ℕ) → IsTextOfTree document.now s → IsElement s n element.now
+        → IfOk result (λ found. option_map (λ edit. edit.0) found ≡ spec.op_of s n) }
     ensures words { IfOk result (λ found. IfSome found (λ edit. edit.1.now ≡ edit_words edit.0)) }
 {
-    match given(alloc, document, index, "op")? {
+    match document.str_value(alloc, &element.path)? {
         Some(name) => Ok(edit_named(name.as_str())),
         None => Ok(None),
     }
@@ -148,14 +168,15 @@ fn third_key(words: &[Word]) -> Option<&'static str>
 fn texts_of(
     alloc: Global,
     document: &Document,
-    index: usize,
+    element: &Element,
     op: Op,
     words: &[Word],
 ) -> Result<Option<Texts>, AllocError>
     requires { words.now ≡ edit_words op }
-    ensures { (s : tree.Document) → IsTextOfTree document.now s → IfOk result (AreTextsOf s index (edit_words op)) }
+    ensures { (s : tree.Document) (n : ℕ) → IsTextOfTree document.now s → IsElement s n element.now
+        → IfOk result (AreTextsOf s n (edit_words op)) }
 {
-    texts_at(alloc, document, index, words)
+    texts_at(alloc, document, element, words)
 }
 
 // The texts at `path` and at the key of the second of such words, if there is one; None where these are not the keys
@@ -163,56 +184,29 @@ fn texts_of(
 fn texts_at(
     alloc: Global,
     document: &Document,
-    index: usize,
+    element: &Element,
     words: &[Word],
 ) -> Result<Option<Texts>, AllocError>
-    ensures { (s : tree.Document) → IsTextOfTree document.now s
-        → IfOk result (AreTexts s index (steps.third_key words.now)) }
+    ensures { (s : tree.Document) (n : ℕ) → IsTextOfTree document.now s → IsElement s n element.now
+        → IfOk result (AreTexts s n (steps.third_key words.now)) }
 {
     let third = third_key(words);
     let many = if third.is_some() { 3 } else { 2 };
-    let mut path = element_path(alloc, index)?;
-    match document.child_count(&path) {
+    match element.keys {
         Some(count) if count == many => {}
         _ => return Ok(None),
     }
-    path.push_key("path")?;
-    let Some(path) = document.str_value(alloc, &path)? else {
+    let Some(path) = document.str_value_beside(alloc, &element.path, "path")? else {
         return Ok(None);
     };
     let Some(name) = third else {
         let third = String::new(alloc);
         return Ok(Some(Texts { path, third }));
     };
-    match given(alloc, document, index, name)? {
+    match document.str_value_beside(alloc, &element.path, name)? {
         Some(third) => Ok(Some(Texts { path, third })),
         None => Ok(None),
     }
-}
-
-// What the string at a key of an element means; None where there is no such key, or no string.
-fn given(
-    alloc: Global,
-    document: &Document,
-    index: usize,
-    name: &str,
-) -> Result<Option<String>, AllocError>
-    ensures { (s : tree.Document) → IsTextOfTree document.now s
-        → IfOk result (λ found. option_map string_bytes found ≡ spec.given s index name.now) }
-{
-    let mut path = element_path(alloc, index)?;
-    path.push_key(name)?;
-    document.str_value(alloc, &path)
-}
-
-// The path of an element.
-fn element_path(alloc: Global, index: usize) -> Result<Path, AllocError>
-    ensures { IfOk result (λ path. path ≡ spec.element_path index) }
-{
-    let mut path = Path::new(alloc);
-    path.push_key("edit")?;
-    path.push_index(index)?;
-    Ok(path)
 }
 
 // The edit that an op makes of the texts of the element of a number.

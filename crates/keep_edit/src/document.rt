@@ -236,7 +236,9 @@ impl Document {
 }
 
 impl Document {
-    ghost use Rattle.keep_edit.specs.Answers.{kind_of, int_value_of, str_value_of, entries_of};
+    ghost use Rattle.std.specs.Prelude.{List};
+    ghost use Rattle.keep_path.specs.Path.{Part, beside};
+    ghost use Rattle.keep_edit.specs.Answers.{kind_of, int_value_of, str_value_of, entries_of, IsFound};
     ghost use Rattle.keep_edit_spec.specs.Answers as answers;
 
     /// What is at a path; None where it names no node.
@@ -285,8 +287,37 @@ impl Document {
             → IfOk result (λ found. option_map string_bytes found ≡ str_value_of path.now s) }
         ensures accepted { IsAccepted self.now }
     {
+        self.string_found(alloc, self.as_ref().value_number(path))
+    }
+
+    /// What the string at a path with this key, decoded, in place of its last step means, as `str_value` gives it. For
+    /// the root's path it is a key of the root. So of one path any key of a table can be asked.
+    pub fn str_value_beside(
+        &self,
+        alloc: Global,
+        path: &Path,
+        key: &str,
+    ) -> Result<Option<String>, AllocError>
+        ensures string { (s : tree.Document) → IsTextOfTree self.now s
+            → IfOk result (λ found. option_map string_bytes found ≡ str_value_of (beside path.now key.now) s) }
+        ensures accepted { IsAccepted self.now }
+    {
+        self.string_found(alloc, self.as_ref().value_number_beside(path, key))
+    }
+
+    // What the string means whose number was looked for at a path; None where another value was found, or none.
+    fn string_found(
+        &self,
+        alloc: Global,
+        found: Result<usize, EditFault>,
+    ) -> Result<Option<String>, AllocError>
+        requires { (path : List Part) × ((s : tree.Document) → IsTextOfTree self.now s → IsFound path s found) }
+        ensures string { (path : List Part) (s : tree.Document) → IsTextOfTree self.now s → IsFound path s found
+            → IfOk result (λ value. option_map string_bytes value ≡ str_value_of path s) }
+        ensures accepted { IsAccepted self.now }
+    {
         let text = self.text.as_str();
-        let Ok(number) = self.as_ref().value_number(path) else {
+        let Ok(number) = found else {
             return Ok(None);
         };
         let value = self.syntax.value(number);

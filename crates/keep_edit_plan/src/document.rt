@@ -1,6 +1,7 @@
 //! A document that was read, as its edits look at it.
 ghost use Rattle.std.specs.Prelude.{◌≡◌};
 ghost use Rattle.keep_syntax.specs.Tree as tree;
+ghost use Rattle.keep_path.specs.Path.{beside};
 ghost use Rattle.keep_edit_plan.specs.Answers.{IsFound};
 ghost use Rattle.keep_edit_plan.specs.Plans.{IsValueFound};
 ghost use Rattle.keep_edit_plan.specs.Reading.{Holds, IsTextOfTree, text_in};
@@ -61,6 +62,24 @@ impl<'a> DocumentRef<'a> {
         // The invariant of a document is known to the proof from where a field of it is looked at.
         let _text = self.text;
         let (_, number) = self.value_node(path)?;
+        Ok(number)
+    }
+
+    /// The number of the value at a path with this key, decoded, in place of its last step, among those of the syntax.
+    /// For the root's path it is a key of the root. It takes no memory.
+    ///
+    /// # Errors
+    ///
+    /// Those of `value_number` at that path.
+    pub fn value_number_beside(&self, path: &Path, key: &str) -> Result<usize, EditFault>
+        ensures { (s : tree.Document) → IsTextOfTree self.now s → IsFound (beside path.now key.now) s result }
+    {
+        let Some(node) = self.index.sibling(path, key) else {
+            return Err(EditFault::NotFound);
+        };
+        let Origin::Value(number) = self.index.node(node).origin else {
+            return Err(EditFault::NotValue);
+        };
         Ok(number)
     }
 

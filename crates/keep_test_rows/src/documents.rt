@@ -58,6 +58,7 @@ fn report_of(alloc: Global, document: &Document, row: &Row) -> Answer {
         "list" => list(alloc, document),
         "get by steps" => got_by_steps(alloc, document, row),
         "as in strict" => as_in_strict(alloc, document),
+        "string beside" => string_beside(alloc, document, row.text(1), row.text(2)),
         question => report_at(alloc, document, question, row.text(1)),
     }
 }
@@ -102,9 +103,21 @@ fn got(alloc: Global, document: &Document, path: &Path) -> Answer {
     }
 }
 
-// The string at a path in angle brackets, or `none`.
+// The string beside the path that a text tells.
+fn string_beside(alloc: Global, document: &Document, path: &str, key: &str) -> Answer {
+    let Ok(path) = Path::read(alloc, path) else {
+        return String::from_str(alloc, "no path");
+    };
+    marked(alloc, document.str_value_beside(alloc, &path, key)?)
+}
+
 fn string(alloc: Global, document: &Document, path: &Path) -> Answer {
-    match document.str_value(alloc, path)? {
+    marked(alloc, document.str_value(alloc, path)?)
+}
+
+// A string in angle brackets, or `none`.
+fn marked(alloc: Global, found: Option<String>) -> Answer {
+    match found {
         Some(text) => format!(in alloc; "<{text}>"),
         None => String::from_str(alloc, "none"),
     }
