@@ -21,7 +21,8 @@ where the two differ. So more is shown of edits:
 - an edit that is refused for another reason is never out of memory.
 The same of lists of edits, which keep_test_rows makes first one by one and then at once; of these, too, a few runs for each edit
 may have the wanted answer. Of a push to a path, of a list, and of lines that are reread, the questions whose names end in `again`
-make what was refused once more.
+make what was refused once more. A list of edits that are made at once is made one by one where a growth is refused: so it is
+out of memory only where a later growth is refused, too.
 
 Some calls take no memory: the rows of keep_test_rows in the group `quiet` mark the growths of one call each, and have none.
 
@@ -236,6 +237,11 @@ def again_failure(ask, wanted, cells):
     is_well = lambda it: it in (rebuilt, AGAIN + wanted) or it.startswith(UNREAD)
     if why := other(found, is_well) or too_often(found, wanted, cells):
         return why
+    refusals = [it for it, answered in found.items() if answered == rebuilt]
+    if AGAIN + wanted not in found.values() and refusals:
+        found = question.refused_beside(refusals[0])
+        if why := other(found, is_well):
+            return why
     return None if AGAIN + wanted in found.values() else "no growth of the call itself is refused"
 
 
