@@ -1,7 +1,7 @@
 -- Edits that are found to make a change of a document: what is known of the plan of each is what the law of runs wants.
 --
--- Theorems: `insert_here`, `remove_here`: an insert that adds a line, and a remove that takes one; `plan_there`,
--- `planned_is`, `by_set_or_rename`, `by_header`: by the plan.
+-- Theorems: `insert_here`, `remove_here`: an insert that adds a line, and a remove that takes one, or leaves it with
+-- its comment; `plan_there`, `planned_is`, `by_set_or_rename`, `by_header`: by the plan.
 use Rattle.std.proofs.Common.{◌≡◌, ◌<◌, ◌≤◌, ◌+◌, ◌-◌, ℕ, List, [], true, refl, sym, ap, subst, ◌∙◌, arith}
 use Rattle.std.proofs.Common.{IsCharBoundary, Option, Some, None, inl, inr}
 use Rattle.std.specs.Prelude.{Err, IfSome, Ok, Result, String, Vec, string_bytes, ◌⊎◌}
@@ -19,7 +19,6 @@ use Rattle.keep_edit_spec.specs.Changed.{Place}
 use Rattle.keep_edit_spec.specs.Edits as law
 use Rattle.keep_edit_spec.specs.Edits.{key_with, place}
 use Rattle.keep_edit_spec.specs.Refusals.{refusal}
-use Rattle.keep_edit_spec.specs.RemovedLines.{RemovesLine}
 use Rattle.keep_edit_spec.specs.Runs.{MakesChange}
 use Rattle.keep_edit_spec.specs.TextChanges.{place_of_change}
 use Rattle.keep_edit_spec.specs.TextEnds.{ends_in_newline}
@@ -66,7 +65,8 @@ insert_here now x path given (Some t) is adds within (v, value) = record {
 }
 
 pub remove_here : (now : ProfiledText) (x : Edit) (path : List Part) (r : Option TextEdit) → x ≡ edit.Remove path
-    → ((s : Document) → IsTextOfTree now s → IfSome r (λ made. RemovesLine now.profile limit s path (change_of made)))
+    → ((s : Document) → IsTextOfTree now s
+    → IfSome r (λ made. MakesChange now.profile limit s (law.remove path) (change_of made)))
     → IfSome r (λ made. IsSpanOf now.text made.place) → IfSome r (MakesChangeHere now x)
 remove_here now x path None is takes within = tt
 remove_here now x path (Some t) is takes within = record {

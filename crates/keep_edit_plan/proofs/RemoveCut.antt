@@ -256,7 +256,7 @@ module _ (bytes : List ℕ) (utf8 : IsUtf8 bytes) (v : ValueInfo) (edged : IsEdg
 
 -- ---- what the code finds
 
-one_line : (a b : ℕ) → owner.Line a ≡ owner.Line b → a ≡ b
+pub one_line : (a b : ℕ) → owner.Line a ≡ owner.Line b → a ≡ b
 one_line a b e = cc
 
 not_nested : (o : Owner) (i : ℕ) → IsNested o → o ≡ owner.Line i → ⊥
@@ -304,13 +304,13 @@ no_header d path s n c read found h =
 module _ (d : ProfiledText) (syntax : Syntax) (index : NodeInfos) (path : List Part) (s : Document)
     (holds : Holds d syntax index) (read : IsTextOfTree d s)
     (allowed : refusal d.profile limit s (remove path) ≡ None) where
-  statements_are : statements_of syntax ≡ numbered.statements s
+  pub statements_are : statements_of syntax ≡ numbered.statements s
   statements_are = holds.is.statements ∙ ap numbered.statements (tree_is d syntax index s holds read)
 
   values_are : values_of syntax ≡ numbered.values s
   values_are = holds.is.values ∙ ap numbered.values (tree_is d syntax index s holds read)
 
-  own_is : (number : ℕ) (info own : ValueInfo) → value_number_of path s ≡ Some number
+  pub own_is : (number : ℕ) (info own : ValueInfo) → value_number_of path s ≡ Some number
       → slice_get (values_of syntax) number ≡ Some info → IsValueAt path s own → own ≡ info
   own_is number info own found here h =
       one_of_two (slice_get (numbered.values s) number) own info

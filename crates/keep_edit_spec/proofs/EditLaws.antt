@@ -11,7 +11,7 @@
 -- Theorems: `change_put`: a change replaces its place in the text; `set_lawful`, and its like for each other edit: the
 -- law of an edit that is not refused; `growth_bounded`: by how much the text grows.
 use Rattle.std.proofs.Common.{◌≡◌, ℕ, ◌+◌, ◌≤◌, Bool, true, false, List, [], length, refl, sym, ap, subst, ◌∙◌, arith}
-use Rattle.std.proofs.Common.{Option, Some, None}
+use Rattle.std.proofs.Common.{length-append, Option, Some, None}
 use Rattle.keep_types.specs.declared.leaf.Profile.{Profile}
 use Rattle.keep_syntax.specs.Tree.{Value, Content, header, element, Document, text, content_depth, depth}
 use Rattle.keep_syntax.specs.Grammar.{IsValue, Reads}
@@ -23,7 +23,7 @@ use Rattle.keep_meaning.specs.Marks.{marks}
 use Rattle.keep_meaning.specs.Meaning.{mentions_in}
 use Rattle.keep_edit_spec.specs.Changed.{Changed, place_of, put}
 use Rattle.keep_edit_spec.specs.Edits.{Edit, set, insert, rename, remove, append_table, append_element, key_with}
-use Rattle.keep_edit_spec.specs.Edits.{append, change, changed_or_same}
+use Rattle.keep_edit_spec.specs.Edits.{append, change, changed_or_same, place}
 use Rattle.keep_edit_spec.specs.Look.{keys_in, holder, item_number}
 use Rattle.keep_edit_spec.specs.Refusals.{refusal}
 use Rattle.keep_edit_spec.specs.Trees.{IsTreeOf}
@@ -59,6 +59,23 @@ changed_put s (Some c) h = put-place_of text s c h
 
 pub change_put : ChangeIsPut
 change_put s e = changed_put s (change s e) (change-is s e)
+
+-- the place of an edit is in the text
+end_within : (s : Document) (o : Option (Changed Document)) → EachIs text s o
+    → (place_of (changed_or_same s o)).end ≤ length (text s)
+end_within s None h = omega arith
+end_within s (Some c) h = omega (arith, ap (λ (t : List ℕ). length t) h.was, length-append {A = ℕ})
+
+pub place_within : (s : Document) (e : Edit) → (place s e).end ≤ length (text s)
+place_within s e = end_within s (change s e) (change-is s e)
+
+ordered : (o : Option (Changed Document)) (s : Document)
+    → (place_of (changed_or_same s o)).start ≤ (place_of (changed_or_same s o)).end
+ordered None s = omega arith
+ordered (Some c) s = omega arith
+
+pub place_ordered : (s : Document) (e : Edit) → (place s e).start ≤ (place s e).end
+place_ordered s e = ordered (change s e) s
 
 -- ---- set
 

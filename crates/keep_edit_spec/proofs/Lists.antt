@@ -18,6 +18,7 @@ pub mod HeaderApart
 pub mod StillAppends
 pub mod RemovedPlaces
 pub mod RemovedOwn
+pub mod OwnLine
 pub mod LineGone
 pub mod StillRemoves
 pub mod TwoKinds
@@ -32,6 +33,7 @@ pub mod RenameAfterSet
 pub mod RenameLineGone
 pub mod EndsWithout
 pub mod SetAfterRemove
+pub mod AddsAgain
 pub mod InsertAfterRemove
 pub mod RenameAfterRemove
 pub mod LineMore
@@ -42,6 +44,7 @@ pub mod RenameAfterInsert
 pub mod RenamedEnds
 pub mod RenameStays
 pub mod RenamedReads
+pub mod RenamedStays
 pub mod SetAfterRename
 pub mod RemoveAfterRename
 pub mod InsertAfterRename
@@ -65,6 +68,17 @@ pub mod OtherHeader
 pub mod ApartPaths
 pub mod PlainTexts
 pub mod TextChanges
+pub mod WiderChanges
+pub mod ClearStays
+pub mod LineCleared
+pub mod ClearedKinds
+pub mod EndsCleared
+pub mod InsertAfterClear
+pub mod HeaderAfterClear
+pub mod SetAfterClear
+pub mod RemoveAfterClear
+pub mod RenameAfterClear
+pub mod ClearAfterRename
 pub mod RunLaws
 pub mod MoreItems
 pub mod NextChange

@@ -91,4 +91,5 @@ pub use Rattle.keep_edit_spec.proofs.Insert.LinesNamed.{some_among}
 pub use Rattle.keep_edit_spec.proofs.Insert.NewPath.{new_path}
 pub use Rattle.keep_edit_spec.proofs.Remove.RemoveLinePlace.{IsCleared, IsOwnLine, cleared_lines, head_line}
 pub use Rattle.keep_edit_spec.proofs.Remove.RemoveLinePlace.{lines_split, page_line, rest_valid, tail_lines, without}
+pub use Rattle.keep_edit_spec.proofs.Remove.RemoveLinePlace.{head_text, line_value, own_line}
 pub use Rattle.keep_edit_spec.proofs.Remove.RemoveSectionPlace.{none_some}

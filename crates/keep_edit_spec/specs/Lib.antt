@@ -22,3 +22,4 @@ pub mod Runs
 pub mod AddedItems
 pub mod RemovedLines
 pub mod AddedLines
+pub mod ClearedLines

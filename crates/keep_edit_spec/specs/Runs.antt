@@ -1,6 +1,6 @@
 -- Edits of a list that are known by the document before all of them: each makes its own change of that document's text.
-use Rattle.std.specs.Prelude.{◌≡◌, ◌≢◌, ◌⊎◌, ⊤, ℕ, ◌+◌, ◌==◌, nat_lt, Bool, true, false, not, ◌&&◌, ◌||◌, IsTrue}
-use Rattle.std.specs.Prelude.{List, [], ◌∷◌, length, map, All, Some, None, slice_get}
+use Rattle.std.specs.Prelude.{◌≡◌, ◌≢◌, ◌⊎◌, ⊤, ℕ, ◌+◌, ◌==◌, nat_lt, Bool, true, false, not, ◌&&◌, ◌||◌, IsTrue, List}
+use Rattle.std.specs.Prelude.{[], ◌∷◌, length, map, All, Some, None, slice_get}
 use Rattle.std.specs.List.{list_any}
 use Rattle.keep_types.specs.declared.leaf.Profile.{Profile}
 use Rattle.keep_syntax.specs.Tree as tree
@@ -8,6 +8,7 @@ use Rattle.keep_syntax.specs.Tree.{Document, text}
 use Rattle.keep_path.specs.Path.{Part, beside, key, strip}
 use Rattle.keep_edit_spec.specs.AddedLines.{AddsLine}
 use Rattle.keep_edit_spec.specs.AppendedHeaders.{AppendsElement, AppendsTable, AreSameOrApart}
+use Rattle.keep_edit_spec.specs.ClearedLines.{ClearsLine}
 use Rattle.keep_edit_spec.specs.Edits.{Edit, append_element, append_table, edited_document, insert, place, remove}
 use Rattle.keep_edit_spec.specs.Edits.{rename, set}
 use Rattle.keep_edit_spec.specs.Laws.{IsEditable}
@@ -17,17 +18,22 @@ use Rattle.keep_edit_spec.specs.Refusals.{refusal}
 use Rattle.keep_edit_spec.specs.RemovedLines.{RemovesLine}
 use Rattle.keep_edit_spec.specs.RenamedKeys.{ArePathsApart, RenamesKey}
 use Rattle.keep_edit_spec.specs.SetValues.{SetsValue}
-use Rattle.keep_edit_spec.specs.TextChanges.{Follow, IsBeside, TextChange, moved, moved_past, place_of_change}
+use Rattle.keep_edit_spec.specs.TextChanges.{Follow, IsBeside, IsWider, TextChange, moved, moved_past, place_of_change}
 use Rattle.keep_edit_spec.specs.TextChanges.{text_with, with_change}
 
 -- The edit is one whose change of the text is known from the first document on, and this is its change.
 abbrev pub MakesChange : Profile → ℕ → Document → Edit → TextChange → Type 0
 MakesChange profile limit s (insert path value) c = AddsLine profile limit s path value c
-MakesChange profile limit s (remove path) c = RemovesLine profile limit s path c
+MakesChange profile limit s (remove path) c = RemovesLine profile limit s path c ⊎ ClearsLine profile limit s path c
 MakesChange profile limit s (set path value) c = SetsValue profile limit s path value c
 MakesChange profile limit s (rename path text) c = RenamesKey profile limit s path text c
 MakesChange profile limit s (append_table keys) c = AppendsTable profile limit s keys c
 MakesChange profile limit s (append_element keys) c = AppendsElement profile limit s keys c
+
+-- The change is of the edit's place; that of a remove may go on to the end of a line, whose comment comes back.
+abbrev pub IsOfPlace : Document → Edit → TextChange → Type 0
+IsOfPlace s (remove path) c = IsWider (text s) (place s (remove path)) c
+IsOfPlace s e c = place s e ≡ place_of_change c
 
 -- neither path is the other or below it
 abbrev pub AreApart : List Part → List Part → Type 0
@@ -152,7 +158,7 @@ pub record IsRun (profile : Profile) (limit : ℕ) (s : Document) (edits : List 
 pub record IsRunLonger (profile : Profile) (limit : ℕ) (s : Document) (edits : List Edit) (changes : List TextChange)
     (now : Document) (e : Edit) (c : TextChange) : Type 0 where
   pub allowed : refusal profile limit now e ≡ None
-  pub is : place now e ≡ place_of_change (moved_past changes c)
+  pub is : IsOfPlace now e (moved_past changes c)
   pub run : IsRun profile limit s (e ∷ edits) (with_change changes c) (edited_document now e)
 
 abbrev pub NoneIsRun : Type 0

@@ -1,5 +1,5 @@
 -- Changes of one text: bytes of it give place to others. Each is known by the first text, and none overlaps another.
-use Rattle.std.specs.Prelude.{ℕ, ◌+◌, ◌-◌, ◌<◌, ◌≤◌, nat_lt, ◌⊎◌, ⊤, if◌then◌else◌, List, [], ◌∷◌, ◌++◌, length}
+use Rattle.std.specs.Prelude.{◌≡◌, ℕ, ◌+◌, ◌-◌, ◌<◌, ◌≤◌, nat_lt, ◌⊎◌, ⊤, if◌then◌else◌, List, [], ◌∷◌, ◌++◌, length}
 use Rattle.std.specs.Prelude.{take, drop}
 use Rattle.keep_edit_spec.specs.Changed.{Place}
 
@@ -14,6 +14,14 @@ change_at at size new = record { at = at; size = size; new = new }
 
 abbrev pub place_of_change : TextChange → Place
 place_of_change c = record { start = c.at; end = c.at + c.size; new = c.new }
+
+-- The change is that of a place in these bytes, and goes on past it: so many bytes after it go too, and come back.
+pub record IsWider (bytes : List ℕ) (p : Place) (c : TextChange) : Type 0 where
+  pub rest : ℕ
+  pub start : c.at ≡ p.start
+  pub end : c.at + c.size ≡ p.end + rest
+  pub within : p.end + rest ≤ length bytes
+  pub new : c.new ≡ p.new ++ take rest (drop p.end bytes)
 
 -- One ends before the other begins. Where both are at one place, the second comes after the first, which takes nothing.
 abbrev pub IsBeside : TextChange → TextChange → Type 0

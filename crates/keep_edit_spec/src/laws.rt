@@ -121,8 +121,9 @@ pub fn appends_add_headers()
     ensures element { appended.StillAppendsElement }
 {}
 
-/// So does each of these after one of another kind, other than a header, whose path is apart. So a run of such edits is
-/// known by the document before it: none is refused, and the text is that one's with all the changes.
+/// So does each of these after one of another kind that leaves it alone, and so does a `remove` that leaves its line
+/// with the comment. So a run of such edits is known by the document before it: none is refused, and the text is that
+/// one's with all the changes.
 pub fn runs_are_known()
     ensures still { runs.StillMakesChange }
     ensures none { runs.NoneIsRun }

@@ -111,6 +111,7 @@ fn string_beside(alloc: Global, document: &Document, path: &str, key: &str) -> A
     marked(alloc, document.str_value_beside(alloc, &path, key)?)
 }
 
+// The string at a path.
 fn string(alloc: Global, document: &Document, path: &Path) -> Answer {
     marked(alloc, document.str_value(alloc, path)?)
 }

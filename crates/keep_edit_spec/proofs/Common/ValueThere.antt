@@ -169,7 +169,8 @@ some_at act can mention_kind (q ∷ qs) body nested left right deeper (inr s) =
     (act (q ∷ qs) (record { body = body; nested = nested }))
     (some_within (λ es. record { body = body; nested = es }) left right (in_entries act (q ∷ qs) 0 nested) (deeper s))
 
-disjoint_alone : (path : List Part) (ms : List Mention) → AllOf (IsDisjoint path) ms → SomeOf (IsAloneAt path) ms → ⊥
+pub disjoint_alone : (path : List Part) (ms : List Mention) → AllOf (IsDisjoint path) ms → SomeOf (IsAloneAt path) ms
+    → ⊥
 disjoint_alone path ms h s =
     let (m, a, disjoint) = meet (IsAloneAt path) (IsDisjoint path) ms s h in
     let k : None ≡ Some [] = sym disjoint ∙ ap (strip path) (a.path ∙ sym (append-nil path)) ∙ strip-append path [] in

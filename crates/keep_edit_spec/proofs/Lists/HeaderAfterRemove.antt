@@ -1,21 +1,23 @@
 -- A header makes the same change at the end of the text after a remove took its line.
 --
--- The marks that are left refuse no more than all did, and a keyval begins no element (`tables_beside`), so the header
--- is let come (`lets_come`). The line does not end where the header comes, so that is written as before (HeaderStays).
+-- The marks that are left without the line refuse no more than all did, and a keyval begins no element
+-- (`tables_beside`), so the header is let come (`lets_without`). The line does not end where the header comes, so that
+-- is written as before (HeaderStays).
 --
--- Theorems: `table_after_remove`, `element_after_remove`.
-use Rattle.std.proofs.Common.{◌≡◌, ℕ, ◌+◌, Bool, false, ◌||◌, List, [], ◌∷◌, ◌++◌, refl, sym, ap, subst, ◌∙◌, Option}
-use Rattle.std.proofs.Common.{Some, None}
+-- Theorems: `table_after_remove`, `element_after_remove`; `lets_without`.
+use Rattle.std.proofs.Common.{◌≡◌, ℕ, ◌+◌, ◌<◌, Bool, false, ◌||◌, List, [], ◌∷◌, ◌++◌, length, refl, sym, ap, ◌∙◌}
+use Rattle.std.proofs.Common.{Option, Some, None}
 use Rattle.std.specs.List.{cons_option, filter_map, list_any}
 use Rattle.keep_types.specs.declared.leaf.Profile.{Profile}
 use Rattle.keep_syntax.specs.Tree.{Name, Value, keyval, Line, Document}
 use Rattle.keep_path.specs.Path.{Part}
 use Rattle.keep_meaning.specs.Faults.{refuses}
 use Rattle.keep_meaning.specs.Marks.{Mention, Reading, elements_of, mark_of, start}
-use Rattle.keep_meaning.specs.Meaning.{lines_mentions, mentions_in, reading_after_lines}
+use Rattle.keep_meaning.specs.Meaning.{lines, lines_mentions, mentions_in, reading_after_lines}
 use Rattle.keep_meaning.specs.Rules.{Mark}
 use Rattle.keep_edit_spec.specs.Edits.{edited_document, place, remove}
 use Rattle.keep_edit_spec.specs.Laws.{IsEditable}
+use Rattle.keep_edit_spec.specs.Lines.{last_line}
 use Rattle.keep_edit_spec.proofs.Lists.TwoKinds.{ElementAfterRemove, TableAfterRemove}
 use Rattle.keep_edit_spec.specs.Refusals.{tables_in}
 use Rattle.keep_edit_spec.specs.RemovedLines.{RemovesLine}
@@ -23,10 +25,13 @@ use Rattle.keep_edit_spec.specs.TextChanges.{TextChange, place_of_change}
 use Rattle.keep_edit_spec.proofs.EditLaws.{remove_lawful}
 use Rattle.keep_edit_spec.proofs.Append.AppendLaw.{reading_append}
 use Rattle.keep_edit_spec.proofs.Append.AppendTable.{tables_stated}
+use Rattle.keep_edit_spec.proofs.Common.LineLaws.{lines_mentions-append}
 use Rattle.keep_edit_spec.proofs.Common.SetDocument.{reading_of}
 use Rattle.keep_edit_spec.proofs.Lists.HeaderSaid.{LetsCome}
 use Rattle.keep_edit_spec.proofs.Lists.HeaderStays.{element_stays, table_stays}
 use Rattle.keep_edit_spec.proofs.Lists.LineGone as gone
+use Rattle.keep_edit_spec.proofs.Lists.OwnLine as line
+use Rattle.keep_edit_spec.proofs.Lists.RemovedPlaces.{mine}
 
 -- ---- a test of what is made of some
 
@@ -58,34 +63,42 @@ tables_beside pre post l name v e =
     ∙ sym (reading_append start pre post))
     ∙ tables_stated start (pre ++ post)
 
+module _ (profile : Profile) (limit : ℕ) (s : Document) (path : List Part) (n : ℕ) (fine : IsEditable profile limit s)
+    (own : last_line (mine path) start (lines s) ≡ Some n) (closed : n < length s.ended) where
+  tables_without : tables_in (line.without profile limit s path n fine own closed) ≡ tables_in (mentions_in s)
+  tables_without =
+      let its = line.its profile limit s path n fine own closed in
+      let before : List Line = line.before profile limit s path n fine own closed in
+      let after : List Line = line.after profile limit s path n fine own closed in
+      ap tables_in (sym (lines_mentions-append start before after))
+      ∙ sym (ap (λ (ls : List Line). tables_in (lines_mentions start ls))
+      (line.lines_were profile limit s path n fine own closed)
+      ∙ tables_beside before after (line.c profile limit s path n fine own closed).here.line its.name its.held its.was)
+
+  pub lets_without : (now : List Mention) (more : List (List ℕ))
+      → now ≡ line.without profile limit s path n fine own closed → LetsCome (mentions_in s) now more
+  lets_without now more said = record {
+    lets = λ role q rest e free.
+        let T : Mark → Bool = refuses (record { role = role; path = q }) in
+        any_made mark_of T now
+        ∙ ap (list_any (λ (m : Mention). some_passes T (mark_of m))) said
+        ∙ line.unsaid_without profile limit s path n fine own closed (λ (m : Mention). some_passes T (mark_of m))
+        (sym (any_made mark_of T (mentions_in s)) ∙ free);
+    counts = λ q rest e. ap (elements_of q) (ap tables_in said ∙ tables_without);
+  }
+
+-- ---- the header
+
 module _ (profile : Profile) (limit : ℕ) (s : Document) (path : List Part) (c : TextChange)
     (more : List (List ℕ)) (fine : IsEditable profile limit s) (h : RemovesLine profile limit s path c) where
-  same_tables : tables_in (mentions_in (gone.now profile limit s path c fine h)) ≡ tables_in (mentions_in s)
-  same_tables =
-      let own = gone.its profile limit s path c fine h in
-      ap (λ (ls : List Line). tables_in (lines_mentions start ls)) (gone.lines_are profile limit s path c fine h)
-      ∙ sym (tables_beside (gone.before profile limit s path c fine h) (gone.after profile limit s path c fine h)
-      (gone.c profile limit s path c fine h).here.line own.name own.held own.was)
-      ∙ ap (λ (ls : List Line). tables_in (lines_mentions start ls))
-      (sym (gone.lines_were profile limit s path c fine h))
-
   lets_come : LetsCome (mentions_in s) (mentions_in (edited_document s (remove path))) more
   lets_come =
-      subst (λ (t : Document). LetsCome (mentions_in s) (mentions_in t) more)
-      (sym (gone.is_now profile limit s path c fine h))
-      (record {
-        lets = λ role q rest e free.
-            let T : Mark → Bool = refuses (record { role = role; path = q }) in
-            any_made mark_of T (mentions_in (gone.now profile limit s path c fine h))
-            ∙ gone.unsaid_now profile limit s path c fine h (λ (m : Mention). some_passes T (mark_of m))
-            (sym (any_made mark_of T (mentions_in s)) ∙ free);
-        counts = λ q rest e. ap (elements_of q) same_tables;
-      })
+      lets_without profile limit s path h.number fine h.own h.closed
+      (mentions_in (edited_document s (remove path))) more
+      (ap mentions_in (gone.is_now profile limit s path c fine h) ∙ gone.said_now profile limit s path c fine h)
 
   made : place s (remove path) ≡ place_of_change c
   made = h.is ∙ ap (λ (t : List ℕ). record { start = c.at; end = c.at + c.size; new = t }) (sym h.takes)
-
--- ---- the header
 
 pub table_after_remove : TableAfterRemove
 table_after_remove profile limit s path c more d fine h k newline far =

@@ -12,8 +12,8 @@ use Rattle.std.proofs.Common.{map, take, refl, sym, ap, subst, ◌∙◌, length
 use Rattle.std.proofs.lemmas.Bool.{cases_lt, lt-ltb}
 use Rattle.std.proofs.lemmas.List.{take-append-le}
 use Rattle.keep_types.specs.declared.leaf.Profile.{Profile}
-use Rattle.keep_syntax.specs.Tree.{Written, Content, Document, Ended, Value, bom_leaves, element, ended_leaves}
-use Rattle.keep_syntax.specs.Tree.{header, keyval, text, text_of}
+use Rattle.keep_syntax.specs.Tree.{Written, Content, Document, Ended, Value, bom_leaves, element, ended_leaves, header}
+use Rattle.keep_syntax.specs.Tree.{keyval, text, text_of}
 use Rattle.keep_path.specs.Path.{Part, key}
 use Rattle.keep_meaning.specs.Marks.{Mention, Reading, start}
 use Rattle.keep_meaning.specs.Meaning.{line_of, lines, mentions_in, reading_after_lines}
@@ -37,12 +37,12 @@ use Rattle.keep_edit_spec.proofs.Common.EntryDepths.{count_same}
 use Rattle.keep_edit_spec.proofs.Common.LineTexts.{change-is}
 use Rattle.keep_edit_spec.proofs.Common.Runs.{SomeOf, meet}
 use Rattle.keep_edit_spec.proofs.Common.Texts.{EachIs}
+use Rattle.keep_edit_spec.proofs.Lists.AddsAgain.{body_node, holder_whole}
 use Rattle.keep_edit_spec.proofs.Lists.HeaderComes.{HeaderComes, after_header, element_comes, table_comes}
 use Rattle.keep_edit_spec.proofs.Lists.HeaderEnds.{end_headed}
 use Rattle.keep_edit_spec.proofs.Lists.HeaderLines.{header_lines, headed, put_is}
 use Rattle.keep_edit_spec.proofs.Lists.HeaderNew.{IsBegunIn, StatesNothing, not_stated, table_stays}
 use Rattle.keep_edit_spec.proofs.Lists.HeaderSays.{bracket_same, kinds_same}
-use Rattle.keep_edit_spec.proofs.Lists.InsertAfterRemove.{body_node, holder_whole}
 use Rattle.keep_edit_spec.proofs.Lists.OtherPaths.{no_item}
 use Rattle.keep_edit_spec.proofs.Lists.Places.{place_is}
 use Rattle.keep_edit_spec.proofs.Lists.SaidOfPrefixes.{node_kinds, node_of, refused_alike}

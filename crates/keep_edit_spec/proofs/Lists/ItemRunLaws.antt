@@ -6,27 +6,26 @@
 -- document, moved past it by the texts with this one (`moved_with`).
 --
 -- Theorems: `none_is_item_run`, `item_run_goes_on`.
-use Rattle.std.proofs.Common.{◌≡◌, ℕ, suc, ◌+◌, ◌-◌, Bool, cond, nat_lt, All, inl, List, [], ◌∷◌, ◌++◌, length, refl}
-use Rattle.std.proofs.Common.{sym, ap, subst, ◌∙◌, arith, IsUtf8}
+use Rattle.std.proofs.Common.{◌≡◌, ◌≤◌, ℕ, suc, ◌+◌, ◌-◌, Bool, cond, nat_lt, All, inl, List, [], ◌∷◌, ◌++◌, length}
+use Rattle.std.proofs.Common.{refl, sym, ap, subst, ◌∙◌, arith, IsUtf8}
 use Rattle.std.specs.List.{AllByRecursion}
 use Rattle.std.proofs.lemmas.Bool.{le-ltb}
 use Rattle.std.proofs.lemmas.List.Elements.{All-cons, All-head, All-nil, All-tail}
 use Rattle.keep_types.specs.declared.leaf.Profile.{Profile}
 use Rattle.keep_syntax.specs.Tree.{Value, Document, inline, none, text, value_text}
 use Rattle.keep_path.specs.Path.{Part}
-use Rattle.keep_edit_spec.specs.Changed.{put}
+use Rattle.keep_edit_spec.specs.Changed.{Place, put}
 use Rattle.keep_edit_spec.specs.Edits.{Edit, edited_document, insert}
 use Rattle.keep_edit_spec.specs.Insertion.{put_in}
-use Rattle.keep_edit_spec.specs.Insertion.{put_in}
 use Rattle.keep_edit_spec.specs.Laws.{IsLawfulEdit}
-use Rattle.keep_edit_spec.proofs.EditLaws.{change_put, insert_lawful}
+use Rattle.keep_edit_spec.proofs.EditLaws.{change_put, insert_lawful, place_within}
 use Rattle.keep_edit_spec.specs.AddedItems.{AddsItem, CanBeItem, HasItems, IsItemRun, IsItemRunLonger, ItemRunGoesOn}
 use Rattle.keep_edit_spec.specs.AddedItems.{ComesAt, NoneIsItemRun, item_path, separator}
 use Rattle.keep_edit_spec.specs.TextChanges.{Follow, IsBeside, TextChange, change_at, moved_by_all, moved_past}
 use Rattle.keep_edit_spec.specs.TextChanges.{text_with, with_change}
 use Rattle.keep_edit_spec.proofs.Lists.ItemAdded.{item_is_added}
 use Rattle.keep_edit_spec.proofs.Lists.MoreItems.{keys_same}
-use Rattle.keep_edit_spec.proofs.Lists.RunLaws.{same_place, within_text}
+use Rattle.keep_edit_spec.proofs.Lists.RunLaws.{same_place}
 use Rattle.keep_edit_spec.proofs.Lists.TextChanges.{all_with, follow_with, length_with, moved_with, text_with_one}
 
 -- what is known of an array, with its count and the place of the next item written in another way
@@ -43,11 +42,9 @@ some_value = record { body = inline []; nested = none }
 pub none_is_item_run : NoneIsItemRun
 none_is_item_run profile limit s array n at editable items = record {
   editable = editable;
-  start = omega (
-    arith,
-    within_text s (insert (item_path array n) some_value) (change_at at 0 (separator n ++ value_text some_value))
-        (items.next some_value ∙ same_place (change_at at 0 (separator n ++ value_text some_value)) refl),
-  );
+  start =
+      subst (λ (p : Place). p.end ≤ length (text s)) (items.next some_value)
+      (place_within s (insert (item_path array n) some_value));
   here = All-nil (ComesAt at);
   follow = tt;
   text = refl;

@@ -1,67 +1,44 @@
 -- The document after a remove that takes a line, and what a change of a line becomes in it.
 --
--- The line leaves the reading as it is (`keeps`). What it says is at the removed path or under it, or of tables on the
--- way there, and no other line says a thing under it (`cut_now`). So at a path that is not under it the facts are the
--- same (`fact_now`), and what was nowhere said is nowhere said now (`unsaid_now`, `kinds_now`). The lines before one
--- are as long as before, or shorter by the line.
+-- The other lines say what they said (OwnLine). The lines before one are as long as before, or shorter by the line.
 --
 -- Where a change finds nothing in that line, it finds in the others what it found, and its place is as it was, or
 -- earlier by the bytes of the line that goes: this is `Stays` of SetPlaces, by induction over the lines before it
--- (`lines_without`). An act in a value at a path that does not begin with the removed one finds nothing in it
--- (`line_misses`).
+-- (`lines_without`).
 --
 -- Theorems: `its`, `keeps`, `is_now`, `lines_were`, `lines_are`: the line and the document; `said_was`, `said_now`,
--- `fact_now`, `unsaid_now`, `kinds_now`: what it says; `before_length`, `length_was`, `number_few`: how many lines
+-- `fact_now`: what it says; `before_length`, `length_was`, `number_few`: how many lines
 -- there are; `width_same`, `width_less`, `same_to`, `less_from`, `at_before`, `at_from`: the lengths of those before
 -- one; `document_without`, `line_misses`, `nested_without`, `place_without`: a change after such a remove.
 use Rattle.std.proofs.Common.{◌≡◌, ℕ, zero, suc, ◌+◌, ◌-◌, ◌<◌, ◌≤◌, Bool, true, false, cond, List, [], ◌∷◌, ◌++◌}
 use Rattle.std.proofs.Common.{length, map, take, refl, sym, ap, ap₂, subst, ◌∙◌, append_assoc, length-append, arith}
 use Rattle.std.proofs.Common.{Option, Some, None, inl, inr}
 use Rattle.std.specs.Prelude.{nat_lt}
-use Rattle.std.specs.List.{list_any}
-use Rattle.std.proofs.lemmas.Bool.{le-ltb, lt-ltb, or_from, or_parts}
-use Rattle.std.proofs.lemmas.List.{append-nil, length-map, map-append}
+use Rattle.std.proofs.lemmas.Bool.{le-ltb, lt-ltb}
+use Rattle.std.proofs.lemmas.List.{append-nil, map-append}
 use Rattle.keep_types.specs.declared.leaf.Profile.{Profile}
-use Rattle.keep_syntax.specs.Tree.{Content, keyval, Line, Ended, Document, bom_leaves, comment_leaves, ended_leaves}
-use Rattle.keep_syntax.specs.Tree.{text_of}
+use Rattle.keep_syntax.specs.Tree.{Line, Ended, Document, bom_leaves, ended_leaves, text_of}
 use Rattle.keep_path.specs.Path.{Part, strip}
-use Rattle.keep_meaning.specs.Marks.{Mention, MentionKind, Reading, start}
+use Rattle.keep_meaning.specs.Marks.{Reading, start}
 use Rattle.keep_meaning.specs.Meaning.{after_line, line_mentions, line_of, lines, lines_mentions, mentions_in}
-use Rattle.keep_meaning.specs.Meaning.{reading_after_lines, step}
-use Rattle.keep_meaning.specs.Nodes.{fact_at, kinds_at}
+use Rattle.keep_meaning.specs.Meaning.{reading_after_lines}
+use Rattle.keep_meaning.specs.Nodes.{fact_at}
 use Rattle.keep_edit_spec.specs.Changed.{Changed, framed_change, or_else, place_of, within}
 use Rattle.keep_edit_spec.specs.Edits.{Edit, change, changed_or_same, edited_document, nested, place, remove}
 use Rattle.keep_edit_spec.specs.Laws.{IsEditable}
-use Rattle.keep_edit_spec.specs.Lines.{Page, drop_lines, in_content, in_document, in_line, in_lines, line_text}
-use Rattle.keep_edit_spec.specs.Lines.{page_text, with_page}
+use Rattle.keep_edit_spec.specs.Lines.{Page, drop_lines, in_document, in_line, in_lines, line_text, page_text}
+use Rattle.keep_edit_spec.specs.Lines.{with_page}
 use Rattle.keep_edit_spec.specs.RemovedLines.{RemovesLine}
 use Rattle.keep_edit_spec.specs.TextChanges.{TextChange, moved, moved_by, place_of_change}
 use Rattle.keep_edit_spec.specs.Values.{Act}
-use Rattle.keep_edit_spec.proofs.Common.Cuts.{IsCut, cut_by}
 use Rattle.keep_edit_spec.proofs.Common.LineLaws.{lines_mentions-append}
 use Rattle.keep_edit_spec.proofs.Common.LineTexts.{in_line-is}
-use Rattle.keep_edit_spec.proofs.Common.Marks.{rules_of_document}
-use Rattle.keep_edit_spec.proofs.Common.Runs.{Rules, kinds_at-append}
-use Rattle.keep_edit_spec.proofs.Common.SetDocument.{reading_of}
 use Rattle.keep_edit_spec.proofs.Common.Texts.{EachIs, IsAct}
+use Rattle.keep_edit_spec.proofs.Lists.OwnLine as own
 use Rattle.keep_edit_spec.proofs.Lists.Places.{size, width, width_grows, width_more, width_stays}
-use Rattle.keep_edit_spec.proofs.Lists.RemovedPlaces.{IsCutAt, at_is, changes, cut, edited_is, end_is, lines_here}
-use Rattle.keep_edit_spec.proofs.Lists.RemovedPlaces.{own_of}
+use Rattle.keep_edit_spec.proofs.Lists.RemovedPlaces.{IsCutAt, at_is, changes, edited_is, end_is}
 use Rattle.keep_edit_spec.proofs.Lists.SetPlaces.{Stays, framed_stays, length_cut, past_line, stays_as, still_place}
-use Rattle.keep_edit_spec.proofs.Remove.RemoveLines.{IsOwnLine, line_cut}
-
--- ---- of some that are left nothing passes that did not
-
-none_left : {A : Type 0} (T : A → Bool) (y z : List A) → list_any T (y ++ z) ≡ false → list_any T z ≡ false
-none_left T [] z e = e
-none_left T (u ∷ y) z e = none_left T y z (or_parts (T u) (list_any T (y ++ z)) e).1
-
-none_of_rest : {A : Type 0} (T : A → Bool) (x y z : List A) → list_any T (x ++ (y ++ z)) ≡ false
-    → list_any T (x ++ z) ≡ false
-none_of_rest T [] y z e = none_left T y z e
-none_of_rest T (u ∷ x) y z e =
-    let (one, others) = or_parts (T u) (list_any T (x ++ (y ++ z))) e in
-    or_from (T u) (list_any T (x ++ z)) one (none_of_rest T x y z others)
+use Rattle.keep_edit_spec.proofs.Remove.RemoveLines.{IsOwnLine}
 
 -- ---- the lengths of the lines before one, without a line
 
@@ -107,6 +84,40 @@ right_of last x es = x.newline.text ++ page_text (record { ended = es; last = la
 
 module _ (f : Reading → Line → Option (Changed Line)) (cuts : (r : Reading) (l : Line) → EachIs line_text l (f r l))
     (last : Line) where
+  -- a line comes before those that are changed
+  pub line_before : (r : Reading) (x : Ended) (es to : List Ended) (c : Changed Page) (was are : Option (Changed Page))
+      → Stays c was are
+      → Stays (framed_change (behind x) (text_of (ended_leaves x)) [] c)
+      (or_else (within (with_line last x es) [] (right_of last x es) (f r x.line))
+      (within (behind x) (text_of (ended_leaves x)) [] was))
+      (or_else (within (with_line last x to) [] (right_of last x to) (f r x.line))
+      (within (behind x) (text_of (ended_leaves x)) [] are))
+  line_before r x es to c was are = by (f r x.line) (cuts r x.line)
+    where
+      by : (o : Option (Changed Line)) → EachIs line_text x.line o → Stays c was are
+          → Stays (framed_change (behind x) (text_of (ended_leaves x)) [] c)
+          (or_else (within (with_line last x es) [] (right_of last x es) o)
+          (within (behind x) (text_of (ended_leaves x)) [] was))
+          (or_else (within (with_line last x to) [] (right_of last x to) o)
+          (within (behind x) (text_of (ended_leaves x)) [] are))
+      by None here h = framed_stays (behind x) (text_of (ended_leaves x)) [] c was are h
+      by (Some d) here h = record {
+        next = framed_change (with_line last x to) [] (right_of last x to) d;
+        is = refl;
+        old = refl;
+        given = refl;
+        place = inr (
+          (omega (
+            arith,
+            length_cut (line_text x.line) d.before d.old d.after here.was,
+            length-append (text_of (ended_leaves x)) c.before,
+            ap (λ (t : List ℕ). length t) (past_line x.line x.newline),
+            length-append (line_text x.line) x.newline.text,
+          )),
+          refl,
+        );
+      }
+
   -- the first line goes
   gone_by : (e : Ended) (c : Changed Page) → length c.before ≡ 0 → length c.old ≡ length (text_of (ended_leaves e))
       → length c.new ≡ 0 → (o : Option (Changed Page)) → Stays c (within (behind e) (text_of (ended_leaves e)) [] o) o
@@ -144,72 +155,42 @@ module _ (f : Reading → Line → Option (Changed Line)) (cuts : (r : Reading) 
       (within (behind e) (text_of (ended_leaves e)) [] (in_lines f x more last))) fails keeps)
       refl (first_gone e more later)
   lines_without r (x ∷ first) e more keeps fails =
-      by (f r x.line) (cuts r x.line) (lines_without (after_line r x.line) first e more keeps fails)
-    where
-      c : Changed Page
-      c = drop_lines (length first) 1 (first ++ e ∷ more) last
-
-      was : Option (Changed Page)
-      was = in_lines f (after_line r x.line) (first ++ e ∷ more) last
-
-      are : Option (Changed Page)
-      are = in_lines f (after_line r x.line) (first ++ more) last
-
-      by : (o : Option (Changed Line)) → EachIs line_text x.line o → Stays c was are
-          → Stays (framed_change (behind x) (text_of (ended_leaves x)) [] c)
-          (or_else (within (with_line last x (first ++ e ∷ more)) [] (right_of last x (first ++ e ∷ more)) o)
-          (within (behind x) (text_of (ended_leaves x)) [] was))
-          (or_else (within (with_line last x (first ++ more)) [] (right_of last x (first ++ more)) o)
-          (within (behind x) (text_of (ended_leaves x)) [] are))
-      by None here h = framed_stays (behind x) (text_of (ended_leaves x)) [] c was are h
-      by (Some d) here h = record {
-        next = framed_change (with_line last x (first ++ more)) [] (right_of last x (first ++ more)) d;
-        is = refl;
-        old = refl;
-        given = refl;
-        place = inr (
-          (omega (
-            arith,
-            length_cut (line_text x.line) d.before d.old d.after here.was,
-            length-append (text_of (ended_leaves x)) c.before,
-            ap (λ (t : List ℕ). length t) (past_line x.line x.newline),
-            length-append (line_text x.line) x.newline.text,
-          )),
-          refl,
-        );
-      }
+      line_before r x (first ++ e ∷ more) (first ++ more)
+      (drop_lines (length first) 1 (first ++ e ∷ more) last)
+      (in_lines f (after_line r x.line) (first ++ e ∷ more) last)
+      (in_lines f (after_line r x.line) (first ++ more) last)
+      (lines_without (after_line r x.line) first e more keeps fails)
 
 -- ---- the document without the line
 
 module _ (profile : Profile) (limit : ℕ) (s : Document) (path : List Part) (l : TextChange)
     (fine : IsEditable profile limit s) (h : RemovesLine profile limit s path l) where
   abbrev pub c : IsCutAt h.number s.ended
-  c = cut s path h.number h.bare h.own h.closed
+  c = own.c profile limit s path h.number fine h.own h.closed
 
   abbrev pub now : Document
   now = record { bom = s.bom; ended = c.first ++ c.more; last = s.last }
 
   abbrev pub before : List Line
-  before = map line_of c.first
+  before = own.before profile limit s path h.number fine h.own h.closed
 
   abbrev pub after : List Line
-  after = map line_of c.more ++ s.last ∷ []
+  after = own.after profile limit s path h.number fine h.own h.closed
 
   abbrev pub r : Reading
-  r = reading_after_lines start before
+  r = own.r profile limit s path h.number fine h.own h.closed
 
   pub its : IsOwnLine r.body path c.here.line.content
-  its = own_of s path h.number h.own c
+  its = own.its profile limit s path h.number fine h.own h.closed
 
   pub keeps : after_line r c.here.line ≡ r
-  keeps = reading_of r c.here.line its.name its.held its.was
+  keeps = own.keeps profile limit s path h.number fine h.own h.closed
 
   pub is_now : edited_document s (remove path) ≡ now
   is_now = edited_is s path h.number h.bare h.own h.closed
 
   pub lines_were : lines s ≡ before ++ c.here.line ∷ after
-  lines_were =
-      ap (λ (es : List Ended). map line_of es ++ s.last ∷ []) c.was ∙ lines_here c.first c.here c.more s.last
+  lines_were = own.lines_were profile limit s path h.number fine h.own h.closed
 
   pub lines_are : lines now ≡ before ++ after
   lines_are =
@@ -217,7 +198,7 @@ module _ (profile : Profile) (limit : ℕ) (s : Document) (path : List Part) (l 
       ∙ append_assoc before (map line_of c.more) (s.last ∷ [])
 
   pub before_length : length before ≡ h.number
-  before_length = length-map c.first line_of ∙ sym c.number
+  before_length = own.before_length profile limit s path h.number fine h.own h.closed
 
   pub length_was : length s.ended ≡ suc (length now.ended)
   length_was =
@@ -235,46 +216,13 @@ module _ (profile : Profile) (limit : ℕ) (s : Document) (path : List Part) (l 
 
   pub said_was : mentions_in s
       ≡ lines_mentions start before ++ (line_mentions r c.here.line ++ lines_mentions r after)
-  said_was =
-      ap (lines_mentions start) lines_were ∙ lines_mentions-append start before (c.here.line ∷ after)
-      ∙ ap (λ (x : Reading).
-      lines_mentions start before ++ (line_mentions r c.here.line ++ lines_mentions x after)) keeps
+  said_was = own.said_was profile limit s path h.number fine h.own h.closed
 
   pub said_now : mentions_in now ≡ lines_mentions start before ++ lines_mentions r after
   said_now = ap (lines_mentions start) lines_are ∙ lines_mentions-append start before after
 
-  abbrev own_path : List Part
-  own_path = r.body ++ step 0 (Some its.name)
-
-  cut_now : IsCut path (mentions_in s) (mentions_in now)
-  cut_now =
-      subst (λ (p : List Part). IsCut p (mentions_in s) (mentions_in now)) its.place
-      (subst (λ (ls : List Line). IsCut own_path (lines_mentions start ls) (mentions_in now)) (sym lines_were)
-      (subst (λ (ms : List Mention). IsCut own_path (lines_mentions start (before ++ c.here.line ∷ after)) ms)
-      (sym said_now)
-      (line_cut before after c.here.line its.name its.held its.was
-      (subst (λ (ls : List Line). Rules (lines_mentions start ls)) lines_were (rules_of_document s fine.obeys)))))
-
   pub fact_now : (q : List Part) → strip path q ≡ None → fact_at q (mentions_in now) ≡ fact_at q (mentions_in s)
-  fact_now q e = cut_by path (mentions_in s) (mentions_in now) cut_now q None e
-
-  pub unsaid_now : (T : Mention → Bool) → list_any T (mentions_in s) ≡ false → list_any T (mentions_in now) ≡ false
-  unsaid_now T e =
-      ap (list_any T) cut_now.is
-      ∙ none_of_rest T cut_now.before (cut_now.ways ++ cut_now.run) cut_now.after
-      (ap (list_any T) (sym cut_now.was) ∙ e)
-
-  pub kinds_now : (T : MentionKind → Bool) (q : List Part) → list_any T (kinds_at q (mentions_in s)) ≡ false
-      → list_any T (kinds_at q (mentions_in now)) ≡ false
-  kinds_now T q e =
-      let gone : List Mention = cut_now.ways ++ cut_now.run in
-      let was : kinds_at q (mentions_in s)
-      ≡ kinds_at q cut_now.before ++ (kinds_at q gone ++ kinds_at q cut_now.after) =
-      ap (kinds_at q) cut_now.was ∙ kinds_at-append q cut_now.before (gone ++ cut_now.after)
-      ∙ ap (λ (ks : List MentionKind). kinds_at q cut_now.before ++ ks) (kinds_at-append q gone cut_now.after) in
-      ap (list_any T) (ap (kinds_at q) cut_now.is ∙ kinds_at-append q cut_now.before cut_now.after)
-      ∙ none_of_rest T (kinds_at q cut_now.before) (kinds_at q gone) (kinds_at q cut_now.after)
-      (ap (list_any T) (sym was) ∙ e)
+  fact_now q e = ap (fact_at q) said_now ∙ own.fact_without profile limit s path h.number fine h.own h.closed q e
 
   -- ---- the lengths of the lines before one
 
@@ -288,7 +236,7 @@ module _ (profile : Profile) (limit : ℕ) (s : Document) (path : List Part) (l 
       ap (λ (es : List Ended). width (take (suc i) es)) c.was
       ∙ width_less c.first c.here c.more i (omega (arith, few, c.number))
 
-  size_is : l.size ≡ size c.here
+  pub size_is : l.size ≡ size c.here
   size_is =
       omega (
         arith,
@@ -334,6 +282,12 @@ module _ (profile : Profile) (limit : ℕ) (s : Document) (path : List Part) (l 
   abbrev pub removed : Changed Document
   removed = framed_change (with_page s) (text_of (bom_leaves s.bom)) [] (drop_lines h.number 1 s.ended s.last)
 
+  pub removed_place : place_of removed ≡ place_of_change l
+  removed_place =
+      let taken : change s (remove path) ≡ Some removed = changes s path h.number h.bare h.own h.closed in
+      ap (λ (o : Option (Changed Document)). place_of (changed_or_same s o)) (sym taken) ∙ h.is
+      ∙ ap (λ (t : List ℕ). record { start = l.at; end = l.at + l.size; new = t }) (sym h.takes)
+
   pub document_without : (f : Reading → Line → Option (Changed Line))
       → ((x : Reading) (y : Line) → EachIs line_text y (f x y)) → f r c.here.line ≡ None
       → Stays removed (in_document s (in_lines f start s.ended s.last))
@@ -349,14 +303,7 @@ module _ (profile : Profile) (limit : ℕ) (s : Document) (path : List Part) (l 
 
   pub line_misses : (act : Act) (other : List Part) → strip path other ≡ None → in_line act other r c.here.line ≡ None
   line_misses act other apart =
-      ap (λ (o : Option (Changed Content)).
-      within (λ x. record c.here.line { content = x }) (text_of c.here.line.before)
-      (text_of c.here.line.after ++ text_of (comment_leaves c.here.line.comment)) o)
-      (ap (in_content act r.body other) its.was
-      ∙ by (ap (λ (p : List Part). strip p other) its.place ∙ apart))
-    where
-      by : strip own_path other ≡ None → in_content act r.body other (keyval its.name its.held) ≡ None
-      by e = rw (in_content, e) refl
+      own.line_misses profile limit s path h.number fine h.own h.closed act other apart
 
   pub nested_without : (act : Act) → IsAct act → (other : List Part) → strip path other ≡ None
       → Stays removed (nested act other s) (nested act other now)
@@ -367,9 +314,4 @@ module _ (profile : Profile) (limit : ℕ) (s : Document) (path : List Part) (l 
   pub place_without : (d : TextChange) (e : Edit) (y : Changed Document) → change s e ≡ Some y
       → place s e ≡ place_of_change d → 0 < d.size → Stays removed (change s e) (change now e)
       → place now e ≡ place_of_change (moved l d)
-  place_without d e y made is some stays =
-      let taken : change s (remove path) ≡ Some removed = changes s path h.number h.bare h.own h.closed in
-      let first : place_of removed ≡ place_of_change l =
-      ap (λ (o : Option (Changed Document)). place_of (changed_or_same s o)) (sym taken) ∙ h.is
-      ∙ ap (λ (t : List ℕ). record { start = l.at; end = l.at + l.size; new = t }) (sym h.takes) in
-      still_place l d s now e removed y first is some made stays
+  place_without d e y made is some stays = still_place l d s now e removed y removed_place is some made stays

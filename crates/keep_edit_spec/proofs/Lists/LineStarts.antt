@@ -15,6 +15,7 @@ use Rattle.keep_path.specs.Path.{Part}
 use Rattle.keep_meaning.specs.Marks.{Reading, start}
 use Rattle.keep_meaning.specs.Meaning.{after_line}
 use Rattle.keep_edit_spec.specs.Changed.{Changed, IsChangeOf, framed_change, within}
+use Rattle.keep_edit_spec.specs.ClearedLines.{line_start}
 use Rattle.keep_edit_spec.specs.Edits.{change, key_part, nested, rename, set}
 use Rattle.keep_edit_spec.specs.Lines.{Page, in_document, in_line, in_lines, line_text, page_text, rename_line}
 use Rattle.keep_edit_spec.specs.Lines.{with_page}
@@ -102,10 +103,6 @@ lines_begin f cuts r (e ∷ es) last =
 
 -- ---- in a document
 
--- where line number n begins
-abbrev pub line_start : Document → ℕ → ℕ
-line_start s n = length (text_of (bom_leaves s.bom)) + width (take n s.ended)
-
 pub record LinesBegin (s : Document) (c : Changed Document) : Type 0 where
   pub count : length c.to.ended ≡ length s.ended
   pub moves : (n : ℕ) → Moves c (line_start s n) (line_start c.to n)
@@ -123,7 +120,8 @@ page_begins s c h = record { count = h.count; moves = by }
           | inr g ↦ inr (omega (arith, past, g.0), omega (arith, g.1))
         ]
 
-document_begins : (f : Reading → Line → Option (Changed Line)) → ((r : Reading) (l : Line) → EachIs line_text l (f r l))
+pub document_begins : (f : Reading → Line → Option (Changed Line))
+    → ((r : Reading) (l : Line) → EachIs line_text l (f r l))
     → (s : Document) → EachOf (LinesBegin s) (in_document s (in_lines f start s.ended s.last))
 document_begins f cuts s =
     of_within (BeginLines s.ended) (LinesBegin s) (with_page s) (text_of (bom_leaves s.bom)) []

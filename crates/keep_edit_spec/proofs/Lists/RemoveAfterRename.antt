@@ -4,9 +4,10 @@
 -- has its own line at the same number (`last_page`), and no line of it has a comment (`none_page`). So the remove takes
 -- its line at the moved place (StaysBeside).
 --
--- Theorem: `remove_after_rename`.
-use Rattle.std.proofs.Common.{◌≡◌, ℕ, Bool, false, List, [], ◌∷◌, ◌++◌, map, refl, sym, ap, ap₂, subst, ◌∙◌}
-use Rattle.std.proofs.Common.{Option, Some, None, inl, inr}
+-- Theorems: `hidden_own`, `clear_same`, `line_alike`, `last_page`: whose line each is, and its comment;
+-- `remove_after_rename`.
+use Rattle.std.proofs.Common.{◌≡◌, ℕ, Bool, false, List, [], ◌∷◌, ◌++◌, map, refl, sym, ap, ap₂, subst, ◌∙◌, Option}
+use Rattle.std.proofs.Common.{Some, None, inl, inr}
 use Rattle.keep_syntax.specs.Tree.{Name, Value, Content, blank, keyval, header, element, Line, Ended, Document}
 use Rattle.keep_syntax.specs.Tree.{comment_leaves, ended_leaves, name_leaves, text_of}
 use Rattle.keep_path.specs.Path.{Part}
@@ -45,13 +46,13 @@ own_same other r r' (keyval name value) h = agrees_path other r.body r'.body (st
 own_same other r r' (header before k after) h = refl
 own_same other r r' (element before k after) h = refl
 
-hidden_own : (other : List Part) (r : Reading) (c : Content) → IsHidden other r.body c → is_own other r c ≡ false
+pub hidden_own : (other : List Part) (r : Reading) (c : Content) → IsHidden other r.body c → is_own other r c ≡ false
 hidden_own other r blank h = refl
 hidden_own other r (keyval name value) h = none_path (r.body ++ step 0 (Some name)) other h
 hidden_own other r (header before k after) h = refl
 hidden_own other r (element before k after) h = refl
 
-clear_same : (other : List Part) (r r' : Reading) (l : Line) → Agrees other r.body r'.body
+pub clear_same : (other : List Part) (r r' : Reading) (l : Line) → Agrees other r.body r'.body
     → clear_line other r' l ≡ clear_line other r l
 clear_same other r r' l h = ap (cleared_by l l.comment) (own_same other r r' l.content h)
 
@@ -87,7 +88,7 @@ module _ (t : List ℕ) (path other : List Part) where
       of_content (element before k after) = tt
       of_content (keyval name value) = by name value (strip (r.body ++ step 0 (Some name)) path)
 
-  line_alike : (r r' : Reading) (l : Line) (x : Changed Line) → IsLineRead t path other r r' l x
+  pub line_alike : (r r' : Reading) (l : Line) (x : Changed Line) → IsLineRead t path other r r' l x
       → IsAlike other r r' l x.to
   line_alike r r' l x (by_key was now same) =
       record { own = hidden_own other r' x.to.content now ∙ sym (hidden_own other r l.content was); comment = same }
@@ -132,7 +133,8 @@ module _ (t : List ℕ) (path other : List Part) where
   last_same r r' (l ∷ ls) h =
       ap₂ last_or (own_same other r r' l.content h.0) (last_same (after_line r l) (after_line r' l) ls h.1)
 
-  last_page : (r r' : Reading) (es : List Ended) (last : Line) (c : Changed Page) → PageRead t path other r r' es last c
+  pub last_page : (r r' : Reading) (es : List Ended) (last : Line) (c : Changed Page)
+      → PageRead t path other r r' es last c
       → last_line (mine other) r' (page_lines c.to) ≡ last_line (mine other) r (map line_of es ++ last ∷ [])
   last_page r r' [] last c h =
       ap (λ (z : Changed Page). last_line (mine other) r' (page_lines z.to)) h.is

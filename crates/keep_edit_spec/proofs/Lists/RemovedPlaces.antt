@@ -69,7 +69,7 @@ width_before (x ∷ first) e more =
       width_before first e more,
     )
 
-width_after : (first : List Ended) (e : Ended) (more : List Ended)
+pub width_after : (first : List Ended) (e : Ended) (more : List Ended)
     → width (take (suc (length first)) (first ++ e ∷ more)) ≡ width first + size e
 width_after [] e [] = omega (arith, width_more e [])
 width_after [] e (x ∷ more) = omega (arith, width_more e [])
@@ -140,7 +140,7 @@ module _ (s : Document) (path : List Part) (n : ℕ)
   abbrev dropped : Changed Page
   dropped = drop_lines n 1 s.ended s.last
 
-  pub cut : IsCutAt n s.ended
+  abbrev pub cut : IsCutAt n s.ended
   cut = cut_at n s.ended closed
 
   drops : IsDropHere cut.first cut.here cut.more s.last dropped

@@ -4,7 +4,7 @@
 -- (LineGone). No key part in the line names the path of the rename, so as many do as before; and what is said without
 -- the line was said before, so there is still nothing at the new path. So the rename is not refused (RenameAllowed).
 --
--- Theorem: `rename_after_remove`.
+-- Theorems: `renamable_without`: a key can be renamed without what is said in other lines; `rename_after_remove`.
 use Rattle.std.proofs.Common.{◌≡◌, ℕ, Bool, true, false, ◌||◌, List, ◌++◌, refl, sym, ap, subst, ◌∙◌, arith, Option}
 use Rattle.std.proofs.Common.{None}
 use Rattle.std.specs.List.{list_any}
@@ -30,8 +30,9 @@ use Rattle.keep_edit_spec.proofs.Common.InsertLaw.{some_named}
 use Rattle.keep_edit_spec.proofs.Common.LineTexts.{rename_line-is}
 use Rattle.keep_edit_spec.proofs.Common.Texts.{renaming-is}
 use Rattle.keep_edit_spec.proofs.Lists.LineGone as gone
+use Rattle.keep_edit_spec.proofs.Lists.RemovedPlaces.{after_is, at_is, before_is, end_is}
 use Rattle.keep_edit_spec.proofs.Lists.RenameAllowed.{unrefused}
-use Rattle.keep_edit_spec.proofs.Lists.RenameLineGone.{misses, unmarked}
+use Rattle.keep_edit_spec.proofs.Lists.RenameLineGone.{IsTaken, misses, unmarked}
 use Rattle.keep_edit_spec.proofs.Lists.SetPlaces.{Stays, either_stays}
 use Rattle.keep_edit_spec.proofs.Rename.RenameNumber.{mark_count-append}
 use Rattle.keep_edit_spec.proofs.Rename.RenameOnce.{some_counted}
@@ -60,6 +61,32 @@ node_there : (r b : Bool) → b ≡ true → (r || b) ≡ true
 node_there true b e = refl
 node_there false b e = e
 
+pub renamable_without : (other : List Part) (key : List ℕ) (ms now earlier here later : List Mention)
+    → ms ≡ earlier ++ (here ++ later) → now ≡ earlier ++ later → mark_count other here ≡ 0
+    → IsRenamable other key ms → IsRenamable other key now
+renamable_without other key ms now earlier here later was are unmarked named =
+    let count : mark_count other now ≡ 1 =
+    omega (
+      arith,
+      named.marks,
+      ap (mark_count other) was,
+      ap (mark_count other) are,
+      mark_count-append other earlier (here ++ later),
+      mark_count-append other here later,
+      mark_count-append other earlier later,
+      unmarked,
+    ) in
+    record {
+      node = node_there (is_root other) (list_any (is_at other) now)
+          (some_named other now (some_counted other now (omega (arith, count))));
+      below_root = named.below_root;
+      by_key = named.by_key;
+      fresh = ap (is_node (beside other key)) are
+          ∙ node_without (beside other key) earlier here later
+          (sym (ap (is_node (beside other key)) was) ∙ named.fresh);
+      marks = count;
+    }
+
 -- ---- after the remove
 
 module _ (profile : Profile) (limit : ℕ) (s : Document) (path : List Part) (c : TextChange) (other : List Part)
@@ -77,6 +104,12 @@ module _ (profile : Profile) (limit : ℕ) (s : Document) (path : List Part) (c 
   abbrev later : List Mention
   later = lines_mentions (gone.r profile limit s path c fine h) (gone.after profile limit s path c fine h)
 
+  taken : IsTaken profile limit s path h.number fine h.own h.closed c
+  taken = record {
+    from = omega (arith, at_is profile limit s path c h, before_is s path h.number h.bare h.own h.closed);
+    to = omega (arith, end_is profile limit s path c h, after_is s path h.number h.bare h.own h.closed);
+  }
+
   was : mentions_in s ≡ earlier ++ (here ++ later)
   was = gone.said_was profile limit s path c fine h
 
@@ -85,28 +118,9 @@ module _ (profile : Profile) (limit : ℕ) (s : Document) (path : List Part) (c 
 
   renamable_now : IsRenamable other key (mentions_in now)
   renamable_now =
-      let named : IsRenamable other key (mentions_in s) = renamable profile limit s other key k.allowed in
-      let count : mark_count other (mentions_in now) ≡ 1 =
-      omega (
-        arith,
-        named.marks,
-        ap (mark_count other) was,
-        ap (mark_count other) are,
-        mark_count-append other earlier (here ++ later),
-        mark_count-append other here later,
-        mark_count-append other earlier later,
-        unmarked profile limit s path c other key d fine h k apart side,
-      ) in
-      record {
-        node = node_there (is_root other) (list_any (is_at other) (mentions_in now))
-            (some_named other (mentions_in now) (some_counted other (mentions_in now) (omega (arith, count))));
-        below_root = named.below_root;
-        by_key = named.by_key;
-        fresh = ap (is_node (beside other key)) are
-            ∙ node_without (beside other key) earlier here later
-            (sym (ap (is_node (beside other key)) was) ∙ named.fresh);
-        marks = count;
-      }
+      renamable_without other key (mentions_in s) (mentions_in now) earlier here later was are
+      (unmarked profile limit s path h.number fine h.own h.closed c taken other key d k apart side)
+      (renamable profile limit s other key k.allowed)
 
   allowed_now : refusal profile limit now (rename other key) ≡ None
   allowed_now = unrefused profile limit other key (mentions_in now) renamable_now
@@ -121,7 +135,7 @@ module _ (profile : Profile) (limit : ℕ) (s : Document) (path : List Part) (c 
       (nested (renaming (key_part key)) other s) (nested (renaming (key_part key)) other now)
       (gone.document_without profile limit s path c fine h (rename_line (key_part key) other)
       (λ r l. rename_line-is (key_part key) other r l)
-      (misses profile limit s path c other key d fine h k apart side))
+      (misses profile limit s path h.number fine h.own h.closed c taken other key d k apart side))
       (gone.nested_without profile limit s path c fine h (renaming (key_part key)) (renaming-is (key_part key)) other
       apart)
 

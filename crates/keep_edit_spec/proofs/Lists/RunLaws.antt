@@ -6,19 +6,21 @@
 -- one law for each two kinds), moved once more (`moved_with`). A new line or header keeps its place: either all edits
 -- before it are of its kind, or all newlines are line feeds, before and after (`still_placed`).
 --
--- Theorems: `still_makes`, `none_is_run`, `run_goes_on`; `within_text`: a change is in the text.
+-- Theorems: `still_makes`, `none_is_run`, `run_goes_on`; `change_lawful`: an edit that makes a change is lawful.
 use Rattle.std.proofs.Common.{◌≡◌, ◌≢◌, ℕ, ◌+◌, ◌<◌, ◌≤◌, Bool, List, [], ◌∷◌, length, refl, sym, ap, subst, ◌∙◌, arith}
-use Rattle.std.proofs.Common.{length-append, Option, Some, None, All, inl, inr, true, false, not, ◌&&◌, ◌||◌}
+use Rattle.std.proofs.Common.{None, All, inl, inr, true, false, not, ◌&&◌, ◌||◌}
 use Rattle.std.specs.Prelude.{IsTrue}
 use Rattle.std.specs.List.{list_any}
 use Rattle.std.proofs.lemmas.Bool.{eq-eqb, lt-ltb, or_parts}
+use Rattle.std.proofs.lemmas.List.{append-nil}
 use Rattle.std.proofs.lemmas.List.Elements.{All-head, All-tail}
 use Rattle.keep_types.specs.declared.leaf.Profile.{Profile}
 use Rattle.keep_syntax.specs.Tree.{Document, Value, element, header, text}
 use Rattle.keep_path.specs.Path.{Part}
-use Rattle.keep_edit_spec.specs.Changed.{Changed, Place, place_of, put}
-use Rattle.keep_edit_spec.specs.Edits.{Edit, append_element, append_table, change, changed_or_same, edited_document}
-use Rattle.keep_edit_spec.specs.Edits.{insert, key_with, place, remove, rename, set}
+use Rattle.keep_edit_spec.specs.Changed.{Place, put}
+use Rattle.keep_edit_spec.specs.ClearedLines.{ClearsLine}
+use Rattle.keep_edit_spec.specs.Edits.{Edit, append_element, append_table, edited_document, insert, key_with, place}
+use Rattle.keep_edit_spec.specs.Edits.{remove, rename, set}
 use Rattle.keep_edit_spec.specs.Insertion.{put_in}
 use Rattle.keep_edit_spec.specs.Laws.{IsEditable, IsLawfulEdit}
 use Rattle.keep_edit_spec.specs.Lines.{newline_of}
@@ -26,32 +28,35 @@ use Rattle.keep_edit_spec.specs.Refusals.{refusal}
 use Rattle.keep_edit_spec.specs.RemovedLines.{RemovesLine}
 use Rattle.keep_edit_spec.specs.AppendedHeaders.{AppendsElement, AppendsTable}
 use Rattle.keep_edit_spec.specs.Runs.{IsBeforeHeaders, IsPlain, IsPlainBefore, IsRun, IsStillPlaced, KeepsPlace}
-use Rattle.keep_edit_spec.specs.Runs.{LeavesAlone}
-use Rattle.keep_edit_spec.specs.Runs.{MakesChange, NoneIsRun, RunGoesOn, StillMakesChange, is_header}
-use Rattle.keep_edit_spec.specs.Runs.{is_insert, is_new_after, takes_up_to}
+use Rattle.keep_edit_spec.specs.Runs.{IsOfPlace, LeavesAlone, MakesChange, NoneIsRun, RunGoesOn, StillMakesChange}
+use Rattle.keep_edit_spec.specs.Runs.{is_header, is_insert, is_new_after, takes_up_to}
 use Rattle.keep_edit_spec.specs.TextChanges.{Follow, IsBeside, TextChange, moved_by_all, moved_past, place_of_change}
-use Rattle.keep_edit_spec.specs.TextChanges.{text_with}
-use Rattle.keep_edit_spec.specs.TextChanges.{with_change}
+use Rattle.keep_edit_spec.specs.TextChanges.{IsWider, moved, text_with, with_change}
 use Rattle.keep_edit_spec.proofs.Append.AppendPlace.{append_place}
-use Rattle.keep_edit_spec.proofs.Common.LineTexts.{change-is}
-use Rattle.keep_edit_spec.proofs.Common.Texts.{EachIs}
 use Rattle.keep_edit_spec.proofs.EditLaws.{append_element_lawful, append_table_lawful, change_put, insert_lawful}
-use Rattle.keep_edit_spec.proofs.EditLaws.{remove_lawful, rename_lawful, set_lawful}
+use Rattle.keep_edit_spec.proofs.EditLaws.{place_ordered, place_within, remove_lawful, rename_lawful, set_lawful}
 use Rattle.keep_edit_spec.proofs.Lists.ApartPaths.{apart_renamed, renamed_apart}
+use Rattle.keep_edit_spec.proofs.Lists.ClearAfterRename.{clear_after_rename}
+use Rattle.keep_edit_spec.proofs.Lists.HeaderAfterClear.{element_after_clear, table_after_clear}
+use Rattle.keep_edit_spec.proofs.Lists.InsertAfterClear.{insert_after_clear}
 use Rattle.keep_edit_spec.proofs.Lists.InsertAfterRemove.{insert_after_remove}
 use Rattle.keep_edit_spec.proofs.Lists.InsertAfterRename.{insert_after_rename}
 use Rattle.keep_edit_spec.proofs.Lists.InsertAfterSet.{insert_after_set}
-use Rattle.keep_edit_spec.proofs.Lists.RemoveAfterInsert.{remove_after_insert}
+use Rattle.keep_edit_spec.proofs.Lists.RemoveAfterClear.{clear_after_clear, remove_after_clear}
+use Rattle.keep_edit_spec.proofs.Lists.RemoveAfterInsert.{clear_after_insert, remove_after_insert}
 use Rattle.keep_edit_spec.proofs.Lists.RemoveAfterRename.{remove_after_rename}
-use Rattle.keep_edit_spec.proofs.Lists.RemoveAfterSet.{remove_after_set}
+use Rattle.keep_edit_spec.proofs.Lists.RemoveAfterSet.{clear_after_set, remove_after_set}
+use Rattle.keep_edit_spec.proofs.Lists.RenameAfterClear.{rename_after_clear}
 use Rattle.keep_edit_spec.proofs.Lists.RenameAfterInsert.{rename_after_insert}
 use Rattle.keep_edit_spec.proofs.Lists.RenameAfterRemove.{rename_after_remove}
 use Rattle.keep_edit_spec.proofs.Lists.RenameAfterSet.{rename_after_set}
+use Rattle.keep_edit_spec.proofs.Lists.SetAfterClear.{set_after_clear}
 use Rattle.keep_edit_spec.proofs.Lists.SetAfterInsert.{set_after_insert}
 use Rattle.keep_edit_spec.proofs.Lists.SetAfterRemove.{set_after_remove}
 use Rattle.keep_edit_spec.proofs.Lists.SetAfterRename.{set_after_rename}
 use Rattle.keep_edit_spec.proofs.Lists.SetAfterHeader.{set_after_element, set_after_table}
-use Rattle.keep_edit_spec.proofs.Lists.RemoveAfterHeader.{remove_after_element, remove_after_table}
+use Rattle.keep_edit_spec.proofs.Lists.RemoveAfterHeader.{clear_after_element, clear_after_table, remove_after_element}
+use Rattle.keep_edit_spec.proofs.Lists.RemoveAfterHeader.{remove_after_table}
 use Rattle.keep_edit_spec.proofs.Lists.RenameAfterHeader.{rename_after_element, rename_after_table}
 use Rattle.keep_edit_spec.proofs.Lists.HeaderAfterSet.{element_after_set, table_after_set}
 use Rattle.keep_edit_spec.proofs.Lists.HeaderAfterRemove.{element_after_remove, table_after_remove}
@@ -63,12 +68,12 @@ use Rattle.keep_edit_spec.proofs.Lists.PlainTexts.{plain_newline, plain_with}
 use Rattle.keep_edit_spec.proofs.Lists.RemovedPlaces.{line_has_bytes}
 use Rattle.keep_edit_spec.proofs.Lists.StillAdds.{still_adds}
 use Rattle.keep_edit_spec.proofs.Lists.StillAppends.{still_appends_element, still_appends_table}
-use Rattle.keep_edit_spec.proofs.Lists.StillRemoves.{still_removes}
+use Rattle.keep_edit_spec.proofs.Lists.StillRemoves.{clear_after_remove, still_removes}
 use Rattle.keep_edit_spec.proofs.Lists.StillRenames.{still_renames}
 use Rattle.keep_edit_spec.proofs.Lists.StillSets.{still_sets}
 use Rattle.keep_edit_spec.proofs.Lists.TextChanges.{begins_apart, beside_past, end_apart, follow_with, moved_with}
-use Rattle.keep_edit_spec.proofs.Lists.TextChanges.{none_with}
-use Rattle.keep_edit_spec.proofs.Lists.TextChanges.{one_of_all, rest_of_all, text_with_one}
+use Rattle.keep_edit_spec.proofs.Lists.TextChanges.{none_with, one_of_all, rest_of_all, text_with_one}
+use Rattle.keep_edit_spec.proofs.Lists.WiderChanges.{wider_put}
 
 -- ---- what makes a change is lawful, and does so where it says
 
@@ -81,19 +86,39 @@ same_place c none =
 no_text : (c : TextChange) → c.new ≡ [] → record { start = c.at; end = c.at + c.size; new = [] } ≡ place_of_change c
 no_text c none = ap (λ (t : List ℕ). record { start = c.at; end = c.at + c.size; new = t }) (sym none)
 
+-- a change of just the place
+just_the_place : (s : Document) (e : Edit) (c : TextChange) → place s e ≡ place_of_change c
+    → IsWider (text s) (place s e) c
+just_the_place s e c is = record {
+  rest = 0;
+  start = ap (λ (p : Place). p.start) (sym is);
+  end = ap (λ (p : Place). p.end) (sym is) ∙ omega arith;
+  within = omega (arith, place_within s e);
+  new = ap (λ (p : Place). p.new) (sym is) ∙ sym (append-nil (place s e).new);
+}
+
+-- a remove takes bytes, from its place on
+pub removes_there : (profile : Profile) (limit : ℕ) (s : Document) (path : List Part) (c : TextChange)
+    → IsEditable profile limit s → MakesChange profile limit s (remove path) c
+    → IsWider (text s) (place s (remove path)) c × (0 < c.size)
+removes_there profile limit s path c fine (inl h) =
+    (just_the_place s (remove path) c (h.is ∙ no_text c h.takes), (line_has_bytes profile limit s path c fine h).0)
+removes_there profile limit s path c fine (inr h) = (h.is, omega (arith, h.some, h.is.start, h.is.end))
+
 pub change_is_there : (profile : Profile) (limit : ℕ) (s : Document) (e : Edit) (c : TextChange)
-    → MakesChange profile limit s e c → place s e ≡ place_of_change c
-change_is_there profile limit s (insert path value) c h = h.is ∙ same_place c h.adds
-change_is_there profile limit s (remove path) c h = h.is ∙ no_text c h.takes
-change_is_there profile limit s (set path value) c h = h.is
-change_is_there profile limit s (rename path name) c h = h.is
-change_is_there profile limit s (append_table keys) c h = h.is
-change_is_there profile limit s (append_element keys) c h = h.is
+    → IsEditable profile limit s → MakesChange profile limit s e c → IsOfPlace s e c
+change_is_there profile limit s (insert path value) c fine h = h.is ∙ same_place c h.adds
+change_is_there profile limit s (remove path) c fine h = (removes_there profile limit s path c fine h).0
+change_is_there profile limit s (set path value) c fine h = h.is
+change_is_there profile limit s (rename path name) c fine h = h.is
+change_is_there profile limit s (append_table keys) c fine h = h.is
+change_is_there profile limit s (append_element keys) c fine h = h.is
 
 pub change_allowed : (profile : Profile) (limit : ℕ) (s : Document) (e : Edit) (c : TextChange)
     → MakesChange profile limit s e c → refusal profile limit s e ≡ None
 change_allowed profile limit s (insert path value) c h = h.allowed
-change_allowed profile limit s (remove path) c h = h.allowed
+change_allowed profile limit s (remove path) c (inl h) = h.allowed
+change_allowed profile limit s (remove path) c (inr h) = h.allowed
 change_allowed profile limit s (set path value) c h = h.allowed
 change_allowed profile limit s (rename path name) c h = h.allowed
 change_allowed profile limit s (append_table keys) c h = h.allowed
@@ -103,7 +128,8 @@ pub change_lawful : (profile : Profile) (limit : ℕ) (s : Document) (e : Edit) 
     → IsEditable profile limit s → MakesChange profile limit s e c → IsLawfulEdit profile limit s e
 change_lawful profile limit s (insert path value) c fine h =
     insert_lawful profile limit s path value fine h.given h.utf8 h.allowed
-change_lawful profile limit s (remove path) c fine h = remove_lawful profile limit s path fine h.allowed
+change_lawful profile limit s (remove path) c fine h =
+    remove_lawful profile limit s path fine (change_allowed profile limit s (remove path) c h)
 change_lawful profile limit s (set path value) c fine h = set_lawful profile limit s path value fine h.given h.allowed
 change_lawful profile limit s (rename path name) c fine h =
     rename_lawful profile limit s path name fine h.utf8 h.allowed
@@ -114,25 +140,78 @@ change_lawful profile limit s (append_element keys) c fine h =
 
 -- ---- after another
 
--- Two removes that take lines beside one another are of two paths: of one path they would take one line.
+-- Two removes that change lines beside one another are of two paths: of one path they would change one line.
 other_path : (profile : Profile) (limit : ℕ) (s : Document) (path : List Part) (c : TextChange) (other : List Part)
-    (d : TextChange) → IsEditable profile limit s → RemovesLine profile limit s path c
-    → RemovesLine profile limit s other d → IsBeside c d → path ≢ other
+    (d : TextChange) → IsEditable profile limit s → MakesChange profile limit s (remove path) c
+    → MakesChange profile limit s (remove other) d → IsBeside c d → path ≢ other
 other_path profile limit s path c other d fine h k beside same =
-    let places : place_of_change c ≡ place_of_change d =
-    sym (h.is ∙ no_text c h.takes) ∙ ap (λ (p : List Part). place s (remove p)) same ∙ k.is ∙ no_text d k.takes in
-    let starts : c.at ≡ d.at = ap (λ (p : Place). p.start) places in
-    let some = line_has_bytes profile limit s path c fine h in
-    elim beside [
-      | inl ends ↦ omega (arith, ends, starts, some.0)
-      | inr before ↦ omega (arith, before.0, starts)
-    ]
+    let (first, some) = removes_there profile limit s path c fine h in
+    let starts : c.at ≡ d.at =
+    first.start ∙ ap (λ (p : List Part). (place s (remove p)).start) same
+    ∙ sym (removes_there profile limit s other d fine k).0.start in
+    elim beside [ inl ends ↦ omega (arith, ends, starts, some) | inr before ↦ omega (arith, before.0, starts) ]
+
+-- A remove after an edit of another kind takes its line, or leaves it with its comment, as before.
+remove_after : (profile : Profile) (limit : ℕ) (s now : Document) (path : List Part) (c d : TextChange)
+    → (RemovesLine profile limit s path d → RemovesLine profile limit now path (moved c d))
+    → (ClearsLine profile limit s path d → ClearsLine profile limit now path (moved c d))
+    → MakesChange profile limit s (remove path) d → MakesChange profile limit now (remove path) (moved c d)
+remove_after profile limit s now path c d takes clears (inl k) = inl (takes k)
+remove_after profile limit s now path c d takes clears (inr k) = inr (clears k)
+
+-- after a remove that took its line
+after_taken : (profile : Profile) (limit : ℕ) (s : Document) (path : List Part) (c : TextChange) (f : Edit)
+    (d : TextChange) → IsEditable profile limit s → RemovesLine profile limit s path c → MakesChange profile limit s f d
+    → LeavesAlone (remove path) f → IsBeside c d → IsStillPlaced s (remove path) c f d
+    → MakesChange profile limit (edited_document s (remove path)) f (moved c d)
+after_taken profile limit s path c (insert other more) d fine h k alone beside placed =
+    insert_after_remove profile limit s path c other more d fine h k alone beside (placed refl).0
+    ((placed refl).1 refl)
+after_taken profile limit s path c (remove other) d fine h k alone beside placed =
+    let differs : path ≢ other = other_path profile limit s path c other d fine (inl h) k beside in
+    remove_after profile limit s (edited_document s (remove path)) other c d
+    (λ x. still_removes profile limit s path c other d fine h x differs)
+    (λ x. clear_after_remove profile limit s path c other d fine h x differs beside) k
+after_taken profile limit s path c (set other more) d fine h k alone beside placed =
+    set_after_remove profile limit s path c other more d fine h k alone beside
+after_taken profile limit s path c (rename other more) d fine h k alone beside placed =
+    rename_after_remove profile limit s path c other more d fine h k alone.0
+    (apart_renamed path other more alone.0 alone.1) beside
+after_taken profile limit s path c (append_table more) d fine h k alone beside placed =
+    table_after_remove profile limit s path c more d fine h k (placed refl).0 ((placed refl).1 refl)
+after_taken profile limit s path c (append_element more) d fine h k alone beside placed =
+    element_after_remove profile limit s path c more d fine h k (placed refl).0 ((placed refl).1 refl)
+
+-- after one that left it with its comment
+after_cleared : (profile : Profile) (limit : ℕ) (s : Document) (path : List Part) (c : TextChange) (f : Edit)
+    (d : TextChange) → IsEditable profile limit s → ClearsLine profile limit s path c → MakesChange profile limit s f d
+    → LeavesAlone (remove path) f → IsBeside c d → IsStillPlaced s (remove path) c f d
+    → MakesChange profile limit (edited_document s (remove path)) f (moved c d)
+after_cleared profile limit s path c (insert other more) d fine h k alone beside placed =
+    insert_after_clear profile limit s path c other more d fine h k alone beside (placed refl).0
+    ((placed refl).1 refl)
+after_cleared profile limit s path c (remove other) d fine h k alone beside placed =
+    let differs : path ≢ other = other_path profile limit s path c other d fine (inr h) k beside in
+    remove_after profile limit s (edited_document s (remove path)) other c d
+    (λ x. remove_after_clear profile limit s path c other d fine h x differs beside)
+    (λ x. clear_after_clear profile limit s path c other d fine h x differs beside) k
+after_cleared profile limit s path c (set other more) d fine h k alone beside placed =
+    set_after_clear profile limit s path c other more d fine h k alone beside
+after_cleared profile limit s path c (rename other more) d fine h k alone beside placed =
+    rename_after_clear profile limit s path c other more d fine h k alone.0
+    (apart_renamed path other more alone.0 alone.1) beside
+after_cleared profile limit s path c (append_table more) d fine h k alone beside placed =
+    table_after_clear profile limit s path c more d fine h k (placed refl).0 ((placed refl).1 refl)
+after_cleared profile limit s path c (append_element more) d fine h k alone beside placed =
+    element_after_clear profile limit s path c more d fine h k (placed refl).0 ((placed refl).1 refl)
 
 pub still_makes : StillMakesChange
 still_makes profile limit s (insert path value) c (insert other more) d fine h k alone beside placed =
     still_adds profile limit s path value c other more d fine h k alone
 still_makes profile limit s (insert path value) c (remove other) d fine h k alone beside placed =
-    remove_after_insert profile limit s path value c other d fine h k alone beside
+    remove_after profile limit s (edited_document s (insert path value)) other c d
+    (λ x. remove_after_insert profile limit s path value c other d fine h x alone beside)
+    (λ x. clear_after_insert profile limit s path value c other d fine h x alone beside) k
 still_makes profile limit s (insert path value) c (set other more) d fine h k alone beside placed =
     set_after_insert profile limit s path value c other more d fine h k alone beside
 still_makes profile limit s (insert path value) c (rename other more) d fine h k alone beside placed =
@@ -142,28 +221,17 @@ still_makes profile limit s (insert path value) c (append_table more) d fine h k
     table_after_insert profile limit s path value c more d fine h k alone (placed refl).0
 still_makes profile limit s (insert path value) c (append_element more) d fine h k alone beside placed =
     element_after_insert profile limit s path value c more d fine h k alone (placed refl).0
-still_makes profile limit s (remove path) c (insert other more) d fine h k alone beside placed =
-    insert_after_remove profile limit s path c other more d fine h k alone beside (placed refl).0
-    ((placed refl).1 refl)
-still_makes profile limit s (remove path) c (remove other) d fine h k alone beside placed =
-    still_removes profile limit s path c other d fine h k
-    (other_path profile limit s path c other d fine h k beside)
-still_makes profile limit s (remove path) c (set other more) d fine h k alone beside placed =
-    set_after_remove profile limit s path c other more d fine h k alone beside
-still_makes profile limit s (remove path) c (rename other more) d fine h k alone beside placed =
-    rename_after_remove profile limit s path c other more d fine h k alone.0
-    (apart_renamed path other more alone.0 alone.1) beside
-still_makes profile limit s (remove path) c (append_table more) d fine h k alone beside placed =
-    table_after_remove profile limit s path c more d fine h k (placed refl).0
-    ((placed refl).1 refl)
-still_makes profile limit s (remove path) c (append_element more) d fine h k alone beside placed =
-    element_after_remove profile limit s path c more d fine h k (placed refl).0
-    ((placed refl).1 refl)
+still_makes profile limit s (remove path) c f d fine (inl h) k alone beside placed =
+    after_taken profile limit s path c f d fine h k alone beside placed
+still_makes profile limit s (remove path) c f d fine (inr h) k alone beside placed =
+    after_cleared profile limit s path c f d fine h k alone beside placed
 still_makes profile limit s (set path value) c (insert other more) d fine h k alone beside placed =
     insert_after_set profile limit s path value c other more d fine h k alone beside (placed refl).0
     ((placed refl).1 refl)
 still_makes profile limit s (set path value) c (remove other) d fine h k alone beside placed =
-    remove_after_set profile limit s path value c other d fine h k alone beside
+    remove_after profile limit s (edited_document s (set path value)) other c d
+    (λ x. remove_after_set profile limit s path value c other d fine h x alone beside)
+    (λ x. clear_after_set profile limit s path value c other d fine h x alone beside) k
 still_makes profile limit s (set path value) c (set other more) d fine h k alone beside placed =
     still_sets profile limit s path value c other more d fine h k beside
 still_makes profile limit s (set path value) c (rename other more) d fine h k alone beside placed =
@@ -180,8 +248,11 @@ still_makes profile limit s (rename path name) c (insert other more) d fine h k 
     (renamed_apart path name other alone.0 alone.1) beside (placed refl).0
     ((placed refl).1 refl)
 still_makes profile limit s (rename path name) c (remove other) d fine h k alone beside placed =
-    remove_after_rename profile limit s path name c other d fine h k alone.0
-    (renamed_apart path name other alone.0 alone.1) beside
+    remove_after profile limit s (edited_document s (rename path name)) other c d
+    (λ x. remove_after_rename profile limit s path name c other d fine h x alone.0
+    (renamed_apart path name other alone.0 alone.1) beside)
+    (λ x. clear_after_rename profile limit s path name c other d fine h x alone.0
+    (renamed_apart path name other alone.0 alone.1) beside) k
 still_makes profile limit s (rename path name) c (set other more) d fine h k alone beside placed =
     set_after_rename profile limit s path name c other more d fine h k alone.0
     (renamed_apart path name other alone.0 alone.1) beside
@@ -197,7 +268,9 @@ still_makes profile limit s (append_table keys) c (insert other more) d fine h k
     insert_after_table profile limit s keys c other more d fine h k alone
     (λ e. (placed refl).1 refl (omega (arith, e, h.adds))) (placed refl).0
 still_makes profile limit s (append_table keys) c (remove other) d fine h k alone beside placed =
-    remove_after_table profile limit s keys c other d fine h k
+    remove_after profile limit s (edited_document s (append_table keys)) other c d
+    (λ x. remove_after_table profile limit s keys c other d fine h x)
+    (λ x. clear_after_table profile limit s keys c other d fine h x) k
 still_makes profile limit s (append_table keys) c (set other more) d fine h k alone beside placed =
     set_after_table profile limit s keys c other more d fine h k alone
 still_makes profile limit s (append_table keys) c (rename other more) d fine h k alone beside placed =
@@ -210,7 +283,9 @@ still_makes profile limit s (append_element keys) c (insert other more) d fine h
     insert_after_element profile limit s keys c other more d fine h k alone
     (λ e. (placed refl).1 refl (omega (arith, e, h.adds))) (placed refl).0
 still_makes profile limit s (append_element keys) c (remove other) d fine h k alone beside placed =
-    remove_after_element profile limit s keys c other d fine h k
+    remove_after profile limit s (edited_document s (append_element keys)) other c d
+    (λ x. remove_after_element profile limit s keys c other d fine h x)
+    (λ x. clear_after_element profile limit s keys c other d fine h x) k
 still_makes profile limit s (append_element keys) c (set other more) d fine h k alone beside placed =
     set_after_element profile limit s keys c other more d fine h k alone
 still_makes profile limit s (append_element keys) c (rename other more) d fine h k alone beside placed =
@@ -222,16 +297,33 @@ still_makes profile limit s (append_element keys) c (append_element more) d fine
 
 -- ---- the place
 
-start_within : (s : Document) (o : Option (Changed Document)) → EachIs text s o
-    → (place_of (changed_or_same s o)).end ≤ length (text s)
-start_within s None h = omega arith
-start_within s (Some c) h =
-    omega (arith, ap (λ (t : List ℕ). length t) h.was, length-append {A = ℕ})
+within_text : (profile : Profile) (limit : ℕ) (s : Document) (e : Edit) (c : TextChange)
+    → IsEditable profile limit s → MakesChange profile limit s e c → c.at + c.size ≤ length (text s)
+within_text profile limit s e c fine h = by e (change_is_there profile limit s e c fine h)
+  where
+    inside : (a : Edit) → place s a ≡ place_of_change c → c.at + c.size ≤ length (text s)
+    inside a is = subst (λ (p : Place). p.end ≤ length (text s)) is (place_within s a)
 
-pub within_text : (s : Document) (e : Edit) (c : TextChange) → place s e ≡ place_of_change c
-    → c.at + c.size ≤ length (text s)
-within_text s e c is =
-    subst (λ (p : Place). p.end ≤ length (text s)) is (start_within s (change s e) (change-is s e))
+    by : (a : Edit) → IsOfPlace s a c → c.at + c.size ≤ length (text s)
+    by (insert path value) is = inside (insert path value) is
+    by (remove path) is = omega (arith, is.end, is.within)
+    by (set path value) is = inside (set path value) is
+    by (rename path name) is = inside (rename path name) is
+    by (append_table keys) is = inside (append_table keys) is
+    by (append_element keys) is = inside (append_element keys) is
+
+-- the text with the edit is the text with the change
+change_puts : (profile : Profile) (limit : ℕ) (s : Document) (e : Edit) (c : TextChange) → IsEditable profile limit s
+    → MakesChange profile limit s e c → put (text s) (place s e) ≡ put (text s) (place_of_change c)
+change_puts profile limit s e c fine h = by e (change_is_there profile limit s e c fine h)
+  where
+    by : (a : Edit) → IsOfPlace s a c → put (text s) (place s a) ≡ put (text s) (place_of_change c)
+    by (insert path value) is = ap (put (text s)) is
+    by (remove path) is = wider_put (text s) (place s (remove path)) c is (place_ordered s (remove path))
+    by (set path value) is = ap (put (text s)) is
+    by (rename path name) is = ap (put (text s)) is
+    by (append_table keys) is = ap (put (text s)) is
+    by (append_element keys) is = ap (put (text s)) is
 
 -- ---- a run
 
@@ -359,8 +451,7 @@ apart_now : (profile : Profile) (limit : ℕ) (s : Document) (edits : List Edit)
 apart_now profile limit s edits changes now r (insert path value) c h is left d right beside plain before other =
     absurd cc
 apart_now profile limit s edits changes now r (remove path) c h is left d right beside plain before other =
-    taken_apart s changes c left r.follow
-    (line_has_bytes profile limit now path (moved_past changes c) r.editable is).0 d right beside plain
+    taken_apart s changes c left r.follow (removes_there profile limit s path c r.first h).1 d right beside plain
 apart_now profile limit s edits changes now r (set path value) c h is left d right beside plain before other =
     taken_apart s changes c left r.follow is.some d right beside plain
 apart_now profile limit s edits changes now r (rename path name) c h is left d right beside plain before other =
@@ -425,17 +516,17 @@ still_placed profile limit s edits changes now r e c (rename path name) d h is l
 pub run_goes_on : RunGoesOn
 run_goes_on profile limit s edits changes now e c r makes alone beside placed =
     let is_now : MakesChange profile limit now e (moved_past changes c) = r.later e c makes alone beside placed in
-    let is : place now e ≡ place_of_change (moved_past changes c) =
-    change_is_there profile limit now e (moved_past changes c) is_now in
+    let is : IsOfPlace now e (moved_past changes c) =
+    change_is_there profile limit now e (moved_past changes c) r.editable is_now in
     let lawful : IsLawfulEdit profile limit now e =
     change_lawful profile limit now e (moved_past changes c) r.editable is_now in
     let fine : IsEditable profile limit (edited_document now e) =
     record { valid = lawful.reads.valid; shallow = lawful.reads.shallow; obeys = lawful.obeys } in
     let text_is : text (edited_document now e) ≡ text_with 0 (text s) (with_change changes c) =
-    change_put now e ∙ ap (put (text now)) is
+    change_put now e ∙ change_puts profile limit now e (moved_past changes c) r.editable is_now
     ∙ ap (λ (t : List ℕ). put t (place_of_change (moved_past changes c))) r.text
     ∙ sym (text_with_one (text s) changes c
-    (within_text s e c (change_is_there profile limit s e c makes)) r.follow beside) in
+    (within_text profile limit s e c r.first makes) r.follow beside) in
     record {
       allowed = change_allowed profile limit now e (moved_past changes c) is_now;
       is = is;

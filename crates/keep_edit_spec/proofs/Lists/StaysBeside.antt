@@ -3,28 +3,33 @@
 -- Where the change leaves what they ask of the document, they find the line with the same number, and this one begins
 -- where it did, or moved by the change (LineStarts). For an insert that is what is said of its path and the prefixes of
 -- it (SaidOfPrefixes), and where its holder's body ends. For a remove it is which line is the path's own, and that none
--- has a comment; so it is not refused (RemovedOwn).
+-- has a comment; so it is not refused (RemovedOwn). A remove that leaves its line with the comment clears it at the
+-- moved place, if the one change stays after the other, and the line ends where it did, or moved.
 --
--- Theorems: `adds_beside`, `removes_beside`.
+-- Theorems: `adds_beside`, `removes_beside`, `clears_beside`.
 use Rattle.std.proofs.Common.{◌≡◌, ℕ, suc, ◌+◌, ◌<◌, ◌≤◌, List, [], ◌∷◌, ◌++◌, length, take, sym, ap, ap₂, ◌∙◌}
-use Rattle.std.proofs.Common.{length-append, arith, Some, None}
+use Rattle.std.proofs.Common.{length-append, cond, ◌-◌, arith, Some, None}
+use Rattle.std.specs.Prelude.{nat_lt}
 use Rattle.keep_types.specs.declared.leaf.Profile.{Profile}
-use Rattle.keep_syntax.specs.Tree.{Document, Value, Written, bom_leaves, ended_leaves, keyval, text_of}
+use Rattle.keep_syntax.specs.Tree.{Document, Value, Written, bom_leaves, ended_leaves, keyval, text, text_of}
 use Rattle.keep_path.specs.Path.{Part, key}
 use Rattle.keep_meaning.specs.Marks.{marks, start}
 use Rattle.keep_meaning.specs.Meaning.{lines, mentions_in}
 use Rattle.keep_meaning.specs.Nodes.{kinds_at}
 use Rattle.keep_meaning.specs.Rules.{ObeysRules}
 use Rattle.keep_edit_spec.specs.AddedLines.{AddsLine}
-use Rattle.keep_edit_spec.specs.Changed.{Changed}
+use Rattle.keep_edit_spec.specs.Changed.{Changed, place_of, put}
+use Rattle.keep_edit_spec.specs.ClearedLines.{ClearsLine, line_start}
 use Rattle.keep_edit_spec.specs.Edits.{clear_line, end_of, name_with}
 use Rattle.keep_edit_spec.specs.Insertion.{put_in}
-use Rattle.keep_edit_spec.specs.Lines.{ended_text, in_lines, last_line, new_line, newline_of}
+use Rattle.keep_edit_spec.specs.Lines.{ended_text, in_document, in_lines, last_line, new_line, newline_of}
 use Rattle.keep_edit_spec.specs.Look.{holder}
 use Rattle.keep_edit_spec.specs.RemovedLines.{RemovesLine}
-use Rattle.keep_edit_spec.specs.TextChanges.{IsBeside, TextChange, moved, moved_by}
+use Rattle.keep_edit_spec.specs.TextChanges.{IsBeside, TextChange, change_at as change_to, moved, moved_by}
+use Rattle.keep_edit_spec.specs.TextChanges.{place_of_change}
 use Rattle.keep_edit_spec.proofs.Common.Marks.{rules_of_document}
-use Rattle.keep_edit_spec.proofs.Lists.LineStarts.{LinesBegin, line_moves, line_start}
+use Rattle.keep_edit_spec.proofs.Lists.ClearStays.{clears_now}
+use Rattle.keep_edit_spec.proofs.Lists.LineStarts.{LinesBegin, line_moves}
 use Rattle.keep_edit_spec.proofs.Lists.OtherPaths.{no_item}
 use Rattle.keep_edit_spec.proofs.Lists.Places.{at_is, line_is, place_is}
 use Rattle.keep_edit_spec.proofs.Lists.RemovedOwn.{own_allowed}
@@ -32,6 +37,7 @@ use Rattle.keep_edit_spec.proofs.Lists.RemovedPlaces.{at_is as line_at, end_is a
 use Rattle.keep_edit_spec.proofs.Lists.RemovedPlaces.{place_is as line_place}
 use Rattle.keep_edit_spec.proofs.Lists.RenamePlaces.{IsChangeAt}
 use Rattle.keep_edit_spec.proofs.Lists.SaidOfPrefixes.{holder_same, refusal_same}
+use Rattle.keep_edit_spec.proofs.Lists.SetPlaces.{Stays}
 use Rattle.keep_edit_spec.proofs.Remove.RemoveWhole.{removable}
 
 module _ (profile : Profile) (limit : ℕ) (s : Document) (x : Changed Document) (c : TextChange)
@@ -105,3 +111,23 @@ module _ (profile : Profile) (limit : ℕ) (s : Document) (x : Changed Document)
         is = line_place x.to path n bare own closed
             ∙ ap₂ (λ (b e : ℕ). record { start = b; end = e; new = [] }) at end;
       }
+
+  pub clears_beside : (path : List Part) (d : TextChange) → ClearsLine profile limit s path d
+      → IsBeside c d → ObeysRules (marks (mentions_in x.to)) → text x.to ≡ put (text s) (place_of_change c)
+      → c.at + c.size ≤ length (text s)
+      → Stays x (in_document s (in_lines (clear_line path) start s.ended s.last))
+      (in_document x.to (in_lines (clear_line path) start x.to.ended x.to.last))
+      → last_line (mine path) start (lines x.to) ≡ last_line (mine path) start (lines s)
+      → ClearsLine profile limit x.to path (moved c d)
+  clears_beside path d k side obeys spelled within stays same =
+      let n : ℕ = k.number in
+      let own : last_line (mine path) start (lines x.to) ≡ Some n = same ∙ k.own in
+      let closed : n < length x.to.ended = omega (arith, k.closed, begin.count) in
+      let b : TextChange = change_to c.at c.size x.new in
+      let placed : place_of x ≡ place_of_change b =
+      ap₂ (λ (i m : ℕ). record { start = i; end = i + m; new = x.new }) there.at there.size in
+      clears_now profile limit s x.to path c d k side
+      (own_allowed profile limit x.to path n (rules_of_document x.to obeys) own
+      (removable profile limit s path k.allowed).below_root) n own closed
+      (line_moves s x c d begin there some side (suc n) d.size (omega arith) k.ends) spelled within x b placed
+      (λ at. ap (λ (m : ℕ). cond (nat_lt at c.at) at ((at + m) - c.size)) there.new) stays

@@ -11,8 +11,8 @@ returns-in-Insert c =
 
 pub returns-in-Remove : goal.returns-in-Remove
 returns-in-Remove c =
-    remove_here c.args.self.now c.args.edit.now c.in-Remove.path c.taken_line.result c.in-Remove.is
-    c.taken_line.ensures.taken c.taken_line.ensures.within
+    remove_here c.args.self.now c.args.edit.now c.in-Remove.path c.line_removal.result c.in-Remove.is
+    c.line_removal.ensures.taken c.line_removal.ensures.within
 
 pub returns-else-not-ends_in_newline : goal.returns-else-not-ends_in_newline
 returns-else-not-ends_in_newline c =
