@@ -1,5 +1,5 @@
 //! Which edits of a list leave one another alone, by their paths and keys.
-ghost use Rattle.std.specs.Prelude.{◌≡◌, ◌≢◌, ◌≤◌, All, IfSome, None, length, map, min, option_map, take};
+ghost use Rattle.std.specs.Prelude.{◌≡◌, ◌≢◌, ◌≤◌, All, IfSome, IsTrue, None, length, map, min, option_map, take};
 ghost use Rattle.std.specs.Bool.{Decides};
 ghost use Rattle.keep_edit.specs.Runs.{LeavesAlone, outline, rest_after, rest_from};
 ghost use Rattle.keep_edit_spec.specs.AppendedHeaders.{AreSameOrApart};
@@ -204,10 +204,32 @@ fn leaves_alone(edit: &Edit, other: &Edit) -> bool
     }
 }
 
+/// Whether these edits and another that comes after them all append elements, with as many keys each: of such lists
+/// none is the beginning of another.
+fn are_elements_alike(edits: &[Edit], other: &Edit) -> bool
+    ensures { IsTrue result → All (λ e. LeavesAlone e other.now) edits.now }
+{
+    let Edit::Element(more) = other else {
+        return false;
+    };
+    for edit in edits {
+        let Edit::Element(keys) = edit else {
+            return false;
+        };
+        if keys.len() != more.len() {
+            return false;
+        }
+    }
+    true
+}
+
 /// Whether each of these edits leaves alone another that comes after them.
 pub fn all_leave_alone(edits: &[Edit], other: &Edit) -> bool
     ensures { Decides result (All (λ e. LeavesAlone e other.now) edits.now) }
 {
+    if are_elements_alike(edits, other) {
+        return true;
+    }
     for edit in edits {
         if !leaves_alone(edit, other) {
             return false;
