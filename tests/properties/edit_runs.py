@@ -6,7 +6,8 @@
 Edits that come in a row are made at once, from some 20 of them on, and up to 500, by the document before all of them. So
 each list (of 80 edits, one in twenty of 1,100; RUNS of them, 100 if not given) is given to the program as one script, and then in
 scripts of 10, each on what the one before gave, where every edit is made by itself. Texts, faults and the number of the refused
-edit have to be the same. Most lists are of edits of one kind, a third of edits of all kinds in turn. Among the edits are some that end such a row: one that is refused, one of a path that was there before
+edit have to be the same. Most lists are of edits of one kind, a third of edits of all kinds in turn. A fifth of the lines that are
+changed have a comment. Among the edits are some that end such a row: one that is refused, one of a path that was there before
 or is in another's.
 """
 import sys
@@ -86,7 +87,15 @@ class Run:
         paths = [table + b"." + key if table else key for key in keys for table in [random.choice(tables)]]
         ran = self.ran([b"apply", b"".join(edit_of(b"insert", it, value_of(random)) for it in paths)], self.text)
         self.text = ran.stdout if ran.returncode == 0 else self.text
+        self.add_comments(set(keys))
         return paths
+
+    def add_comments(self, keys):
+        """A comment at the end of some of the lines with these keys."""
+        commented = lambda line: line + b"  # some" if line.split(b" = ")[0] in keys and self.random.random() < 0.2 else line
+        text = b"\n".join(commented(it) for it in self.text.split(b"\n"))
+        if not self.ran([b"check"], text).returncode:
+            self.text = text
 
     def some_of(self, *kinds):
         """Paths of nodes of other kinds than these, for a few edits that end a run."""

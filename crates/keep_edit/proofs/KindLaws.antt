@@ -1,20 +1,19 @@
 -- Where an edit that is made at once with others writes a line or a header: either they are all of its kind, or each
--- newline is alike.
+-- newline is alike and its place is kept.
 --
 -- Keys are added only for edits of the kind of the first one (`of_kind`).
 --
 -- Theorems: `placed_of_kind`, `placed_plain`.
 use Rattle.std.proofs.Common.{◌≡◌, ◌≢◌, ℕ, Bool, true, false, List, length, All, refl, sym, ◌∙◌, inl, inr, slice_range}
 use Rattle.std.specs.Prelude.{◌⊎◌}
-use Rattle.std.specs.List.{list_any}
 use Rattle.std.proofs.lemmas.List.Elements.{All-weaker}
 use Rattle.std.proofs.lemmas.Bool.{or_parts}
 use Rattle.keep_edit_spec.specs.Runs as runs
-use Rattle.keep_edit_spec.specs.Runs.{IsPlain, takes_up_to}
+use Rattle.keep_edit_spec.specs.Runs.{ArePlain}
 use Rattle.keep_edit_spec.specs.TextChanges.{TextChange}
 use Rattle.keep_edit_plan.specs.declared.edit.Edit.{Edit}
 use Rattle.keep_edit_plan.specs.declared.edit.Edit.TheVariants.{Element, Insert, Remove, Rename, Set, Table}
-use Rattle.keep_edit.specs.Runs.{outline, writes_anew}
+use Rattle.keep_edit.specs.Runs.{IsPlaceKept, outline, writes_anew}
 use Rattle.keep_edit.specs.Seen.{HasKeysOf, IsSeen}
 use Rattle.keep_edit.specs.declared.seen.SeenKeys.{SeenKeys}
 use Rattle.keep_edit.proofs.RunSteps.{IsPlaced}
@@ -78,15 +77,23 @@ placed_of_kind seen edits first end bytes changes x at all h = record {
       (λ y k. (same_kind seen x y h k).1 ∙ is) (slice_range edits first end) all);
 }
 
--- where it writes none, or all is plain, and a line is before the end if a header comes there
+-- where it writes none, or all is plain and its place is kept
 pub placed_plain : (edits : List Edit) (first end : ℕ) (bytes : List ℕ) (changes : List TextChange) (x : Edit) (at : ℕ)
-    (writes : Bool) → writes ≡ writes_anew x
-    → (writes ≡ true → IsPlain bytes × All (λ d. IsPlain d.new) changes × (list_any (takes_up_to at) changes ≡ false))
-    → (runs.is_insert (outline x) ≡ true
-    → All (λ y. runs.is_header (outline y) ≡ false) (slice_range edits first end) ⊎ (at ≢ length bytes))
+    (headers writes : Bool)
+    → (headers ≡ false → All (λ y. runs.is_header (outline y) ≡ false) (slice_range edits first end))
+    → writes ≡ writes_anew x → (writes ≡ true → ArePlain bytes changes × IsPlaceKept bytes changes x at headers)
     → IsPlaced edits first end bytes changes x at
-placed_plain edits first end bytes changes x at false is h before =
+placed_plain edits first end bytes changes x at headers false headless is h =
     let none = or_parts (runs.is_insert (outline x)) (runs.is_header (outline x)) (sym is) in
     record { insert = λ yes. absurd cc; header = λ yes. absurd cc }
-placed_plain edits first end bytes changes x at true is h before =
-    record { insert = λ yes. inr (h refl, before yes); header = λ yes. inr (h refl) }
+placed_plain edits first end bytes changes x at headers true headless is h =
+    let (plain, kept) = h refl in
+    record {
+      insert = λ yes. inr (plain, ((kept.line yes).0, ends (kept.line yes).1));
+      header = λ yes. inr (plain, kept.header yes);
+    }
+  where
+    ends : (headers ≡ false) ⊎ (at ≢ length bytes)
+        → All (λ y. runs.is_header (outline y) ≡ false) (slice_range edits first end) ⊎ (at ≢ length bytes)
+    ends (inl none) = inl (headless none)
+    ends (inr other) = inr other

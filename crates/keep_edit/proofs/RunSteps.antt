@@ -24,7 +24,8 @@ use Rattle.keep_edit_spec.specs.Edits as law
 use Rattle.keep_edit_spec.specs.Edits.{place}
 use Rattle.keep_edit_spec.specs.Laws.{IsLawfulEdit}
 use Rattle.keep_edit_spec.specs.Runs as runs
-use Rattle.keep_edit_spec.specs.Runs.{IsBeforeHeaders, IsPlainBefore, IsRun, IsRunLonger, KeepsPlace, MakesChange}
+use Rattle.keep_edit_spec.specs.Runs.{ArePlain, IsBeforeHeaders, IsPlainBefore, IsRun, IsRunLonger, KeepsPlace}
+use Rattle.keep_edit_spec.specs.Runs.{LetsCome, MakesChange}
 use Rattle.keep_edit_spec.specs.TextChanges.{Follow, IsBeside, TextChange, moved_past, text_with, with_change}
 use Rattle.keep_edit_spec.proofs.Shared.{all_with, change_lawful, change_put, length_with, none_is_run, run_goes_on}
 use Rattle.keep_edit_plan.proofs.Shared.{change_in, editable}
@@ -149,14 +150,14 @@ no_header_of (edit.Element ks) e same h = ap runs.is_header same ∙ h
 
 -- ---- new lines and headers
 
--- All edits before one that writes a line or a header do so, too; or each newline is alike, and none takes the bytes
--- before its place; nor, before a line, writes a header there.
+-- All edits before one that writes a line or a header do so, too; or each newline is alike, and none takes the byte
+-- before its place, but for one in whose place a line comes; nor, before a line, writes a header there.
 pub record IsPlaced (edits : List Edit) (first end : ℕ) (bytes : List ℕ) (changes : List TextChange) (x : Edit) (at : ℕ)
     : Type 0 where
   pub insert : runs.is_insert (outline x) ≡ true
       → All (λ y. runs.is_insert (outline y) ≡ true) (slice_range edits first end)
-      ⊎ (IsPlainBefore bytes changes at
-      × (All (λ y. runs.is_header (outline y) ≡ false) (slice_range edits first end) ⊎ (at ≢ length bytes)))
+      ⊎ (ArePlain bytes changes × (All (LetsCome bytes changes at) changes
+      × (All (λ y. runs.is_header (outline y) ≡ false) (slice_range edits first end) ⊎ (at ≢ length bytes))))
   pub header : runs.is_header (outline x) ≡ true
       → All (λ y. runs.is_header (outline y) ≡ true) (slice_range edits first end) ⊎ IsPlainBefore bytes changes at
 
@@ -225,14 +226,23 @@ module _ (s : Document) (edits : List Edit) (first n : ℕ) (old now : ProfiledT
       stated a is = subst (λ (k : law.Edit). KeepsPlace (text before) h.es changes k c) (sym is)
 
       all_inserts : (All (λ y. runs.is_insert (outline y) ≡ true) (slice_range edits first n)
-          ⊎ (IsPlainBefore now.text changes c.at
-          × (All (λ y. runs.is_header (outline y) ≡ false) (slice_range edits first n) ⊎ (c.at ≢ length now.text))))
+          ⊎ (ArePlain now.text changes × (All (LetsCome now.text changes c.at) changes
+          × (All (λ y. runs.is_header (outline y) ≡ false) (slice_range edits first n) ⊎ (c.at ≢ length now.text)))))
           → All (λ f. IsTrue (runs.is_insert f)) h.es
-          ⊎ (IsPlainBefore (text before) changes c.at × IsBeforeHeaders (text before) h.es c.at)
+          ⊎ (ArePlain (text before) changes × (All (LetsCome (text before) changes c.at) changes
+          × IsBeforeHeaders (text before) h.es c.at))
       all_inserts (inl all) = inl (h.inserts all)
-      all_inserts (inr (plain, inl none)) = inr (plain_is plain, inl (h.headless none))
-      all_inserts (inr (plain, inr before_end)) =
-          inr (plain_is plain, inr (subst (λ (bytes : List ℕ). c.at ≢ length bytes) read.reads.spelled before_end))
+      all_inserts (inr (plain, (come, ends))) =
+          subst (λ (bytes : List ℕ). All (λ f. IsTrue (runs.is_insert f)) h.es
+          ⊎ (ArePlain bytes changes × (All (LetsCome bytes changes c.at) changes
+          × IsBeforeHeaders bytes h.es c.at)))
+          read.reads.spelled (inr (plain, (come, before_headers ends)))
+        where
+          before_headers : (All (λ y. runs.is_header (outline y) ≡ false) (slice_range edits first n)
+              ⊎ (c.at ≢ length now.text))
+              → IsBeforeHeaders now.text h.es c.at
+          before_headers (inl none) = inl (h.headless none)
+          before_headers (inr other) = inr other
 
       all_headers : (All (λ y. runs.is_header (outline y) ≡ true) (slice_range edits first n)
           ⊎ IsPlainBefore now.text changes c.at)

@@ -1,6 +1,6 @@
 -- Edits of a list that are made at once: each makes its change of the document before all of them.
-use Rattle.std.specs.Prelude.{◌≡◌, ℕ, ◌+◌, Bool, true, false, ◌||◌, IsTrue, List, [], All, Option, drop, map, take}
-use Rattle.std.specs.Prelude.{slice_range, String, string_bytes}
+use Rattle.std.specs.Prelude.{◌≡◌, ◌≢◌, ◌⊎◌, ℕ, ◌+◌, Bool, true, false, ◌||◌, IsTrue, List, [], All, Option, drop}
+use Rattle.std.specs.Prelude.{length, map, take, slice_range, String, string_bytes}
 use Rattle.std.specs.Global.{Global}
 use Rattle.std.specs.List.{list_any}
 use Rattle.keep_syntax.specs.Tree.{Document, Value, inline, none}
@@ -9,7 +9,7 @@ use Rattle.keep_edit_spec.specs.AddedItems.{AddsNextItem, IsItemRun, item_path}
 use Rattle.keep_edit_spec.specs.Edits as law
 use Rattle.keep_edit_spec.specs.Look.{keys_in}
 use Rattle.keep_edit_spec.specs.Runs as runs
-use Rattle.keep_edit_spec.specs.Runs.{IsRun}
+use Rattle.keep_edit_spec.specs.Runs.{IsRun, LetsCome, takes_up_to}
 use Rattle.keep_edit_spec.specs.TextChanges.{TextChange, text_with}
 use Rattle.keep_edit_plan.specs.Headers.{key_texts}
 use Rattle.keep_edit_plan.specs.TextEdits.{change_of}
@@ -40,6 +40,14 @@ LeavesAlone x y = runs.LeavesAlone (outline x) (outline y)
 -- the edit writes a line or a header with a newline of its own
 abbrev pub writes_anew : Edit → Bool
 writes_anew x = runs.is_insert (outline x) || runs.is_header (outline x)
+
+-- An edit's place is kept by changes that are made before it. A header's is where none takes the byte before it; a
+-- line's is there too, or where one is taken in whose place it comes; and it is not at the end where headers are
+-- written.
+pub record IsPlaceKept (bytes : List ℕ) (changes : List TextChange) (x : Edit) (at : ℕ) (headers : Bool) : Type 0 where
+  pub line : runs.is_insert (outline x) ≡ true
+      → All (LetsCome bytes changes at) changes × ((headers ≡ false) ⊎ (at ≢ length bytes))
+  pub header : runs.is_header (outline x) ≡ true → list_any (takes_up_to at) changes ≡ false
 
 -- what is left of keys after so many, and after those of the steps of a path
 abbrev pub rest_from : List (String Global) → ℕ → List Part

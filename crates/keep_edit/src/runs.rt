@@ -1,15 +1,14 @@
 //! Edits of a list in their order. Where many come in a row that each make their change elsewhere, and leave one
 //! another alone, they are made at once: each is known by the document before all of them.
-ghost use Rattle.std.specs.Prelude.{◌≡◌, ◌≢◌, ◌+◌, ◌<◌, ◌≤◌, ◌↔◌, ℕ, All, IfErr, IfOk, IfSome, List, MatchResult, Some};
-ghost use Rattle.std.specs.Prelude.{length, slice_get, take};
+ghost use Rattle.std.specs.Prelude.{◌≡◌, ◌+◌, ◌<◌, ◌≤◌, ◌↔◌, ℕ, All, IfErr, IfOk, IfSome, IsTrue, List, MatchResult};
+ghost use Rattle.std.specs.Prelude.{Some, length, slice_get, take};
 ghost use Rattle.std.specs.Bool.{Decides};
 ghost use Rattle.keep_syntax.specs.Tree as tree;
 ghost use Rattle.keep_edit.specs.Lists.{AreMade, StopsAt};
 ghost use Rattle.keep_edit.specs.Reading.{ProfiledText};
-ghost use Rattle.keep_edit.specs.Runs.{AddsItemHere, MakeChanges, changed_text, outline, writes_anew};
+ghost use Rattle.keep_edit.specs.Runs.{AddsItemHere, IsPlaceKept, MakeChanges, changed_text, writes_anew};
 ghost use Rattle.keep_edit_plan.specs.TextEdits.{IsChangeIn};
 ghost use Rattle.keep_edit_spec.specs.AddedItems.{item_path};
-ghost use Rattle.keep_edit_spec.specs.Runs as runs;
 ghost use Rattle.keep_edit_spec.specs.Runs.{IsPlain};
 ghost use Rattle.keep_path.specs.Path.{Part, index};
 
@@ -51,13 +50,6 @@ fn is_plain(text: &str) -> bool
     ensures { Decides result (IsPlain text.now) }
 {
     memchr(b'\r', text.as_bytes()).is_none()
-}
-
-/// Whether an edit is an insert.
-fn is_insert(edit: &Edit) -> bool
-    ensures { result ≡ runs.is_insert (outline edit.now) }
-{
-    matches!(edit, Edit::Insert(_, _))
 }
 
 /// Whether an edit writes a line or a header with a newline of its own.
@@ -285,21 +277,38 @@ impl Document {
                 return changes;
             };
             are_plain = are_plain && is_plain(change.new.as_str());
-            let at = change.place.start;
             if writes_anew(edit) {
+                let at = change.place.start;
                 is_text_plain = is_text_plain || is_plain(self.text.as_str());
-                if !is_text_plain || !are_plain || changes.take_up_to(at) {
+                if !is_text_plain
+                    || !are_plain
+                    || !self.keeps_place(&changes, edit, at, paths.has_header())
+                {
                     return changes;
                 }
-            }
-            if is_insert(edit) && paths.has_header() && at == self.text.len() {
-                return changes;
             }
             if !changes.add(change).unwrap_or(false) {
                 return changes;
             }
         }
         changes
+    }
+
+    /// Whether an edit that writes a line or a header at a byte can do so after these changes as before them. A header
+    /// can if none of them takes the byte before it. So can a line, or it comes in the place of one that is taken; and
+    /// not at the end, if a header was written.
+    fn keeps_place(&self, changes: &TextEdits, edit: &Edit, at: usize, has_header: bool) -> bool
+        requires { All (IsChangeIn self.now.text) changes.now }
+        ensures { IsTrue result → IsPlaceKept self.now.text changes.now edit.now at has_header }
+    {
+        match edit {
+            Edit::Insert(_, _) => {
+                let text = self.text.as_str();
+                !(has_header && at == text.len()) && changes.let_come(text, at)
+            }
+            Edit::Table(_) | Edit::Element(_) => !changes.take_up_to(at),
+            _ => true,
+        }
     }
 
     /// What the edits from number `first` on add to the text, as far as they are inserts of the next items of one

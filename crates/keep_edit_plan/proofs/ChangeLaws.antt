@@ -22,8 +22,7 @@ use Rattle.keep_edit_spec.specs.Refusals.{refusal}
 use Rattle.keep_edit_spec.specs.Runs.{MakesChange}
 use Rattle.keep_edit_spec.specs.TextChanges.{place_of_change}
 use Rattle.keep_edit_spec.specs.TextEnds.{ends_in_newline}
-use Rattle.keep_edit_spec.proofs.Shared.{rename_has_bytes, set_has_bytes}
-use Rattle.keep_edit_spec.proofs.Shared.{append_place}
+use Rattle.keep_edit_spec.proofs.Shared.{rename_has_bytes, set_has_bytes, append_place}
 use Rattle.keep_edit_plan.proofs.AppendDone.{keys_utf8}
 use Rattle.keep_edit_plan.proofs.EditedLaws.{editable}
 use Rattle.keep_edit_plan.specs.Answers.{IsDone, IsMadeAt, IsSpanOf, refusal_in}

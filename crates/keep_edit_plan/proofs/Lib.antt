@@ -45,5 +45,6 @@ pub mod TakenLineLaws
 pub mod HeaderChangeLaws
 pub mod GivenLaws
 pub mod TextEditLaws
+pub mod SaidLaws
 pub mod ChangeLaws
 pub mod Shared

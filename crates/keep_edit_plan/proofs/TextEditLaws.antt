@@ -7,17 +7,19 @@
 -- Theorems: `follow_order`: the list is in order for the search; `place_found`: where that ends; `left_of_beside`,
 -- `right_of_beside`, `room_beside`: the two leave room exactly if none overlaps; `all_insert`, `insert_change`: the
 -- list with one edit more; `none_written`, `next_change`, `one_written`: what is written before the first edit and with
--- one more; `one_takes`: an edit that replaces the byte before a place.
+-- one more; `one_takes`: an edit that replaces the byte before a place; `no_taker`: one that does not; `all_further`,
+-- `all_changes`, `change_at_edit`: what holds of each edit.
 use Rattle.std.proofs.Common.{◌≡◌, ℕ, zero, suc, ◌+◌, ◌-◌, ◌<◌, ◌≤◌, true, false, List, [], ◌∷◌, ◌++◌, length}
 use Rattle.std.proofs.Common.{get_or, take, drop, insert, map, slice_range, string_bytes, All, leb}
 use Rattle.std.proofs.Common.{IsUtf8, IsCharBoundary, refl, sym, ap, ◌∙◌, subst, append_assoc, drop-cons, add-one}
-use Rattle.std.proofs.Common.{arith, leb-true, leb-false, lt-ltb, le-ltb, ◌⊎◌, inl, inr}
-use Rattle.std.proofs.lemmas.List.{drop-take, get_or-map, length-map}
-use Rattle.std.proofs.lemmas.List.Elements.{All-append, All-cons, All-drop, All-map, All-take}
+use Rattle.std.proofs.Common.{◌==◌, ◌≢◌, nat_lt, arith, leb-true, leb-false, lt-ltb, le-ltb, ◌⊎◌, inl, inr}
+use Rattle.std.proofs.lemmas.List.{drop-take, get_or-map, length-map, take_more}
+use Rattle.std.proofs.lemmas.List.Elements.{All-append, All-cons, All-drop, All-map, All-nil, All-take}
 use Rattle.std.specs.List.{list_any}
-use Rattle.std.proofs.lemmas.Bool.{cases_lt, eq-eqb, or_right}
+use Rattle.std.proofs.lemmas.Bool.{and_right, cases_lt, eq-eqb, ne_eqb, or_right}
 use Rattle.std.proofs.lemmas.List.Sorted.{IsNonDecreasingBy-from_all_adjacent}
 use Rattle.std.proofs.lemmas.Str.{IsCharBoundary-start}
+use Rattle.std.proofs.Math.Seq.{take-length}
 use Rattle.std.specs.List.Sorted.{IsNonDecreasingBy, IsPartitionPoint}
 use Rattle.keep_edit_spec.specs.Runs.{takes_up_to}
 use Rattle.keep_edit_spec.specs.TextChanges.{Follow, IsBeside, TextChange, text_with, with_change}
@@ -83,7 +85,7 @@ abbrev pub HasRight : TextEdit → List TextEdit → ℕ → Type 0
 HasRight m ts place = (d : TextEdit) → place < length ts → m.place.end ≤ start_of (get_or ts place d)
 
 -- what holds of each change holds of that of an edit
-change_at_edit : (P : TextChange → Type 0) (ts : List TextEdit) (k : ℕ) (d : TextEdit) → k < length ts
+pub change_at_edit : (P : TextChange → Type 0) (ts : List TextEdit) (k : ℕ) (d : TextEdit) → k < length ts
     → All P (map change_of ts) → P (change_of (get_or ts k d))
 change_at_edit P ts k d w h =
     subst P (get_or-map change_of ts k d (change_of d) w)
@@ -240,3 +242,33 @@ one_takes place (x ∷ ts) zero t lt is some end =
 one_takes place (x ∷ ts) (suc n) t lt is some end =
     let rest = one_takes place ts n t (omega (arith, lt)) is some end in
     or_right (takes_up_to place (change_of x)) (list_any (takes_up_to place) (map change_of ts)) rest
+
+pub no_taker : (place : ℕ) (t : TextEdit) → IsOrdered t → (t.place.start < t.place.end → t.place.end ≢ place)
+    → takes_up_to place (change_of t) ≡ false
+no_taker place t ordered other = elim (cases_lt t.place.start t.place.end) [
+  | inl less ↦
+      let ends : t.place.start + (t.place.end - t.place.start) ≡ t.place.end = omega arith in
+      let apart : (t.place.end == place) ≡ false = ne_eqb t.place.end place (other less) in
+      rw ends (and_right (nat_lt 0 (t.place.end - t.place.start)) (t.place.end == place) apart)
+  | inr none ↦
+      let size : t.place.end - t.place.start ≡ 0 = omega (arith, none) in
+      rw size refl
+]
+
+-- ---- edits in a row
+
+-- what holds of the edits before one and of that one
+pub all_further : (P : TextEdit → Type 0) (ts : List TextEdit) (n : ℕ) (t : TextEdit) → n < length ts
+    → t ≡ get_or ts n t → All P (take n ts) → P t → All P (take (n + 1) ts)
+all_further P ts n t lt is before here =
+    subst (All P) (sym (take_more ts n t lt))
+    (All-append P (take n ts) (get_or ts n t ∷ []) before
+    (All-cons P (get_or ts n t) [] (subst P is here) (All-nil P)))
+
+-- what holds of all edits so far, where these are all, holds of their changes
+pub all_changes : (P : TextChange → Type 0) (ts : List TextEdit) (n : ℕ) (changes : List TextChange) → n ≡ length ts
+    → map change_of ts ≡ changes → All (λ t. P (change_of t)) (take n ts) → All P changes
+all_changes P ts n changes all is h =
+    let each : All (λ t. P (change_of t)) ts =
+    subst (All (λ t. P (change_of t))) (ap (λ m. take m ts) all ∙ take-length ts) h in
+    subst (All P) is (All-map P change_of ts each)

@@ -11,6 +11,7 @@ pub mod InsideValues
 pub mod Plans
 pub mod Given
 pub mod TextEdits
+pub mod SaidSpans
 pub mod Writing
 pub mod Aiming
 pub mod PutLines

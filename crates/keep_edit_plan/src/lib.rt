@@ -15,6 +15,7 @@ mod newline;
 mod plan;
 mod remove;
 mod rename;
+mod said;
 mod set;
 mod text_edit;
 mod text_edits;

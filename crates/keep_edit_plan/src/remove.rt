@@ -233,7 +233,7 @@ pub(crate) fn body_end(syntax: &Syntax, first: usize, at: usize) -> usize
 }
 
 /// Where the white space ends that begins at a byte.
-fn past_space(bytes: &[u8], at: usize) -> usize
+pub(crate) fn past_space(bytes: &[u8], at: usize) -> usize
     requires { at ≤ length bytes.now }
     ensures end { result ≡ removal.past_space bytes.now at }
     ensures within { result ≤ length bytes.now }

@@ -1,12 +1,16 @@
 //! Edits of one text.
-ghost use Rattle.std.specs.Prelude.{◌≡◌, ◌≤◌, [], All, IfOk, OnErr, if◌then◌else◌, length, map, string_bytes};
+ghost use Rattle.std.specs.Prelude.{◌≡◌, ◌<◌, ◌≤◌, [], All, IfOk, IsTrue, OnErr, if◌then◌else◌, length, map};
+ghost use Rattle.std.specs.Prelude.{string_bytes};
 ghost use Rattle.std.specs.Bool.{Decides};
 ghost use Rattle.std.specs.List.{list_any};
-ghost use Rattle.keep_edit_spec.specs.Runs.{takes_up_to};
+ghost use Rattle.keep_edit_spec.specs.Runs.{LeavesPlace, LetsCome, takes_up_to};
 ghost use Rattle.keep_edit_spec.specs.TextChanges.{IsBeside, text_with, with_change};
+ghost use Rattle.keep_edit_plan.specs.SaidSpans.{Leaves};
 ghost use Rattle.keep_edit_plan.specs.TextEdits.{IsChangeIn, IsOrdered, change_of};
 
+use crate::said::said_line;
 use crate::text_edit::TextEdit;
+use keep_syntax::Span;
 use std::alloc::{AllocError, Global};
 use std::marker::Model;
 
@@ -85,6 +89,55 @@ impl TextEdits {
             }
         }
         false
+    }
+
+    /// Whether a new line can come at this place: no edit takes the byte before it, but for one that takes a line in
+    /// whose place it comes.
+    pub fn let_come(&self, text: &str, place: usize) -> bool
+        requires { All (IsChangeIn text.now) self.now }
+        ensures { IsTrue result → All (LetsCome text.now self.now place) self.now }
+    {
+        for edit in self.edits.iter() {
+            if edit.place.start < edit.place.end
+                && edit.place.end == place
+                && !self.leave_place(text, edit)
+            {
+                return false;
+            }
+        }
+        true
+    }
+
+    /// Whether an edit writes nothing, and the line before its place says something and stays as it is, and nothing
+    /// comes after that line.
+    fn leave_place(&self, text: &str, edit: &TextEdit) -> bool
+        requires { edit.now.place.start ≤ length text.now }
+        ensures { IsTrue result → LeavesPlace text.now self.now (change_of edit.now) }
+    {
+        if edit.new.len() > 0 {
+            return false;
+        }
+        match said_line(text, edit.place.start) {
+            Some(line) => self.leave(line),
+            None => false,
+        }
+    }
+
+    /// Whether no edit takes one of these bytes, or writes between them or right after them.
+    fn leave(&self, bytes: Span) -> bool
+        requires { bytes.start < bytes.end }
+        ensures { IsTrue result → All (Leaves bytes) self.now }
+    {
+        for edit in self.edits.iter() {
+            let Span { start, end } = edit.place;
+            if start < bytes.end && bytes.start < end {
+                return false;
+            }
+            if start == end && end == bytes.end {
+                return false;
+            }
+        }
+        true
     }
 
     /// The text after the edits, in one allocation or a few. The only error is out of memory.

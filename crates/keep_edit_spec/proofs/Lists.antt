@@ -79,6 +79,13 @@ pub mod SetAfterClear
 pub mod RemoveAfterClear
 pub mod RenameAfterClear
 pub mod ClearAfterRename
+pub mod GivenBytes
+pub mod EndsInPlace
+pub mod SaidBefore
+pub mod InsertInPlace
+pub mod MadeChanges
+pub mod StillMakes
+pub mod PlacesKept
 pub mod RunLaws
 pub mod MoreItems
 pub mod NextChange

@@ -77,7 +77,8 @@ pub use Rattle.keep_edit_spec.proofs.Common.Texts.{text_of-append}
 pub use Rattle.keep_edit_spec.proofs.Touched.FitLaws.{touched_lines_are_lines}
 pub use Rattle.keep_edit_spec.proofs.Touched.TouchedCuts.{IsCut, touched_in_new_cut}
 pub use Rattle.keep_edit_spec.proofs.Lists.TextChanges.{all_with, follow_with, length_with}
-pub use Rattle.keep_edit_spec.proofs.Lists.RunLaws.{change_lawful, none_is_run, run_goes_on}
+pub use Rattle.keep_edit_spec.proofs.Lists.MadeChanges.{change_lawful}
+pub use Rattle.keep_edit_spec.proofs.Lists.RunLaws.{none_is_run, run_goes_on}
 pub use Rattle.keep_edit_spec.proofs.Lists.ItemRunLaws.{item_run_goes_on, none_is_item_run}
 pub use Rattle.keep_edit_spec.proofs.Lists.MoreItems.{keys_same, prefixes_alike}
 pub use Rattle.keep_edit_spec.proofs.Lists.NextItem.{not_before, not_empty}

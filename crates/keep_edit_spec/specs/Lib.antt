@@ -23,3 +23,4 @@ pub mod AddedItems
 pub mod RemovedLines
 pub mod AddedLines
 pub mod ClearedLines
+pub mod SaidLines

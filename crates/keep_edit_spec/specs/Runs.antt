@@ -1,6 +1,6 @@
 -- Edits of a list that are known by the document before all of them: each makes its own change of that document's text.
 use Rattle.std.specs.Prelude.{◌≡◌, ◌≢◌, ◌⊎◌, ⊤, ℕ, ◌+◌, ◌==◌, nat_lt, Bool, true, false, not, ◌&&◌, ◌||◌, IsTrue, List}
-use Rattle.std.specs.Prelude.{[], ◌∷◌, length, map, All, Some, None, slice_get}
+use Rattle.std.specs.Prelude.{suc, ◌<◌, ◌≤◌, [], ◌∷◌, length, map, take, drop, All, Some, None, slice_get}
 use Rattle.std.specs.List.{list_any}
 use Rattle.keep_types.specs.declared.leaf.Profile.{Profile}
 use Rattle.keep_syntax.specs.Tree as tree
@@ -17,9 +17,10 @@ use Rattle.keep_edit_spec.specs.Look.{keys_in}
 use Rattle.keep_edit_spec.specs.Refusals.{refusal}
 use Rattle.keep_edit_spec.specs.RemovedLines.{RemovesLine}
 use Rattle.keep_edit_spec.specs.RenamedKeys.{ArePathsApart, RenamesKey}
+use Rattle.keep_edit_spec.specs.SaidLines.{SaysBefore}
 use Rattle.keep_edit_spec.specs.SetValues.{SetsValue}
-use Rattle.keep_edit_spec.specs.TextChanges.{Follow, IsBeside, IsWider, TextChange, moved, moved_past, place_of_change}
-use Rattle.keep_edit_spec.specs.TextChanges.{text_with, with_change}
+use Rattle.keep_edit_spec.specs.TextChanges.{Follow, IsBeside, IsWider, TextChange, change_at, moved, moved_by_all}
+use Rattle.keep_edit_spec.specs.TextChanges.{moved_past, place_of_change, text_with, with_change}
 
 -- The edit is one whose change of the text is known from the first document on, and this is its change.
 abbrev pub MakesChange : Profile → ℕ → Document → Edit → TextChange → Type 0
@@ -90,17 +91,26 @@ is_header (append_table keys) = true
 is_header (append_element keys) = true
 is_header _ = false
 
+-- A line that is added comes in the place of one that was taken, after one that says something.
+pub record ComesInPlace (s : Document) (c : TextChange) (f : Edit) (d : TextChange) : Type 0 where
+  pub line : is_insert f ≡ true
+  pub some : 0 < c.size
+  pub takes : c.new ≡ []
+  pub next : c.at + c.size ≡ d.at
+  pub said : SaysBefore (text s) c.at
+
 -- A new line or header after an edit of another kind: the document's first newline is the same then, and what is before
--- the new bytes is not gone, nor comes anything there but a line.
-abbrev pub StaysPlaced : Document → Edit → TextChange → TextChange → Type 0
-StaysPlaced s e c d =
-    (newline_of (edited_document s e) ≡ newline_of s) × (is_insert e ≡ false → c.at + c.size ≢ d.at)
+-- the new bytes is not gone, but for a line in whose place it comes, nor comes anything there but a line.
+abbrev pub StaysPlaced : Document → Edit → TextChange → Edit → TextChange → Type 0
+StaysPlaced s e c f d =
+    (newline_of (edited_document s e) ≡ newline_of s)
+    × (is_insert e ≡ false → (c.at + c.size ≢ d.at) ⊎ ComesInPlace s c f d)
 
 abbrev pub is_new_after : Edit → Edit → Bool
 is_new_after e f = (is_insert f && not (is_insert e)) || (is_header f && not (is_header e))
 
 abbrev pub IsStillPlaced : Document → Edit → TextChange → Edit → TextChange → Type 0
-IsStillPlaced s e c f d = IsTrue (is_new_after e f) → StaysPlaced s e c d
+IsStillPlaced s e c f d = IsTrue (is_new_after e f) → StaysPlaced s e c f d
 
 -- An edit makes its change after another that leaves it alone made one beside it.
 abbrev pub StillMakesChange : Type 0
@@ -120,10 +130,24 @@ IsPlain bytes = All (λ b. b ≢ 0x0D) bytes
 abbrev pub takes_up_to : ℕ → TextChange → Bool
 takes_up_to at c = nat_lt 0 c.size && (c.at + c.size == at)
 
--- each newline is alike, and no change takes the byte before this one
+-- each newline is alike
+abbrev pub ArePlain : List ℕ → List TextChange → Type 0
+ArePlain bytes changes = IsPlain bytes × All (λ d. IsPlain d.new) changes
+
+-- and no change takes the byte before this one
 abbrev pub IsPlainBefore : List ℕ → List TextChange → ℕ → Type 0
-IsPlainBefore bytes changes at =
-    IsPlain bytes × All (λ d. IsPlain d.new) changes × (list_any (takes_up_to at) changes ≡ false)
+IsPlainBefore bytes changes at = ArePlain bytes changes × (list_any (takes_up_to at) changes ≡ false)
+
+-- The change takes a line, the one before it says something and stays as it is, and nothing comes between them.
+pub record LeavesPlace (bytes : List ℕ) (changes : List TextChange) (d : TextChange) : Type 0 where
+  pub takes : d.new ≡ []
+  pub said : SaysBefore bytes d.at
+  pub stays : All (λ x. IsBeside x (change_at said.from (suc (length said.line)) [])) changes
+  pub alone : All (λ x. x.at ≡ d.at → 0 < x.size) changes
+
+-- the change doesn't take the byte before this one, or takes a line in whose place another can come
+abbrev pub LetsCome : List ℕ → List TextChange → ℕ → TextChange → Type 0
+LetsCome bytes changes at d = (takes_up_to at d ≡ false) ⊎ LeavesPlace bytes changes d
 
 -- no header is appended, or this byte is not at the end, where one would come
 abbrev pub IsBeforeHeaders : List ℕ → List Edit → ℕ → Type 0
@@ -133,7 +157,7 @@ IsBeforeHeaders bytes edits at = (list_any is_header edits ≡ false) ⊎ (at �
 abbrev pub KeepsPlace : List ℕ → List Edit → List TextChange → Edit → TextChange → Type 0
 KeepsPlace bytes edits changes (insert path value) c =
     All (λ e. IsTrue (is_insert e)) edits
-    ⊎ (IsPlainBefore bytes changes c.at × IsBeforeHeaders bytes edits c.at)
+    ⊎ (ArePlain bytes changes × (All (LetsCome bytes changes c.at) changes × IsBeforeHeaders bytes edits c.at))
 KeepsPlace bytes edits changes (append_table keys) c =
     All (λ e. IsTrue (is_header e)) edits ⊎ IsPlainBefore bytes changes c.at
 KeepsPlace bytes edits changes (append_element keys) c =
@@ -143,13 +167,16 @@ KeepsPlace bytes edits changes e c = ⊤
 -- ---- a run of edits
 
 -- The document after these edits, each of which makes its change of the first document's text: the text is that of the
--- first with the changes, and an edit that they leave alone makes its change beside them still.
+-- first with the changes, bytes beside these are there still, and an edit that they leave alone makes its change beside
+-- them still.
 pub record IsRun (profile : Profile) (limit : ℕ) (s : Document) (edits : List Edit) (changes : List TextChange)
     (now : Document) : Type 0 where
   pub first : IsEditable profile limit s
   pub editable : IsEditable profile limit now
   pub follow : Follow 0 changes
   pub text : text now ≡ text_with 0 (text s) changes
+  pub kept : (r : TextChange) → All (λ d. IsBeside d r) changes → r.at + r.size ≤ length (tree.text s)
+      → take r.size (drop (moved_by_all changes r.at) (tree.text now)) ≡ take r.size (drop r.at (tree.text s))
   pub later : (e : Edit) (c : TextChange) → MakesChange profile limit s e c → All (λ f. LeavesAlone f e) edits
       → All (λ d. IsBeside d c) changes → KeepsPlace (tree.text s) edits changes e c
       → MakesChange profile limit now e (moved_past changes c)

@@ -145,7 +145,7 @@ two_lines newline c =
     ∙ ap (λ (t : List ℕ). (newline.text ++ []) ++ t) (one_line newline c)
     ∙ ap (λ (t : List ℕ). t ++ (content_text c ++ newline.text)) (append-nil newline.text)
 
-all_end : (profile : Profile) (e : Ended) (es : List Ended) → AllByRecursion (IsEnded profile) (e ∷ es)
+pub all_end : (profile : Profile) (e : Ended) (es : List Ended) → AllByRecursion (IsEnded profile) (e ∷ es)
     → (0 < length (ended_text (e ∷ es))) × (ends_in_newline (ended_text (e ∷ es)) ≡ true)
 all_end profile e [] h =
     let one = ended_ends profile e h.0 in

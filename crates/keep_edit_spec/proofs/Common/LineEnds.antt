@@ -56,7 +56,7 @@ quiet_append a [] h g = ap ends_in_newline (append-nil a) ∙ h
 quiet_append a (c ∷ b) h g = ends_after a (c ∷ b) (omega arith) ∙ g
 
 -- bytes of a class without the line feed
-quiet_byte : (p : ℕ → Bool) (c : ℕ) → p 0x0A ≡ false → p c ≡ true → (c == 0x0A) ≡ false
+pub quiet_byte : (p : ℕ → Bool) (c : ℕ) → p 0x0A ≡ false → p c ≡ true → (c == 0x0A) ≡ false
 quiet_byte p c never h = by (c == 0x0A) refl
   where
     by : (b : Bool) → (c == 0x0A) ≡ b → (c == 0x0A) ≡ false

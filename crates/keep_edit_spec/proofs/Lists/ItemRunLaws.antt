@@ -25,7 +25,7 @@ use Rattle.keep_edit_spec.specs.TextChanges.{Follow, IsBeside, TextChange, chang
 use Rattle.keep_edit_spec.specs.TextChanges.{text_with, with_change}
 use Rattle.keep_edit_spec.proofs.Lists.ItemAdded.{item_is_added}
 use Rattle.keep_edit_spec.proofs.Lists.MoreItems.{keys_same}
-use Rattle.keep_edit_spec.proofs.Lists.RunLaws.{same_place}
+use Rattle.keep_edit_spec.proofs.Lists.MadeChanges.{same_place}
 use Rattle.keep_edit_spec.proofs.Lists.TextChanges.{all_with, follow_with, length_with, moved_with, text_with_one}
 
 -- what is known of an array, with its count and the place of the next item written in another way

@@ -8,10 +8,10 @@
 -- this is `Stays` of SetPlaces, by induction over the lines before it (`lines_beside`). An act in a value at a path
 -- that does not begin with the removed one finds nothing in it.
 --
--- Theorems: `its`, `keeps`, `comment_is`, `is_now`, `lines_were`, `lines_are`: the line and the document; `said_was`,
+-- Theorems: `its`, `keeps`, `is_now`, `lines_were`, `lines_are`: the line and the document; `said_was`,
 -- `said_now`, `fact_now`: what it says; `made`, `place_is`, `lines_begin`, `there`, `some`,
--- `moves`, `moves_same`, `beside`: the change; `document_cleared`, `line_misses`, `nested_cleared`, `place_cleared`: a
--- change after it.
+-- `moves`, `moves_same`, `beside`, `bare_cut`: the change; `document_cleared`, `line_misses`, `nested_cleared`,
+-- `place_cleared`: a change after it.
 use Rattle.std.proofs.Common.{◌≡◌, ℕ, ◌+◌, ◌<◌, ◌≤◌, true, List, [], ◌∷◌, ◌++◌, length, map, refl, sym, ap, ap₂, subst}
 use Rattle.std.proofs.Common.{◌∙◌, arith, Option, Some, None}
 use Rattle.std.proofs.lemmas.List.{append-nil}
@@ -220,9 +220,6 @@ module _ (profile : Profile) (limit : ℕ) (s : Document) (path : List Part) (l 
   abbrev pub comment : Written
   comment = found.comment
 
-  pub comment_is : c.here.line.comment ≡ Some comment
-  comment_is = found.has
-
   abbrev pub bare : Changed Line
   bare = cleared c.here.line comment
 
@@ -307,7 +304,7 @@ module _ (profile : Profile) (limit : ℕ) (s : Document) (path : List Part) (l 
 
   -- ---- a change of it
 
-  bare_cut : EachIs line_text c.here.line (Some bare)
+  pub bare_cut : EachIs line_text c.here.line (Some bare)
   bare_cut = subst (EachIs line_text c.here.line) found.is (clear_line-is path r c.here.line)
 
   pub document_cleared : (f : Reading → Line → Option (Changed Line))

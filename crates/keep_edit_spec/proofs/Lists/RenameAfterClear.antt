@@ -5,7 +5,7 @@
 -- moved place (LineCleared). No key part in the line names the path of the rename, and what is said then was said
 -- before, so the rename is not refused (`renamable_without` of RenameAfterRemove, RenameAllowed).
 --
--- Theorem: `rename_after_clear`.
+-- Theorems: `in_page_begins`, `rename_after_clear`.
 use Rattle.std.proofs.Common.{◌≡◌, ℕ, suc, ◌+◌, List, [], ◌∷◌, length, take, refl, sym, ap, ap₂, subst, length-append}
 use Rattle.std.proofs.Common.{arith, Option, None}
 use Rattle.keep_types.specs.declared.leaf.Profile.{Profile}
@@ -37,7 +37,7 @@ use Rattle.keep_edit_spec.proofs.Lists.SetPlaces.{Stays, either_stays}
 use Rattle.keep_edit_spec.proofs.Rename.RenameWhole.{IsRenamable, renamable}
 
 -- where the change of the line after those lines begins
-in_page_begins : (first : List Ended) (e : Ended) (more : List Ended) (last : Line) (d : Changed Line)
+pub in_page_begins : (first : List Ended) (e : Ended) (more : List Ended) (last : Line) (d : Changed Line)
     → length (in_page first e more last d).before ≡ width first + length d.before
 in_page_begins [] e more last d = omega arith
 in_page_begins (x ∷ first) e more last d =

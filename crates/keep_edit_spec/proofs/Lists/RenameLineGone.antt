@@ -8,7 +8,7 @@
 -- RenameFound). So this line says nothing of it (`unmarked`).
 --
 -- Theorems: `misses`: it finds nothing there; `unmarked`: no key part there names its path. Both ask `IsTaken` of the
--- remove's change.
+-- remove's change. `ended_here`: one of several valid lines.
 use Rattle.std.proofs.Common.{◌≡◌, ℕ, zero, suc, ◌+◌, ◌<◌, ◌≤◌, true, List, [], ◌∷◌, ◌++◌, length, map, refl, sym, ap}
 use Rattle.std.proofs.Common.{ap₂, subst, ◌∙◌, length-append, arith, Option, Some, None, inl, inr}
 use Rattle.std.specs.Prelude.{position}
@@ -158,7 +158,7 @@ module _ (new : Written) (p : List Part) (n : syntax.Count) (last : Line) where
           absurd (none (some_left (IsSolidAt p) (line_mentions r x.line)
           (lines_mentions (after_line r x.line) (map line_of first)) (told new p n r x.line y hits)))
 
-ended_here : (profile : Profile) (first : List Ended) (e : Ended) (more : List Ended)
+pub ended_here : (profile : Profile) (first : List Ended) (e : Ended) (more : List Ended)
     → AllByRecursion (IsEnded profile) (first ++ e ∷ more) → IsEnded profile e
 ended_here profile [] e more h = h.0
 ended_here profile (x ∷ first) e more h = ended_here profile first e more h.1

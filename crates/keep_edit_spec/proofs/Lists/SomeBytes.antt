@@ -6,7 +6,7 @@
 -- (`part_has_bytes`) and thereby of those of a key, of entries, of a line and of all lines, by induction over the tree.
 -- That `rename` has a change where it is not refused is `rename_changes`.
 --
--- Theorems: `set_has_bytes` and `rename_has_bytes`.
+-- Theorems: `value_has_bytes`, `set_has_bytes`, `rename_changes`, `rename_has_bytes`.
 use Rattle.std.proofs.Common.{◌≡◌, ℕ, ◌+◌, ◌<◌, true, List, [], ◌∷◌, ◌++◌, length, ap, subst, arith, Option, Some, None}
 use Rattle.std.specs.List.{AllByRecursion}
 use Rattle.keep_types.specs.declared.leaf.Profile.{Profile}
@@ -42,7 +42,8 @@ use Rattle.keep_edit_spec.proofs.Values.ValuePlace.{set_place, value_of_path}
 
 -- ---- a set
 
-value_has_bytes : (profile : Profile) (v : Value) → IsValue profile v → 0 < length (value_text v)
+-- a valid value
+pub value_has_bytes : (profile : Profile) (v : Value) → IsValue profile v → 0 < length (value_text v)
 value_has_bytes profile v valid = by (value_text v) (value_begins profile v [] valid)
   where
     by : (t : List ℕ) → is_value_first (first (t ++ [])) ≡ true → 0 < length t
@@ -122,7 +123,7 @@ module _ (profile : Profile) where
 
 -- ---- a rename
 
-rename_changes : (profile : Profile) (limit : ℕ) (s : Document) (path : List Part) (text : List ℕ)
+pub rename_changes : (profile : Profile) (limit : ℕ) (s : Document) (path : List Part) (text : List ℕ)
     → IsEditable profile limit s → refusal profile limit s (rename path text) ≡ None
     → (c : Changed Document) × (change s (rename path text) ≡ Some c)
 rename_changes profile limit s path text editable allowed =

@@ -6,19 +6,20 @@
 -- with it is the text with the others, changed at the place to which the others move it, and changes keep their order
 -- when they are moved. Each is by induction on the changes.
 --
--- Theorems: `follow_with`, `text_with_one`, `moved_with`, `beside_past`, `end_apart`, `begins_apart`,
--- `all_with`, `one_of_all`, `rest_of_all`, `none_with`, `length_with`.
+-- Theorems: `follow_with`, `text_with_one`, `moved_with`, `moved_next`, `beside_past`, `end_apart`,
+-- `end_apart_let`, `begins_apart`, `all_with`, `one_of_all`, `rest_of_all`, `none_with`, `length_with`.
 use Rattle.std.proofs.Common.{◌≡◌, ◌≢◌, ℕ, ◌+◌, ◌-◌, ◌<◌, ◌≤◌, Bool, true, false, cond, List, [], ◌∷◌, ◌++◌, length}
 use Rattle.std.proofs.Common.{take, drop, get_or, suc, All, refl, sym, ap, ap₂, ◌∙◌, append_assoc, arith, length-drop}
 use Rattle.std.proofs.Common.{inl, inr}
-use Rattle.std.specs.Prelude.{nat_lt, ◌⊎◌}
+use Rattle.std.specs.Prelude.{nat_lt, ◌⊎◌, ◌==◌}
 use Rattle.std.specs.List.{list_any}
-use Rattle.std.proofs.lemmas.Bool.{cases_lt, eq-eqb, le-ltb, lt-ltb, ltb-false, ltb-true, or_from, or_parts}
+use Rattle.std.proofs.lemmas.Bool.{and_parts, cases_lt, eq-eqb, eqb-true, le-ltb, lt-ltb, ltb-false, ltb-true, or_from}
+use Rattle.std.proofs.lemmas.Bool.{or_parts}
 use Rattle.std.proofs.lemmas.List.{drop-append-le, drop-drop, drop-take, length-take, take-append-le, take-take}
 use Rattle.std.proofs.lemmas.List.Elements.{All-cons, All-head, All-nil, All-tail}
 use Rattle.std.proofs.Math.Seq.{take-append-add, drop-append-add}
 use Rattle.keep_edit_spec.specs.Changed.{Place, put}
-use Rattle.keep_edit_spec.specs.Runs.{takes_up_to}
+use Rattle.keep_edit_spec.specs.Runs.{LetsCome, takes_up_to}
 use Rattle.keep_edit_spec.specs.TextChanges.{Follow, IsBeside, TextChange, come_to, gone_to, moved, moved_by_all}
 use Rattle.keep_edit_spec.specs.TextChanges.{moved_by, moved_past, change_at, place_of_change, text_with, with_change}
 
@@ -65,6 +66,18 @@ none_with test (c ∷ cs) d h = by (nat_lt d.at c.at) (none_with test cs d) h
         let parts = or_parts (test c) (list_any test (with_change cs d)) all in
         let rest = ih parts.1 in
         (rest.0, or_from (test c) (list_any test cs) parts.0 rest.1)
+
+-- where some pass a test, what holds of each holds of one that does
+none_or_one : (test : TextChange → Bool) (P : TextChange → Type 0) (cs : List TextChange) → All P cs
+    → (list_any test cs ≡ false) ⊎ ((c : TextChange) × (test c ≡ true) × P c)
+none_or_one test P [] h = inl refl
+none_or_one test P (c ∷ cs) h = by (test c) refl (none_or_one test P cs (All-tail P c cs h))
+  where
+    by : (b : Bool) → test c ≡ b → (list_any test cs ≡ false) ⊎ ((x : TextChange) × (test x ≡ true) × P x)
+        → (list_any test (c ∷ cs) ≡ false) ⊎ ((x : TextChange) × (test x ≡ true) × P x)
+    by true e rest = inr (c, e, All-head P c cs h)
+    by false e (inl none) = inl (or_from (test c) (list_any test cs) e none)
+    by false e (inr one) = inr one
 
 pub length_with : (cs : List TextChange) (d : TextChange) → length (with_change cs d) ≡ suc (length cs)
 length_with [] d = refl
@@ -283,6 +296,43 @@ pub moved_with : (cs : List TextChange) (d e : TextChange) → Follow 0 cs → A
 moved_with cs d e h left right beside =
     ap (λ (at : ℕ). change_at at e.size e.new) (moved_with_at cs d e h left right beside)
 
+-- ---- a change right before another's place
+
+-- no change begins between the two
+begins_alike : (x r : TextChange) (at : ℕ) → r.at + r.size ≡ at → IsBeside x r → x.at ≢ at
+    → nat_lt r.at x.at ≡ nat_lt at x.at
+begins_alike x r at next beside other = by (cases_lt r.at x.at)
+  where
+    by : (r.at < x.at) ⊎ (x.at ≤ r.at) → nat_lt r.at x.at ≡ nat_lt at x.at
+    by (inr low) = le-ltb r.at x.at low ∙ sym (le-ltb at x.at (omega (arith, low, next)))
+    by (inl less) = lt-ltb r.at x.at less ∙ sym (lt-ltb at x.at (past beside))
+      where
+        past : IsBeside x r → at < x.at
+        past (inl before) = absurd (omega (arith, before, less))
+        past (inr (first, far)) = elim (cases_lt at x.at) [
+          | inl later ↦ later
+          | inr up ↦ absurd (other (omega (arith, up, far, next)))
+        ]
+
+counted_alike : (r : TextChange) (at : ℕ) → r.at + r.size ≡ at → (cs : List TextChange) → All (λ x. IsBeside x r) cs
+    → All (λ x. x.at ≢ at) cs → (come_to r.at cs ≡ come_to at cs) × (gone_to r.at cs ≡ gone_to at cs)
+counted_alike r at next [] beside other = (refl, refl)
+counted_alike r at next (x ∷ cs) beside other =
+    let same : nat_lt r.at x.at ≡ nat_lt at x.at =
+    begins_alike x r at next (All-head (λ y. IsBeside y r) x cs beside) (All-head (λ y. y.at ≢ at) x cs other) in
+    let (come, gone) =
+    counted_alike r at next cs (All-tail (λ y. IsBeside y r) x cs beside) (All-tail (λ y. y.at ≢ at) x cs other) in (
+      ap₂ (λ (b : Bool) (n : ℕ). cond b 0 (length x.new) + n) same come,
+      ap₂ (λ (b : Bool) (n : ℕ). cond b 0 x.size + n) same gone,
+    )
+
+-- so the place right after it moves as it does
+pub moved_next : (cs : List TextChange) (r : TextChange) (at : ℕ) → Follow 0 cs → r.at + r.size ≡ at
+    → All (λ x. IsBeside x r) cs → All (λ x. x.at ≢ at) cs → moved_by_all cs r.at + r.size ≡ moved_by_all cs at
+moved_next cs r at h next beside other =
+    let (come, gone) = counted_alike r at next cs beside other in
+    omega (arith, next, come, gone, gone_room 0 cs r (omega arith) h beside)
+
 -- ---- changes that end before another's place
 
 -- A change that does not take the byte before a place is beside that byte, too.
@@ -330,6 +380,51 @@ end_apart cs d e h left right clear (inl first) differs same =
     ]
 end_apart cs d e h left right clear (inr first) differs same =
     omega (arith, same, past_less cs e d first.0 h right left)
+
+-- And where one of them, g, takes it, if the bytes r that end where g begins stay: one that ends before r ends before
+-- the place still, and one that begins after g ends past it.
+end_apart_at : (cs : List TextChange) (d e g r : TextChange) → Follow 0 cs → All (λ c. IsBeside c d) cs
+    → All (λ c. IsBeside c e) cs → All (λ c. IsBeside c r) cs → IsBeside g d → IsBeside d r → 0 < r.size
+    → r.at + r.size ≡ g.at → g.at + g.size ≡ e.at → d.at + d.size ≢ e.at
+    → moved_by_all cs d.at + d.size ≢ moved_by_all cs e.at
+end_apart_at cs d e g r h left right stay beside (inl before) some ends next differs same =
+    omega (
+      arith,
+      same,
+      some,
+      past_later cs d r before h left stay,
+      past_later cs r e (omega (arith, ends, next)) h stay right,
+    )
+end_apart_at cs d e g r h left right stay (inr first) (inr after) some ends next differs same =
+    omega (arith, first.0, after.1, ends)
+end_apart_at cs d e g r h left right stay (inl past) (inr after) some ends next differs same =
+    elim (cases_lt e.at d.at) [
+      | inl less ↦ omega (arith, same, past_less cs e d less h right left)
+      | inr up ↦
+          let at : d.at ≡ e.at = omega (arith, past, next, up) in
+          differs (omega (arith, at, same, ap (moved_by_all cs) at))
+    ]
+
+-- So where each doesn't take it, or takes a line whose place another can come in.
+pub end_apart_let : (bytes : List ℕ) (cs : List TextChange) (d e : TextChange) → Follow 0 cs
+    → All (λ c. IsBeside c d) cs → All (λ c. IsBeside c e) cs
+    → All (LetsCome bytes (with_change cs d) e.at) cs → IsBeside d e → d.at + d.size ≢ e.at
+    → moved_by_all cs d.at + d.size ≢ moved_by_all cs e.at
+end_apart_let bytes cs d e h left right lets beside differs =
+    by (none_or_one (takes_up_to e.at) (λ g. IsBeside g d × LetsCome bytes (with_change cs d) e.at g) cs
+    (λ k x lt. (left k x lt, lets k x lt)))
+  where
+    by : (list_any (takes_up_to e.at) cs ≡ false) ⊎ ((g : TextChange) × (takes_up_to e.at g ≡ true) × (IsBeside g d
+        × LetsCome bytes (with_change cs d) e.at g))
+        → moved_by_all cs d.at + d.size ≢ moved_by_all cs e.at
+    by (inl none) = end_apart cs d e h left right none beside differs
+    by (inr (g, takes, (side, inl clear))) = absurd cc
+    by (inr (g, takes, (side, inr leaves))) =
+        let r : TextChange = change_at leaves.said.from (suc (length leaves.said.line)) [] in
+        let there : g.at + g.size ≡ e.at =
+        eqb-true (g.at + g.size) e.at (and_parts (nat_lt 0 g.size) (g.at + g.size == e.at) takes).1 in
+        end_apart_at cs d e g r h left right (rest_of_all (λ x. IsBeside x r) cs d leaves.stays) side
+        (one_of_all (λ x. IsBeside x r) cs d leaves.stays) (omega arith) leaves.said.ends there differs
 
 -- Two that begin at two places still do.
 pub begins_apart : (cs : List TextChange) (d e : TextChange) → Follow 0 cs → All (λ c. IsBeside c d) cs

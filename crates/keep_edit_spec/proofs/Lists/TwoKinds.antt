@@ -1,7 +1,7 @@
 -- What is shown of two edits of two kinds: the second makes its change after the first made its own beside it.
 use Rattle.std.specs.Prelude.{◌≡◌, ◌≢◌, ℕ, ◌+◌, List, map}
 use Rattle.keep_types.specs.declared.leaf.Profile.{Profile}
-use Rattle.keep_syntax.specs.Tree.{Document, Value}
+use Rattle.keep_syntax.specs.Tree.{Document, Value, text}
 use Rattle.keep_path.specs.Path.{Part, beside, key}
 use Rattle.keep_edit_spec.specs.AddedLines.{AddsLine}
 use Rattle.keep_edit_spec.specs.AppendedHeaders.{AppendsElement, AppendsTable}
@@ -11,6 +11,7 @@ use Rattle.keep_edit_spec.specs.Lines.{newline_of}
 use Rattle.keep_edit_spec.specs.RemovedLines.{RemovesLine}
 use Rattle.keep_edit_spec.specs.RenamedKeys.{RenamesKey}
 use Rattle.keep_edit_spec.specs.Runs.{AreApart, PassesBy}
+use Rattle.keep_edit_spec.specs.SaidLines.{SaysBefore}
 use Rattle.keep_edit_spec.specs.SetValues.{SetsValue}
 use Rattle.keep_edit_spec.specs.TextChanges.{IsBeside, TextChange, moved}
 
@@ -54,6 +55,16 @@ InsertAfterRemove =
     → IsEditable profile limit s → RemovesLine profile limit s path c → AddsLine profile limit s other more d
     → AreApart path other → IsBeside c d
     → newline_of (edited_document s (remove path)) ≡ newline_of s → c.at + c.size ≢ d.at
+    → AddsLine profile limit (edited_document s (remove path)) other more (moved c d)
+
+-- the line comes in the place of the one that is taken
+abbrev pub InsertInPlace : Type 0
+InsertInPlace =
+    (profile : Profile) (limit : ℕ) (s : Document) (path : List Part) (c : TextChange)
+    (other : List Part) (more : Value) (d : TextChange)
+    → IsEditable profile limit s → RemovesLine profile limit s path c → AddsLine profile limit s other more d
+    → AreApart path other → newline_of (edited_document s (remove path)) ≡ newline_of s
+    → c.at + c.size ≡ d.at → SaysBefore (text s) c.at
     → AddsLine profile limit (edited_document s (remove path)) other more (moved c d)
 
 abbrev pub RenameAfterRemove : Type 0

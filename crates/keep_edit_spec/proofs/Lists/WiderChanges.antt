@@ -2,11 +2,11 @@
 --
 -- The text is the same with the place's own change, the narrow one (`wider_put`). Both move a byte alike, since as many
 -- bytes more come as go (`narrow_moves`). What is beside the wide change is beside the narrow one, which is in it
--- (`beside_narrow`, `narrow_beside`). After another change beside the wide one, the bytes that go and come back are the
+-- (`beside_narrow`). After another change beside the wide one, the bytes that go and come back are the
 -- same (`rest_stays`), and in the text still (`moved_within`), so the wide one moves as the narrow one does
 -- (`still_wider`).
 --
--- Theorems: `wider_put`, `narrow_moves`, `beside_narrow`, `narrow_beside`, `still_wider`.
+-- Theorems: `new_long`, `wider_put`, `narrow_moves`, `beside_narrow`, `rest_stays`, `still_wider`.
 use Rattle.std.proofs.Common.{◌≡◌, ℕ, ◌+◌, ◌-◌, ◌<◌, ◌≤◌, cond, List, ◌++◌, length, take, drop, refl, sym, ap, ap₂, ◌∙◌}
 use Rattle.std.proofs.Common.{append_assoc, length-append, arith, length-drop, inl, inr}
 use Rattle.std.specs.Prelude.{nat_lt}
@@ -30,7 +30,7 @@ module _ (bytes : List ℕ) (p : Place) (c : TextChange) (h : IsWider bytes p c)
   rest_long : length (take h.rest (drop p.end bytes)) ≡ h.rest
   rest_long = length-take-le h.rest (drop p.end bytes) (omega (arith, length-drop p.end bytes, h.within))
 
-  new_long : length c.new ≡ length p.new + h.rest
+  pub new_long : length c.new ≡ length p.new + h.rest
   new_long =
       ap (λ (t : List ℕ). length t) h.new ∙ length-append p.new (take h.rest (drop p.end bytes))
       ∙ ap (λ (n : ℕ). length p.new + n) rest_long
@@ -59,10 +59,6 @@ module _ (bytes : List ℕ) (p : Place) (c : TextChange) (h : IsWider bytes p c)
   beside_narrow d (inl e) = inl (let end : c.at + c.size ≤ d.at = e in omega (arith, end, h.end, low))
   beside_narrow d (inr (less, far)) = inr ((omega (arith, less, h.start)), (omega (arith, far, h.start)))
 
-  pub narrow_beside : (d : TextChange) → IsBeside d c → IsBeside d (narrow p)
-  narrow_beside d (inl e) = inl (omega (arith, e, h.start))
-  narrow_beside d (inr (less, far)) = inr ((omega (arith, less, h.start)), (omega (arith, far, h.end, low)))
-
 -- ---- after another change
 
 -- the bytes of a text from one byte on are those of what is put before another text
@@ -83,7 +79,7 @@ in_front bytes back to n size few within =
     ∙ take-take size (to - n) (drop n bytes) (omega (arith, few))
 
 -- the bytes at a change, from one of them on, are the same after another change beside it
-rest_stays : (bytes : List ℕ) (c d : TextChange) (k size : ℕ) → k + size ≤ d.size → c.at + c.size ≤ length bytes
+pub rest_stays : (bytes : List ℕ) (c d : TextChange) (k size : ℕ) → k + size ≤ d.size → c.at + c.size ≤ length bytes
     → IsBeside c d → take size (drop (moved_by c d.at + k) (put bytes (place_of_change c)))
     ≡ take size (drop (d.at + k) bytes)
 rest_stays bytes c d k size few within (inl far) =

@@ -1,4 +1,5 @@
-use Rattle.keep_edit_spec.proofs.Lists.RunLaws.{none_is_run, run_goes_on, still_makes}
+use Rattle.keep_edit_spec.proofs.Lists.RunLaws.{none_is_run, run_goes_on}
+use Rattle.keep_edit_spec.proofs.Lists.StillMakes.{still_makes}
 use Rattle.keep_edit_spec.proofs.laws.runs_are_known.Goals as goal
 
 pub returns-clause-still : goal.returns-clause-still

@@ -1,13 +1,13 @@
 use Rattle.std.proofs.Common.{◌≡◌, ◌+◌, ◌<◌, ℕ, All, false, length, slice_range, subst, suc, sym, true, ◌∙◌}
-use Rattle.std.proofs.Common.{ap, arith, inl, inr}
+use Rattle.std.proofs.Common.{ap, arith}
 use Rattle.std.proofs.lemmas.List.Elements.{All-nil, All-weaker}
 use Rattle.keep_edit_spec.specs.Runs as runs
-use Rattle.keep_edit_spec.specs.Runs.{IsPlain, takes_up_to}
+use Rattle.keep_edit_spec.specs.Runs.{IsPlain}
 use Rattle.keep_edit_spec.specs.TextChanges.{TextChange}
 use Rattle.keep_edit_spec.proofs.Shared.{all_with}
 use Rattle.keep_edit_plan.specs.TextEdits.{IsChangeIn, MakesChangeHere, change_of}
 use Rattle.keep_edit.specs.Reading.{ProfiledText}
-use Rattle.keep_edit.specs.Runs.{LeavesAlone, MakeChanges, outline}
+use Rattle.keep_edit.specs.Runs.{IsPlaceKept, LeavesAlone, MakeChanges, outline}
 use Rattle.keep_edit.specs.SeenPaths.{IsSeen}
 use Rattle.keep_edit.proofs.KindLaws.{placed_plain}
 use Rattle.keep_edit.proofs.RunSteps.{AreMadeTo, IsPlaced, added, all_made, more_changes, no_changes, unadded}
@@ -16,16 +16,13 @@ use Rattle.keep_edit.proofs.SeenLaws.{more_seen, none_seen, was_added}
 use Rattle.keep_edit.proofs.document.Document.changes_of_kinds.Goals as goal
 use Rattle.keep_edit.proofs.document.Document.changes_of_kinds.Goals.{
   else-are_plain,
-  else-is_insert-via-else-is_insert,
-  else-is_insert-via-then-is_insert+else-has_header,
-  else-is_insert-via-then-is_insert+then-has_header+else-at-len,
   else-is_text_plain,
   else-leave_alone,
   else-writes_anew,
   then-are_plain,
   then-is_text_plain,
   then-leave_alone,
-  then-writes_anew+else-not-is_text_plain+else-not-are_plain+else-take_up_to,
+  then-writes_anew+else-not-is_text_plain+else-not-are_plain+else-not-keeps_place,
 }
 
 pub loop-number-init : goal.loop-number-init
@@ -52,9 +49,6 @@ returns-in_default-clause-made c = all_made c.args.edits.now c.args.first _ c.ar
 pub returns-then-not-is_text_plain-clause-made : goal.returns-then-not-is_text_plain-clause-made
 returns-then-not-is_text_plain-clause-made c =
     all_made c.args.edits.now c.args.first _ c.args.self.now _ c.loop-number.invariant.0
-
-pub returns-then-at-len-clause-made : goal.returns-then-at-len-clause-made
-returns-then-at-len-clause-made c = all_made c.args.edits.now c.args.first _ c.args.self.now _ c.loop-number.invariant.0
 
 pub returns-then-not-unwrap_or-2-clause-made : goal.returns-then-not-unwrap_or-2-clause-made
 returns-then-not-unwrap_or-2-clause-made c =
@@ -105,7 +99,7 @@ loop-number-preserved c =
     ] in
     let text_plain : c.if-writes_anew.is_text_plain ≡ true → IsPlain now.text =
     λ yes. elim c.if-writes_anew.branch [
-      | then-writes_anew+else-not-is_text_plain+else-not-are_plain+else-take_up_to w ↦
+      | then-writes_anew+else-not-is_text_plain+else-not-are_plain+else-not-keeps_place w ↦
           elim w.if-is_text_plain.branch [
             | then-is_text_plain w' ↦ was_text w'.if-is_text_plain.true
             | else-is_text_plain w' ↦
@@ -116,28 +110,18 @@ loop-number-preserved c =
       | else-writes_anew w ↦ was_text (sym w.is_text_plain-is ∙ yes)
     ] in
     let placed : IsPlaced edits first number now.text changes x (change_of change).at =
-    placed_plain edits first number now.text changes x (change_of change).at c.writes_anew.result
+    placed_plain edits first number now.text changes x (change_of change).at c.add.new.self.has_header
+    c.writes_anew.result
+    (λ none. All-weaker (IsSeen c.loop-number.paths) (λ y. runs.is_header (outline y) ≡ false)
+    (λ e k. headless c.add.new.self none e (c.add.ensures.others e k)) (slice_range edits first number) seen)
     c.writes_anew.ensures (λ writes. elim c.if-writes_anew.branch [
-      | then-writes_anew+else-not-is_text_plain+else-not-are_plain+else-take_up_to w ↦
+      | then-writes_anew+else-not-is_text_plain+else-not-are_plain+else-not-keeps_place w ↦
           let others = plain w.if-not-are_plain.false in (
-            text_plain (w.is_text_plain-is ∙ w.if-not-is_text_plain.false),
-            others.0,
-            sym w.take_up_to.ensures ∙ w.if-take_up_to.false,
+            (text_plain (w.is_text_plain-is ∙ w.if-not-is_text_plain.false), others.0),
+            subst (IsPlaceKept now.text changes x (change_of change).at) w.has_header.ensures
+                (w.keeps_place.ensures w.if-not-keeps_place.false),
           )
       | else-writes_anew w ↦ absurd (let was = w.if-writes_anew.false in cc)
-    ])
-    (λ inserts. elim c.else-is_insert.branch [
-      | else-is_insert-via-then-is_insert+then-has_header+else-at-len w ↦ inr (λ same.
-          let long = w.len.ensures in
-          let text = ap (λ (t : ProfiledText). length t.text) c.self.view_is in
-          omega (arith, w.if-at-len.false, long, same, text))
-      | else-is_insert-via-then-is_insert+else-has_header w ↦
-          inl (All-weaker (IsSeen c.loop-number.paths) (λ y. runs.is_header (outline y) ≡ false)
-          (λ e k. headless c.add.new.self (sym w.has_header.ensures ∙ w.if-has_header.false) e
-          (c.add.ensures.others e k))
-          (slice_range edits first number) seen)
-      | else-is_insert-via-else-is_insert w ↦
-          absurd (let was = c.is_insert.ensures in let other = w.if-is_insert.false in cc)
     ]) in
     let is = added c.add-in-loop-number.result changes _ c.add-in-loop-number.new.self _
     c.add-in-loop-number.ensures.beside c.add-in-loop-number.ensures.added
