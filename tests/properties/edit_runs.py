@@ -3,7 +3,7 @@
 
     tests/properties/edit_runs.py KEEP_TOML [RUNS [SEED]]
 
-Edits that come in a row are made at once, from some 20 of them on, and up to 500, by the document before all of them. So
+Edits that come in a row are made at once, from some 20 of them on, and up to 1,000, by the document before all of them. So
 each list (of 80 edits, one in twenty of 1,100; RUNS of them, 100 if not given) is given to the program as one script, and then in
 scripts of 10, each on what the one before gave, where every edit is made by itself. Texts, faults and the number of the refused
 edit have to be the same. Most lists are of edits of one kind, a third of edits of all kinds in turn. A fifth of the lines that are

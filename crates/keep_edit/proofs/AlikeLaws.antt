@@ -8,8 +8,8 @@
 --
 -- Theorems: `same_takes`, `same_steps`: what is compared; `agree_before`: one step more; `begins_with`, `within`: of a
 -- path at another or below it; `none_unless`: of one that is not; `before_last`, `renamed_parts`, `renamed_alike`: of
--- paths with new keys; `read_key`: a key that is compared; `same_or_apart`: of as many keys; `keys_apart`,
--- `apart_unless_agree`: of others.
+-- paths with new keys; `read_key`: a key that is compared; `same_or_apart`: of as many keys; `paths_apart`,
+-- `keys_apart`, `apart_unless_agree`: of others.
 use Rattle.std.proofs.Common.{◌≡◌, ◌≢◌, ◌≤◌, ◌<◌, ◌-◌, ◌∷◌, ◌++◌, [], ℕ, zero, suc, List, length, take, drop, slice_get}
 use Rattle.std.proofs.Common.{◌↔◌, Bool, true, false, Option, Some, None, refl, sym, ap, ap₂, ◌∙◌, arith, inl, inr}
 use Rattle.std.proofs.Common.{Global, String, get_or, map, min, option_map, string_bytes}
@@ -192,6 +192,32 @@ same_or_apart keys more long = by (same_path (map key keys) (map key more)) (pat
           none_unless (strip (map key keys) (map key more)) (λ h. differ (all_alike keys more long h)),
           none_unless (strip (map key more) (map key keys)) (λ h. differ (sym (all_alike more keys (sym long) h))),
         )
+
+-- ---- neither at the other or below it
+
+no_longer_apart : (n : ℕ) (path other : List Part) → n ≡ length path → length path ≤ length other
+    → (take n path ≢ take n other) ↔ AreApart path other
+no_longer_apart n path other all few =
+    let (below, same_below) = within n path other all in (
+      λ differ. (
+        none_unless (strip path other) (λ h. differ (sym (same_below h))),
+        none_unless (strip other path) (λ h.
+            let many = (begins_with other path h).0 in
+            differ ((within n other path (omega (arith, all, few, many))).1 h)),
+      ),
+      λ apart same. below (sym same) apart.0,
+    )
+
+pub paths_apart : (n : ℕ) (path other : List Part) → n ≡ min (length path) (length other)
+    → (take n path ≢ take n other) ↔ AreApart path other
+paths_apart n path other least = elim (cases_lt (length other) (length path)) [
+  | inl fewer ↦
+      let (there, back) = no_longer_apart n other path (omega (arith, least, fewer)) (omega (arith, fewer)) in (
+        λ differ. let apart = there (λ same. differ (sym same)) in (apart.1, apart.0),
+        λ apart same. back (apart.1, apart.0) (sym same),
+      )
+  | inr many ↦ no_longer_apart n path other (omega (arith, least, many)) many
+]
 
 -- no more keys than the others
 no_more_apart : (n : ℕ) (keys more : List (List ℕ)) → n ≡ length keys → length keys ≤ length more

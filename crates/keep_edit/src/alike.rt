@@ -61,7 +61,7 @@ fn are_renamed_apart(path: &Path, key: &str, other: &Path, other_key: &str) -> b
 fn are_apart(path: &Path, other: &Path) -> bool
     ensures { Decides result (AreApart path.now other.now) }
 {
-    !is_within(other, path) && !is_within(path, other)
+    !agree(path, other, path.len().min(other.len()))
 }
 
 /// Whether no step of a path is this key.
@@ -227,13 +227,26 @@ fn are_elements_alike(edits: &[Edit], other: &Edit) -> bool
 pub fn all_leave_alone(edits: &[Edit], other: &Edit) -> bool
     ensures { Decides result (All (λ e. LeavesAlone e other.now) edits.now) }
 {
-    if are_elements_alike(edits, other) {
-        return true;
-    }
     for edit in edits {
         if !leaves_alone(edit, other) {
             return false;
         }
     }
     true
+}
+
+/// Whether each of these edits is found to leave alone another that comes after them. Where that takes comparing their
+/// keys or paths, none is if there are more of them than `left`, how many pairs may still be compared; else they are
+/// taken from that.
+pub fn leave_alone_within(left: &mut usize, edits: &[Edit], other: &Edit) -> bool
+    ensures { IsTrue result → All (λ e. LeavesAlone e other.now) edits.now }
+{
+    if are_elements_alike(edits, other) {
+        return true;
+    }
+    if edits.len() > *left {
+        return false;
+    }
+    *left -= edits.len();
+    all_leave_alone(edits, other)
 }

@@ -12,7 +12,7 @@ ghost use Rattle.keep_edit_spec.specs.AddedItems.{item_path};
 ghost use Rattle.keep_edit_spec.specs.Runs.{IsPlain};
 ghost use Rattle.keep_path.specs.Path.{Part, index};
 
-use crate::alike::{agree, all_leave_alone};
+use crate::alike::{agree, leave_alone_within};
 use crate::document::Document;
 use crate::seen::SeenKeys;
 use crate::seen_paths::SeenPaths;
@@ -21,8 +21,11 @@ use keep_edit_spec::EditFault;
 use keep_rules::{Path, Step};
 use memchr::memchr;
 
-/// No more edits than these are made at once, since the path of each may be compared with all those before it.
-const MOST_AT_ONCE: usize = 500;
+/// No more edits than these are made at once.
+const MOST_AT_ONCE: usize = 1000;
+/// So many pairs of edits are compared in a run, and one more for each byte of the text: to compare more takes longer
+/// than to read the text anew.
+const PAIRS: usize = 5000;
 /// No edit of a longer path, in bytes, is made at once with others where its path is compared, so that this takes no
 /// longer.
 const LONGEST_PATH: usize = 128;
@@ -59,17 +62,34 @@ fn writes_anew(edit: &Edit) -> bool
     matches!(edit, Edit::Insert(_, _) | Edit::Table(_) | Edit::Element(_))
 }
 
+/// The kinds of edits.
+#[derive(Drop, PartialEq)]
+enum EditKind {
+    Insert,
+    Remove,
+    Set,
+    Rename,
+    Table,
+    Element,
+}
+
+/// The kind of an edit.
+fn kind_of(edit: &Edit) -> EditKind {
+    match edit {
+        Edit::Insert(_, _) => EditKind::Insert,
+        Edit::Remove(_) => EditKind::Remove,
+        Edit::Set(_, _) => EditKind::Set,
+        Edit::Rename(_, _) => EditKind::Rename,
+        Edit::Table(_) => EditKind::Table,
+        Edit::Element(_) => EditKind::Element,
+    }
+}
+
 /// Whether the second edit is there and of another kind.
 fn is_other_kind(edit: &Edit, other: Option<&Edit>) -> bool {
-    match (edit, other) {
-        (_, None)
-        | (Edit::Insert(_, _), Some(Edit::Insert(_, _)))
-        | (Edit::Remove(_), Some(Edit::Remove(_)))
-        | (Edit::Set(_, _), Some(Edit::Set(_, _)))
-        | (Edit::Rename(_, _), Some(Edit::Rename(_, _)))
-        | (Edit::Table(_), Some(Edit::Table(_)))
-        | (Edit::Element(_), Some(Edit::Element(_))) => false,
-        _ => true,
+    match other {
+        Some(other) => kind_of(edit) != kind_of(other),
+        None => false,
     }
 }
 
@@ -198,6 +218,11 @@ impl Document {
         READING / as_many
     }
 
+    /// How many pairs of edits may be compared in a run.
+    fn most_pairs(&self) -> usize {
+        PAIRS + self.text.len()
+    }
+
     /// What the edits from number `first` on change in the text, as far as they can be made at once: of one kind, or of
     /// several where those are few.
     fn changes_at_once(&self, edits: &[Edit], first: usize) -> TextEdits
@@ -233,11 +258,13 @@ impl Document {
     {
         let mut changes = TextEdits::new(self.alloc());
         let mut keys = SeenKeys::new(self.alloc(), &edits[first]);
+        let mut left = self.most_pairs();
         let end = edits.len().min(first.saturating_add(MOST_AT_ONCE));
         for number in first..end {
             let edit = &edits[number];
             if has_long_path(edit)
-                || !(keys.leaves_alone(edit) || all_leave_alone(&edits[first..number], edit))
+                || !(keys.leaves_alone(edit)
+                    || leave_alone_within(&mut left, &edits[first..number], edit))
                 || !keys.add(edit).unwrap_or(false)
             {
                 return changes;
@@ -262,13 +289,15 @@ impl Document {
     {
         let mut changes = TextEdits::new(self.alloc());
         let mut paths = SeenPaths::new(self.alloc());
+        let mut left = self.most_pairs();
         let mut is_text_plain = false;
         let mut are_plain = true;
         let end = edits.len().min(first.saturating_add(MOST_AT_ONCE));
         for number in first..end {
             let edit = &edits[number];
             if has_long_path_among_all(edit)
-                || !(paths.leave_alone(edit) || all_leave_alone(&edits[first..number], edit))
+                || !(paths.leave_alone(edit)
+                    || leave_alone_within(&mut left, &edits[first..number], edit))
                 || !paths.add(edit).unwrap_or(false)
             {
                 return changes;
@@ -278,11 +307,10 @@ impl Document {
             };
             are_plain = are_plain && is_plain(change.new.as_str());
             if writes_anew(edit) {
-                let at = change.place.start;
                 is_text_plain = is_text_plain || is_plain(self.text.as_str());
                 if !is_text_plain
                     || !are_plain
-                    || !self.keeps_place(&changes, edit, at, paths.has_header())
+                    || !self.keeps_place(&changes, edit, change.place.start, paths.has_header())
                 {
                     return changes;
                 }

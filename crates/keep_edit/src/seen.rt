@@ -29,7 +29,7 @@ pub fn last_name(keys: &[String]) -> Option<&str>
 }
 
 /// The keys that tell apart edits of one kind: the last one of each path or header, and the new one of each rename.
-/// There are at most 1,000, so that keys made to collide take little time.
+/// There are at most 2,000, so that keys made to collide take little time.
 #[derive(Drop)]
 pub struct SeenKeys<'a> {
     first: &'a Edit,

@@ -51,7 +51,7 @@ loop-number-preserved c =
           All-weaker (IsSeen c.loop-number.keys) (λ y. LeavesAlone y x) (c.leaves_alone.ensures w.if-leaves_alone.true)
           (slice_range edits first number) seen
       | else-leaves_alone w ↦
-          w.all_leave_alone.ensures.0 (sym w.value-is ∙ c.if-not-all_leave_alone.false)
+          w.leave_alone_within.ensures (sym w.value-is ∙ c.if-not-leave_alone_within.false)
     ] in
     let here : IsSeen c.add.new.self x =
     was_added (IsSeen c.add.new.self x) c.add.result c.add.ensures.seen

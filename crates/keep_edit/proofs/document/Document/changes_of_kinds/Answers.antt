@@ -86,7 +86,7 @@ loop-number-preserved c =
           All-weaker (IsSeen c.loop-number.paths) (λ y. LeavesAlone y x) (c.leave_alone.ensures w.if-leave_alone.true)
           (slice_range edits first number) seen
       | else-leave_alone w ↦
-          w.all_leave_alone.ensures.0 (sym w.value-is ∙ c.if-not-all_leave_alone.false)
+          w.leave_alone_within.ensures (sym w.value-is ∙ c.if-not-leave_alone_within.false)
     ] in
     let plain : c.if-are_plain.are_plain ≡ true → All (λ d. IsPlain d.new) changes × IsPlain (change_of change).new =
     λ yes. elim c.if-are_plain.branch [
