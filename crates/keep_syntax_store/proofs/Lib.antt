@@ -24,3 +24,4 @@ pub mod RaiseLaws
 pub mod EntryLaws
 pub mod CopiedEntryLemmas
 pub mod PatchLaws
+pub mod SettleLaws

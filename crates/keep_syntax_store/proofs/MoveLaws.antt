@@ -1,8 +1,8 @@
 -- A range of a list grows by the next element, and the statements that begin before a place are counted one by one.
 --
--- Theorems: `moved_next`: a moved range at the end of a list grows by the next element, moved; `statements_stop`: no
--- more begin before a place than come before one that does not; `statements_more`: if the lines ascend, one that begins
--- before the place counts, with all that come before it.
+-- Theorems: `range_grown`: a range at the end of a list grows by the next element; `moved_next`: a moved range there by
+-- the next element, moved; `statements_stop`: no more begin before a place than come before one that does not;
+-- `statements_more`: if the lines ascend, one that begins before the place counts, with all that come before it.
 use Rattle.std.proofs.Common.{◌≡◌, ℕ, zero, suc, ◌+◌, ◌-◌, ◌<◌, ◌≤◌, Bool, true, false, List, [], ◌∷◌, ◌++◌, length}
 use Rattle.std.proofs.Common.{map, take, drop, refl, sym, ap, ◌∙◌, subst, arith, append_assoc, Some, None, slice_get}
 use Rattle.std.proofs.Common.{le-ltb, lt-ltb}
@@ -46,6 +46,26 @@ pub range_next : {A : Type 0} (xs : List A) (from n : ℕ) (x : A) → from ≤ 
 range_next xs from n x order e =
     range_more xs from n x order (slice_get_within xs n x e)
     ∙ ap (λ y. slice_range xs from n ++ y ∷ []) (get_or_from_slice_get xs n x x e)
+
+-- the range of one element
+pub range_one : {A : Type 0} (xs : List A) (n : ℕ) (x : A) → slice_get xs n ≡ Some x
+    → slice_range xs n (n + 1) ≡ x ∷ []
+range_one xs n x e =
+    range_next xs n n x (omega arith) e
+    ∙ ap (λ k. take k (drop n xs) ++ x ∷ []) (let z : n - n ≡ 0 = omega arith in z)
+
+element : {A : Type 0} (xs : List A) (n : ℕ) → n < length xs → (x : A) × (slice_get xs n ≡ Some x)
+element [] n h = absurd (omega (arith, h))
+element (x ∷ xs) zero h = (x, refl)
+element (x ∷ xs) (suc n) h = element xs n (omega (arith, h))
+
+pub range_grown : {A : Type 0} (out xs : List A) (from n : ℕ) → from ≤ n → n < length xs
+    → (out ++ slice_range xs from n) ++ slice_range xs n (n + 1) ≡ out ++ slice_range xs from (n + 1)
+range_grown out xs from n order within =
+    let x = element xs n within in
+    ap (λ ys. (out ++ slice_range xs from n) ++ ys) (range_one xs n x.0 x.1)
+    ∙ append_assoc out (slice_range xs from n) (x.0 ∷ [])
+    ∙ ap (λ ys. out ++ ys) (sym (range_next xs from n x.0 order x.1))
 
 pub moved_next : {A B : Type 0} (f : A → B) (out : List B) (xs : List A) (from n : ℕ) (x : A) → from ≤ n
     → slice_get xs n ≡ Some x

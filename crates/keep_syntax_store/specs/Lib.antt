@@ -12,5 +12,6 @@ pub mod InPlace
 pub mod Unfit
 pub mod PackedVec
 pub mod Blocks
+pub mod Raising
 pub mod Moving
 pub mod After

@@ -23,6 +23,7 @@ impl Entry for KeyPart {
     ghost use Rattle.keep_syntax_store.specs.Lifted as lifted;
     ghost use Rattle.keep_syntax_store.specs.Rereading.{count_of};
     ghost use Rattle.keep_syntax_store.specs.Blocks.{raise_key};
+    ghost use Rattle.keep_syntax_store.specs.Raising.{CanRaiseKey};
 
     type Packed = PackedKeyPart;
 
@@ -37,6 +38,8 @@ impl Entry for KeyPart {
     ghost IsAfter = { λ c. after.IsAfterKey (count_of c) };
 
     ghost raise = { raise_key };
+
+    ghost CanRaise = { CanRaiseKey };
 
     #[inline(always)]
     fn packed(&self) -> Option<PackedKeyPart> {
@@ -80,6 +83,17 @@ impl Entry for KeyPart {
             leaf: self.leaf,
             span: raised_span(self.span, by),
         }
+    }
+
+    #[inline(always)]
+    fn can_raise(stored: &PackedKeyPart, by: usize) -> bool {
+        (stored.start as usize).wrapping_add(by) <= LONG
+    }
+
+    #[inline(always)]
+    fn raise_packed(stored: &mut PackedKeyPart, by: usize) {
+        let old = *stored;
+        stored.start = (old.start as usize).wrapping_add(by) as u32;
     }
 
     fn lowered(self, block: Option<usize>) -> KeyPart {

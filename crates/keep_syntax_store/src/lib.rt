@@ -10,6 +10,7 @@ mod patch;
 mod places;
 mod replacing;
 mod rereading;
+mod settling;
 mod shift;
 mod starts;
 mod statements;

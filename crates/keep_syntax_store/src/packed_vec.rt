@@ -1,5 +1,5 @@
 //! Lists of a text's entries, each stored in few bytes where it fits.
-ghost use Rattle.std.specs.Prelude.{◌≡◌, ◌<◌, ◌≤◌, ◌++◌, ◌∷◌, [], None, Some, length, map, get_or, slice_get};
+ghost use Rattle.std.specs.Prelude.{◌≡◌, ◌+◌, ◌<◌, ◌≤◌, ◌++◌, ◌∷◌, [], None, Some, length, map, get_or, slice_get};
 ghost use Rattle.std.specs.Prelude.{slice_range, IfOk, IfSome, OnOk, SomeIff};
 ghost use Rattle.std.specs.Bool.{Decides};
 ghost use Rattle.keep_syntax_store.specs.Blocks.{raise_by};
@@ -7,7 +7,6 @@ ghost use Rattle.keep_syntax_store.specs.Moving.{MovesRight};
 ghost use Rattle.keep_syntax_store.specs.PackedVec.{IsAllPacked, IsRunOf, entries};
 
 use crate::moves::Counts;
-use crate::rereading::nothing;
 use crate::shift::Shift;
 use crate::unfit::Unfit;
 use std::alloc::{AllocError, Global};
@@ -35,6 +34,8 @@ pub trait Entry: Copy {
 
     ghost raise: { ℕ → Self → Self };
 
+    ghost CanRaise: { ℕ → Self.Packed → Type 0 };
+
     /// The entry in few bytes, if it fits.
     fn packed(&self) -> Option<Self::Packed>
         ensures stored { IfSome result (λ stored. unpacked stored ≡ self.now) }
@@ -54,6 +55,15 @@ pub trait Entry: Copy {
     /// The entry with its places moved on; its numbers stay.
     fn raised(self, by: usize) -> Self
         ensures { result ≡ raise by self };
+
+    /// Whether the packed entry still fits once its places are moved on.
+    fn can_raise(stored: &Self::Packed, by: usize) -> bool
+        ensures { Decides result (CanRaise by stored.now) };
+
+    /// Moves the places of the packed entry on.
+    fn raise_packed(stored: &mut Self::Packed, by: usize)
+        requires { CanRaise by stored.old }
+        ensures { unpacked stored.new ≡ raise by (unpacked stored.old) };
 
     /// The entry that a block's move makes this one.
     fn lowered(self, block: Option<usize>) -> Self
@@ -162,6 +172,64 @@ impl<T: Entry> PackedVec<T, T::Packed> {
         Ok(())
     }
 
+    /// The packed form of the entry with this number, the move of its block brought in. None if it isn't packed, or
+    /// doesn't fit once it is moved.
+    #[inline(always)]
+    fn settled(&self, number: usize) -> Option<T::Packed>
+        requires { number < length (entries T.unpacked T.raise self.now) }
+        ensures { IfSome result (λ stored.
+            slice_get (entries T.unpacked T.raise self.now) number ≡ Some (T.unpacked stored)) }
+    {
+        if !self.unfit.lacks(number) {
+            return None;
+        }
+        let stored = self.packed[number];
+        match block_move(&self.moves, number / BLOCK) {
+            Some(by) => raised_packed::<T>(stored, by),
+            None => Some(stored),
+        }
+    }
+
+    /// Adds the entry of another list with this number. It isn't unpacked where it is packed in both lists.
+    #[inline(always)]
+    fn push_same(&mut self, other: &Self, number: usize) -> Result<(), AllocError>
+        requires { number < length (entries T.unpacked T.raise other.now) }
+        ensures { OnOk result (entries T.unpacked T.raise self.new ≡ entries T.unpacked T.raise self.old
+            ++ slice_range (entries T.unpacked T.raise other.now) number (number + 1)) }
+    {
+        if self.moves.is_empty() && self.unfit.ends_by(self.packed.len()) {
+            if let Some(stored) = other.settled(number) {
+                self.packed.reserve(1)?;
+                self.packed.push_reserved(stored);
+                return Ok(());
+            }
+        }
+        self.push_unpacked(other, number)
+    }
+
+    /// Adds the entry of another list with this number, unpacked between the lists.
+    #[inline(never)]
+    fn push_unpacked(&mut self, other: &Self, number: usize) -> Result<(), AllocError>
+        requires { number < length (entries T.unpacked T.raise other.now) }
+        ensures { OnOk result (entries T.unpacked T.raise self.new ≡ entries T.unpacked T.raise self.old
+            ++ slice_range (entries T.unpacked T.raise other.now) number (number + 1)) }
+    {
+        self.push(other.get(number))
+    }
+
+    /// Adds the entries of another list from number `from` up to number `to`, as they are.
+    pub fn append_same(&mut self, other: &Self, from: usize, to: usize) -> Result<(), AllocError>
+        requires order { from ≤ to }
+        requires within { to ≤ length (entries T.unpacked T.raise other.now) }
+        ensures { OnOk result (entries T.unpacked T.raise self.new ≡ entries T.unpacked T.raise self.old
+            ++ slice_range (entries T.unpacked T.raise other.now) from to) }
+    {
+        'entries: for number in from..to {
+            self.push_same(other, number)?;
+        }
+        Ok(())
+    }
+
     /// Adds the entries of another list from number `from` up to number `to`, moved from after `old` to after `new`.
     pub fn append_moved(
         &mut self,
@@ -205,15 +273,27 @@ impl<T: Entry> PackedVec<T, T::Packed> {
         ensures { MovesRight T.IsAfter T.moved T.raise
             → entries T.unpacked T.raise self.new ≡ entries T.unpacked T.raise self.old }
     {
+        self.settle_in_place();
         if !self.moves.is_empty() {
             let count = self.len();
             let mut all = PackedVec::with_room(alloc, count)?;
-            let zero = nothing();
-            all.append_moved(self, 0, count, &zero, &zero)?;
+            all.append_same(self, 0, count)?;
             *self = all;
         }
         Ok(())
     }
+}
+
+/// The packed entry with its places moved on, if it fits then.
+#[inline(always)]
+fn raised_packed<T: Entry>(mut stored: T::Packed, by: usize) -> Option<T::Packed>
+    ensures { IfSome result (λ moved_on. T.unpacked moved_on ≡ T.raise by (T.unpacked stored)) }
+{
+    if !T::can_raise(&stored, by) {
+        return None;
+    }
+    T::raise_packed(&mut stored, by);
+    Some(stored)
 }
 
 /// By how much a block is moved.

@@ -95,8 +95,7 @@ impl<T: Entry> PackedVec<T, T::Packed> {
             self.packed.extend_from_slice(&other.packed[from..to])?;
             return Ok(());
         }
-        let zero = nothing();
-        self.append_moved(other, from, to, &zero, &zero)
+        self.append_same(other, from, to)
     }
 
     /// The entries of the blocks that a run is in, with other entries in the place of the run, and all blocks after

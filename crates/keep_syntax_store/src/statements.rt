@@ -31,6 +31,7 @@ impl Entry for Statement {
     ghost use Rattle.keep_syntax_store.specs.Lifted as lifted;
     ghost use Rattle.keep_syntax_store.specs.Rereading.{count_of};
     ghost use Rattle.keep_syntax_store.specs.Blocks.{raise_statement};
+    ghost use Rattle.keep_syntax_store.specs.Raising.{CanRaiseStatement};
 
     type Packed = PackedStatement;
 
@@ -45,6 +46,8 @@ impl Entry for Statement {
     ghost IsAfter = { λ c. after.IsAfterStatement (count_of c) };
 
     ghost raise = { raise_statement };
+
+    ghost CanRaise = { CanRaiseStatement };
 
     #[inline(always)]
     fn packed(&self) -> Option<PackedStatement> {
@@ -119,6 +122,20 @@ impl Entry for Statement {
             keys: self.keys,
             value: self.value,
         }
+    }
+
+    #[inline(always)]
+    fn can_raise(stored: &PackedStatement, by: usize) -> bool {
+        let line_start = (stored.line_start as usize).wrapping_add(by);
+        let end = (stored.end as usize).wrapping_add(by);
+        either(line_start, end) <= LONG
+    }
+
+    #[inline(always)]
+    fn raise_packed(stored: &mut PackedStatement, by: usize) {
+        let old = *stored;
+        stored.line_start = (old.line_start as usize).wrapping_add(by) as u32;
+        stored.end = (old.end as usize).wrapping_add(by) as u32;
     }
 
     fn lowered(self, block: Option<usize>) -> Statement {

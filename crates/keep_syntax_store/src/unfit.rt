@@ -61,6 +61,14 @@ impl<T: Copy> Unfit<T> {
         self.end <= number
     }
 
+    /// Whether none has this number.
+    #[inline(always)]
+    pub fn lacks(&self, number: usize) -> bool
+        ensures { result ≡ true → spec.found number self.now ≡ None }
+    {
+        self.ends_by(number) || self.place_of(number).is_none()
+    }
+
     /// The entry with this number.
     #[inline(always)]
     pub fn find(&self, number: usize) -> Option<T>

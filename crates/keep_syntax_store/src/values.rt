@@ -72,6 +72,7 @@ impl Entry for ValueInfo {
     ghost use Rattle.keep_syntax_store.specs.Lifted as lifted;
     ghost use Rattle.keep_syntax_store.specs.Rereading.{count_of};
     ghost use Rattle.keep_syntax_store.specs.Blocks.{raise_value};
+    ghost use Rattle.keep_syntax_store.specs.Raising.{CanRaiseValue};
 
     type Packed = PackedValue;
 
@@ -86,6 +87,8 @@ impl Entry for ValueInfo {
     ghost IsAfter = { λ c. after.IsAfterValue (count_of c) };
 
     ghost raise = { raise_value };
+
+    ghost CanRaise = { CanRaiseValue };
 
     /// The value in 40 bytes, if its numbers fit and it ends with its keyval.
     #[inline(always)]
@@ -177,6 +180,19 @@ impl Entry for ValueInfo {
             comma_before: raised_there(self.comma_before, by),
             comma_after: raised_there(self.comma_after, by),
         }
+    }
+
+    #[inline(always)]
+    fn can_raise(stored: &PackedValue, by: usize) -> bool {
+        (stored.anchor as usize).wrapping_add(by) <= LONG
+    }
+
+    #[inline(always)]
+    fn raise_packed(stored: &mut PackedValue, by: usize) {
+        let old = *stored;
+        stored.anchor = (old.anchor as usize).wrapping_add(by) as u32;
+        stored.end = old.end.wrapping_add(by);
+        stored.after = old.after.wrapping_add(by);
     }
 
     fn lowered(self, block: Option<usize>) -> ValueInfo {
