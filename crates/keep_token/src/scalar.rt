@@ -29,7 +29,6 @@ fn string_of(leaf: Leaf, found: Result<usize, LeafFault>) -> Result<(Leaf, usize
 }
 
 // The scalar at the start, and its length.
-#[inline(always)]
 #[tactic(auto, unfolding(crate::specs::Scanning::scalar_at))]
 fn scalar_of(bytes: &[u8], profile: Profile) -> Result<(Leaf, usize), LeafFault>
     ensures value { MatchResult result
@@ -63,7 +62,6 @@ fn scalar_of(bytes: &[u8], profile: Profile) -> Result<(Leaf, usize), LeafFault>
 /// # Errors
 ///
 /// The first fault from left to right where there is none, with its place in the text.
-#[inline(always)]
 pub fn scan_scalar(text: &str, at: usize, profile: Profile) -> Result<(Leaf, usize), LeafFault>
     requires { IsCharBoundary text.now at }
     ensures found { IfOk result (λ found. (at < found.1)
