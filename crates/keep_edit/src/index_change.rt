@@ -62,6 +62,12 @@ pub(crate) fn change_index(index: &mut Index, change: IndexChange<'_>, new: NewT
             line,
             kind,
         } => index.insert_line(parent, key, line, kind).is_ok(),
+        IndexChange::AppendedLine {
+            parent,
+            key,
+            line,
+            kind,
+        } => index.append_line(parent, key, line, kind).is_ok(),
         IndexChange::RemovedLine { node, line } => index.remove_line(node, line).is_ok(),
         IndexChange::AddedValue {
             parent,

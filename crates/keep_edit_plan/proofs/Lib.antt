@@ -34,6 +34,7 @@ pub mod KeysLaws
 pub mod InsertedLaws
 pub mod InsertInsideLaws
 pub mod PathNumberLaws
+pub mod LastLineLaws
 pub mod LineChangeLaws
 pub mod AddedLineLaws
 pub mod ItemTexts

@@ -2,17 +2,19 @@
 --
 -- A document with one line more has it after the statements that are counted for its numbers. So its node comes where
 -- the facts say that the first node is met after the line (`line_added`), and the nodes are nested as the headers say.
--- The law of the edit says that the new document is such a one, if nothing is in the value.
+-- Where the line is the last statement, its node is the last (`last_told`). The law of the edit says that the new
+-- document is such a one, if nothing is in the value (`its_line`).
 --
--- Theorem: `line_changed`.
+-- Theorems: `line_changed`; `last_line_changed`.
 use Rattle.std.proofs.Common.{◌≡◌, ℕ, zero, suc, ◌-◌, ◌<◌, ◌≤◌, Bor, false, List, [], ◌∷◌, ◌++◌, length, take, drop}
 use Rattle.std.proofs.Common.{slice_get, sym, ap, subst, ◌∙◌, arith, Option, Some, None, Ok}
 use Rattle.std.proofs.lemmas.List.{take-append-drop}
 use Rattle.keep_types.specs.declared.node.Kind.{Kind}
 use Rattle.keep_syntax.specs.declared.syntax.Syntax.{Syntax}
+use Rattle.keep_syntax.specs.Contract.{IsSyntaxOf, statements_of}
 use Rattle.keep_syntax.specs.Tree.{Value, Document, value_depth}
 use Rattle.keep_path.specs.NodeInfos as node_infos
-use Rattle.keep_path.specs.NodeInfos.{NodeInfos, with_node}
+use Rattle.keep_path.specs.NodeInfos.{NodeInfos, line_info, with_last, with_node}
 use Rattle.keep_path.specs.Path.{Part, AreUtf8, key}
 use Rattle.keep_index_store.specs.declared.renumbering.LineNumbers.{LineNumbers}
 use Rattle.keep_index_store.specs.Renumbering.{numbers_of}
@@ -43,6 +45,7 @@ use Rattle.keep_edit_plan.proofs.InsertedLaws.{keyval_only}
 use Rattle.keep_edit_plan.proofs.KeyLaws.{no_number}
 use Rattle.keep_edit_plan.proofs.KeysLaws.{keys_utf8}
 use Rattle.keep_edit_plan.proofs.KindLaws.{no_entries}
+use Rattle.keep_edit_plan.proofs.LastLineLaws.{last_line_told}
 
 -- where the facts say that the line's node comes
 abbrev pub place_in : Document → LineNumbers → ℕ
@@ -176,14 +179,31 @@ module _ (d : ProfiledText) (syntax : Syntax) (index : NodeInfos) (path : List P
             nested = line_is_nested s more line fresh read.obeys nested;
           }
 
+      -- the line is the last statement
+      last_told : numbers.statement ≡ length (statements_of syntax)
+          → with_last old_index path (line_info (numbers_of numbers) (fact_kind (body_fact v.body))) ≡ telling_in more
+      last_told last =
+          let is : IsSyntaxOf syntax s = subst (IsSyntaxOf syntax) (tree_is d syntax index s holds read) holds.is in
+          let counted : (numbers_after line.before).statement ≡ length (statements_of syntax) =
+          ap (λ (n : node_infos.LineNumbers). n.statement) numbers_are ∙ last in
+          sym (last_line_told s more line syntax is counted fresh
+          ∙ ap (λ (n : node_infos.LineNumbers).
+          with_last old_index (path_after line.before line.text) (line_info n (fact_kind line.fact))) numbers_are
+          ∙ ap (λ (p : List Part). with_last old_index p (line_info (numbers_of numbers) (fact_kind line.fact)))
+          added.place
+          ∙ ap (λ (k : Kind). with_last old_index path (line_info (numbers_of numbers) k)) (ap fact_kind added.gives))
+
     -- where nothing is in the value, the new document is such a one
+    its_line : value_depth v ≤ 0 → HasLineAt s new path (body_fact v.body) (take are.line (lines s))
+    its_line flat =
+        insert_adds_line d.profile limit s path text.now v are.line (keys_utf8 path utf8) there.0 whole are.ends
+        (no_entries v.body v.nested value.reads.valid.nested (omega (arith, flat)))
+
     pub line_changed : value_depth v ≤ 0 → (kind : Kind) → kind ≡ fact_kind (body_fact v.body)
         → IsIndexChange s new (change.AddedLine parent text numbers kind)
     line_changed flat kind kind_is =
         let added : IsLineAdded s new path (fact_kind (body_fact v.body)) parent text.now numbers =
-        line_added new
-        (insert_adds_line d.profile limit s path text.now v are.line (keys_utf8 path utf8) there.0 whole are.ends
-        (no_entries v.body v.nested value.reads.valid.nested (omega (arith, flat)))) in
+        line_added new (its_line flat) in
         record {
           can = can_add added;
           facts = λ u is. is
@@ -193,5 +213,23 @@ module _ (d : ProfiledText) (syntax : Syntax) (index : NodeInfos) (path : List P
               with_node old_index (place_in s numbers) (numbers_of numbers) p (fact_kind (body_fact v.body)))
               added.path_is
               ∙ added.facts;
+          nested = added.nested;
+        }
+
+    pub last_line_changed : value_depth v ≤ 0 → (kind : Kind) → kind ≡ fact_kind (body_fact v.body)
+        → numbers.statement ≡ length (statements_of syntax)
+        → IsIndexChange s new (change.AppendedLine parent text numbers kind)
+    last_line_changed flat kind kind_is last =
+        let added : IsLineAdded s new path (fact_kind (body_fact v.body)) parent text.now numbers =
+        line_added new (its_line flat) in
+        record {
+          can = (added.low, ap (node_number old_index.paths) added.path_is ∙ added.fresh);
+          facts = λ u is. is
+              ∙ ap (λ (k : Kind).
+              with_last old_index (path_numbered old_index parent.0 ++ key text.now ∷ [])
+              (line_info (numbers_of numbers) k)) kind_is
+              ∙ ap (λ (p : List Part).
+              with_last old_index p (line_info (numbers_of numbers) (fact_kind (body_fact v.body)))) added.path_is
+              ∙ last_told new (its_line flat) last;
           nested = added.nested;
         }

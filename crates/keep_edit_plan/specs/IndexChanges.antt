@@ -9,7 +9,8 @@ use Rattle.keep_meaning.specs.Meaning.{body_fact, mentions_in}
 use Rattle.keep_meaning.specs.Nodes.{fact_kind, node_number}
 use Rattle.keep_meaning.specs.OtherValues.{nodes_in_value, totals_of}
 use Rattle.keep_meaning.specs.StatementsMore.{AreNumbersAtEnd, said_next}
-use Rattle.keep_path.specs.NodeInfos.{NodeInfos, root_infos, with_kind, with_node, with_path, without_node}
+use Rattle.keep_path.specs.NodeInfos.{NodeInfos, line_info, root_infos, with_kind, with_last, with_node, with_path}
+use Rattle.keep_path.specs.NodeInfos.{without_node}
 use Rattle.keep_path.specs.NodesBelow.{AreBelow, with_value}
 use Rattle.keep_path.specs.Path.{EndsInKey, beside, key}
 pub use Rattle.keep_index_store.specs.Below.{totals_in}
@@ -25,6 +26,7 @@ use Rattle.keep_edit_plan.specs.Reading.{IsTextOfValue, telling_in}
 use Rattle.keep_edit_plan.specs.declared.plan.IndexChange.{IndexChange}
 use Rattle.keep_edit_plan.specs.declared.plan.IndexChange.TheVariants.{Kind, Key, Value, Inside, AddedLine, RemovedLine}
 use Rattle.keep_edit_plan.specs.declared.plan.IndexChange.TheVariants.{AddedValue, RemovedValue, AppendedHeader}
+use Rattle.keep_edit_plan.specs.declared.plan.IndexChange.TheVariants.{AppendedLine}
 
 -- The node is there. Where another key is its path's last one, the path ends in a key, and no node is at the new one.
 -- No node is at the path of a new line's key, and the nodes that are met before the line come first. The numbers of a
@@ -39,6 +41,8 @@ CanChange t (Inside node number old) = node.0 < length t.paths
 CanChange t (AddedLine parent text line kind) =
     (parent.0 < length t.paths) × (node_number t.paths (path_numbered t parent.0 ++ key text.now ∷ []) ≡ None)
     × IsPlaceOf (numbers_of line) t.infos (met_before (numbers_of line) t.infos)
+CanChange t (AppendedLine parent text line kind) =
+    (parent.0 < length t.paths) × (node_number t.paths (path_numbered t parent.0 ++ key text.now ∷ []) ≡ None)
 CanChange t (RemovedLine node line) = node.0 < length t.paths
 CanChange t (AddedValue parent text line value old) =
     (parent.0 < length t.paths) × (node_number t.paths (path_numbered t parent.0 ++ key text.now ∷ []) ≡ None)
@@ -61,6 +65,8 @@ IsChanged t d (Inside node number old) u =
 IsChanged t d (AddedLine parent text line kind) u =
     u ≡ with_node t (met_before (numbers_of line) t.infos) (numbers_of line)
     (path_numbered t parent.0 ++ key text.now ∷ []) kind
+IsChanged t d (AppendedLine parent text line kind) u =
+    u ≡ with_last t (path_numbered t parent.0 ++ key text.now ∷ []) (line_info (numbers_of line) kind)
 IsChanged t d (RemovedLine node line) u = u ≡ without_node t node.0 (numbers_of line)
 IsChanged t d (AddedValue parent text line value old) u =
     (v : TreeValue) → IsTextOfValue value.now v

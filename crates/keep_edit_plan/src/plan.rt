@@ -41,6 +41,14 @@ pub enum IndexChange<'a> {
         line: LineNumbers,
         kind: Kind,
     },
+    /// A line comes with these numbers, as the last statement: below a table there is one node more, by this key, which
+    /// is the last of all, with nothing below it.
+    AppendedLine {
+        parent: NodeId,
+        key: &'a str,
+        line: LineNumbers,
+        kind: Kind,
+    },
     /// The line with these numbers goes, and with it this node, below which there is nothing.
     RemovedLine {
         node: NodeId,

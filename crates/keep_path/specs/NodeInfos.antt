@@ -1,5 +1,5 @@
 -- The facts about all nodes: of each its path, and what is known of it.
-use Rattle.std.specs.Prelude.{ℕ, suc, ◌-◌, false, nat_lt, if◌then◌else◌, List, [], ◌∷◌, map, Some}
+use Rattle.std.specs.Prelude.{ℕ, suc, ◌-◌, false, nat_lt, if◌then◌else◌, List, [], ◌∷◌, ◌++◌, map, Some}
 use Rattle.std.specs.Prelude.{None, slice_set, slice_index_or}
 use Rattle.std.specs.List.{insert, remove}
 use Rattle.std.specs.Option.{option_map}
@@ -78,6 +78,10 @@ with_node t at line path k = record {
   paths = insert t.paths at path;
   infos = insert (map (renumbered later_number line) t.infos) at (line_info line k);
 }
+
+-- with a node more, after all others
+abbrev pub with_last : NodeInfos → List Part → NodeInfo → NodeInfos
+with_last t path info = record { paths = t.paths ++ path ∷ []; infos = t.infos ++ info ∷ [] }
 
 -- without the line's node
 abbrev pub without_node : NodeInfos → ℕ → LineNumbers → NodeInfos

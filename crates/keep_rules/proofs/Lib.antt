@@ -39,6 +39,7 @@ mod NestedLemmas
 mod PutLemmas
 mod LineNestedLaws
 mod StatementKnownLaws
+mod LastLineLaws
 mod NestedGrowthLemmas
 mod StatementNestedLaws
 mod InsideValueLemmas

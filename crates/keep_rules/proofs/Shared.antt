@@ -1,6 +1,7 @@
 -- What the crates above build on, in one place.
 pub use Rattle.keep_rules.proofs.AllInfoLemmas.{met_or_unmet, node_paths-distinct, infos_of, infos_set}
 pub use Rattle.keep_rules.proofs.FlatValueLemmas.{kind_of_body}
+pub use Rattle.keep_rules.proofs.LastLineLaws.{last_line_is_known}
 pub use Rattle.keep_rules.proofs.LineNestedLaws.{line_is_nested, line_leaves_nested}
 pub use Rattle.keep_rules.proofs.LinePlaceLemmas.{place_is}
 pub use Rattle.keep_rules.proofs.LookupLemmas.{child_push, no_child_root, number_is}

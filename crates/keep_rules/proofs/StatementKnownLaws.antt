@@ -1,13 +1,15 @@
 -- A header at the end adds what it says to the facts about the nodes (`statement_is_known`).
 --
--- The facts from all mentions are those from the ones of before, and then from the header's (`added_further`), if these
--- give no value to a path that is mentioned before. A header gives none (`header_gives_none`).
+-- The facts from all mentions are those from the ones of before, and then from the last statement's
+-- (`added_further`), if these give no value to a path that is mentioned before (`known_if_new`). A header gives none
+-- (`header_gives_none`).
 --
--- Theorem: `statement_is_known`.
+-- Theorems: `known_if_new` and `statement_is_known`.
 use Rattle.std.proofs.Common.{◌≡◌, ℕ, ◌^◌, ◌<◌, Bool, true, false, cond, List, [], ◌∷◌, ◌++◌, length, map, refl, sym}
 use Rattle.std.proofs.Common.{ap, ◌∙◌, arith, append-nil}
 use Rattle.std.specs.Prelude.{◌==◌}
 use Rattle.std.specs.List.{AllByRecursion, count_by}
+use Rattle.keep_syntax.specs.Numbered.{parts}
 use Rattle.keep_syntax.specs.Tree.{Document}
 use Rattle.keep_path.specs.NodeInfos.{NodeInfos}
 use Rattle.keep_path.specs.Path.{Part, key}
@@ -18,7 +20,7 @@ use Rattle.keep_meaning.specs.Marks.{Mention, Reading, Statement, element_header
 use Rattle.keep_meaning.specs.Marks.{header_prefixes, keyval, marks, passing_mentions, past, passed, start}
 use Rattle.keep_meaning.specs.Marks.{statement_mentions, through}
 use Rattle.keep_meaning.specs.Nodes.{infos_in, mention_of, node_paths, paths_with}
-use Rattle.keep_meaning.specs.StatementsMore.{reading_at_end, said_next}
+use Rattle.keep_meaning.specs.StatementsMore.{HasStatementMore, reading_at_end, said_next}
 use Rattle.keep_meaning.proofs.Shared.{marked-parts, mentions-numbered_in, numbered_from-append, paths-nodes_in}
 use Rattle.keep_rules.specs.MentionInfos.{ValuesAreNew, with_mentions}
 use Rattle.keep_rules.specs.StatementsKnown.{IsHeader, StatementIsKnown}
@@ -71,8 +73,11 @@ infos_are d =
     ap (λ (ps : List (List Part)). let t : NodeInfos = record { paths = ps; infos = infos_in d } in t)
     (ap node_paths (mentions-numbered_in d) ∙ sym (paths-nodes_in d))
 
-pub statement_is_known : StatementIsKnown
-statement_is_known d more s is last few =
+-- of any last statement
+pub known_if_new : (d more : Document) (s : Statement) → HasStatementMore d s more → length (parts more) < 2 ^ 64
+    → ValuesAreNew (node_paths (map mention_of (numbered_in d))) (said_next d s)
+    → node_infos more ≡ with_mentions (node_infos d) (said_next d s)
+known_if_new d more s last few new =
     let said : List Numbered = said_next d s in
     let all : numbered_in more ≡ numbered_in d ++ said =
     ap (numbered_from no_count start) last ∙ numbered_from-append no_count start (statements_in d) (s ∷ [])
@@ -87,7 +92,11 @@ statement_is_known d more s is last few =
     ) in
     sym (infos_are more)
     ∙ ap infos_of_mentions all
-    ∙ sym (added_further (numbered_in d) said counted
-    (none_new (node_paths (map mention_of (numbered_in d))) _ (statement_mentions (reading_at_end d) s)
-    (header_gives_none (reading_at_end d) s is)))
+    ∙ sym (added_further (numbered_in d) said counted new)
     ∙ ap (λ (t : NodeInfos). with_mentions t said) (infos_are d)
+
+pub statement_is_known : StatementIsKnown
+statement_is_known d more s is last few =
+    known_if_new d more s last few
+    (none_new (node_paths (map mention_of (numbered_in d))) _ (statement_mentions (reading_at_end d) s)
+    (header_gives_none (reading_at_end d) s is))

@@ -19,6 +19,13 @@ pub fn statement_known()
     ensures { known.StatementIsKnown }
 {}
 
+/// With one line more, as the last statement, a keyval of one key part with a new path and with nothing in its value,
+/// the facts about the nodes of a document are those of the document without it, and after them those about the line's
+/// node. The key parts are fewer than 2^64, as in a text that was read.
+pub fn last_line_known()
+    ensures { known.LastLineIsKnown }
+{}
+
 /// With one header more, as the last statement, the nodes of a document that obeys the definition rules are nested as
 /// its headers say, if those of the document without it are.
 pub fn statement_nested()

@@ -69,11 +69,21 @@ impl<'a> DocumentRef<'a> {
         let line = self.line_numbers(header);
         if value.depth() == 0 {
             let kind = value.kind();
-            return Some(IndexChange::AddedLine {
-                parent,
-                key,
-                line,
-                kind,
+            let is_last = line.statement == self.syntax.statement_count();
+            return Some(if is_last {
+                IndexChange::AppendedLine {
+                    parent,
+                    key,
+                    line,
+                    kind,
+                }
+            } else {
+                IndexChange::AddedLine {
+                    parent,
+                    key,
+                    line,
+                    kind,
+                }
             });
         }
         let totals = totals_of(self.syntax);

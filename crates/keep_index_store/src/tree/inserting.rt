@@ -1,7 +1,7 @@
 //! The tree with one key more, that of a line: its node comes between those that are there.
 ghost use Rattle.std.specs.Prelude.{◌≡◌, ◌<◌, ◌∷◌, ◌++◌, [], OnErr, OnOk, false, length, true};
 ghost use Rattle.std.specs.List.{insert};
-ghost use Rattle.keep_path.specs.NodeInfos.{line_info, with_node};
+ghost use Rattle.keep_path.specs.NodeInfos.{line_info, with_last, with_node};
 ghost use Rattle.keep_path.specs.Path.{key};
 ghost use Rattle.keep_index_store.specs.Children.{holding};
 ghost use Rattle.keep_index_store.specs.Facts.{info_of};
@@ -102,6 +102,39 @@ impl Tree {
             return Err(NotInPlace);
         }
         Ok(())
+    }
+
+    /// Adds the node of a line that is the last of its document, which a key of the table `parent` names and which has
+    /// no children. It is the last node, and the facts about all others stay.
+    ///
+    /// # Errors
+    ///
+    /// `NotInPlace` where `parent` takes no keys, or has this one, and where memory was refused. Then nothing is
+    /// changed.
+    pub fn append_key(
+        &mut self,
+        parent: usize,
+        text: &str,
+        line: LineNumbers,
+        kind: Kind,
+    ) -> Result<(), NotInPlace>
+        requires { parent < length self.old.trie }
+        ensures appended { OnOk result (node_infos self.new ≡ with_last (node_infos self.old)
+            (path_at self.old.trie parent ++ key text.now ∷ []) (line_info (numbers_of line) kind)) }
+        ensures holdings { OnOk result
+            (holdings_of self.new.trie ≡ holdings_of self.old.trie ++ holding_of kind ∷ []) }
+        ensures trie { OnOk result (IsTrie self.new.trie) }
+        ensures root { holds_at self.new.trie 0 ≡ holds_at self.old.trie 0 }
+        ensures refused { OnErr result (self.new ≡ self.old) }
+    {
+        if !self.takes_keys(parent) || self.child(parent, text).is_some() {
+            return Err(NotInPlace);
+        }
+        let facts = line_facts(line, kind);
+        match self.add_key(parent, text, Role::Value, facts, holds_of(kind)) {
+            Ok(_) => Ok(()),
+            Err(_) => Err(NotInPlace),
+        }
     }
 
     /// Whether a node can come below a table by this key, under that number.

@@ -8,7 +8,7 @@ ghost use Rattle.keep_meaning.specs.LinesMore as spec;
 ghost use Rattle.keep_meaning.specs.Meaning.{body_fact};
 ghost use Rattle.keep_meaning.specs.Nodes.{fact_kind};
 ghost use Rattle.keep_meaning.specs.OtherValues.{nodes_in_value};
-ghost use Rattle.keep_path.specs.NodeInfos.{root_infos, with_node, without_node};
+ghost use Rattle.keep_path.specs.NodeInfos.{line_info, root_infos, with_last, with_node, without_node};
 ghost use Rattle.keep_path.specs.NodesBelow.{AreBelow, with_value};
 ghost use Rattle.keep_path.specs.Path.{key};
 ghost use Rattle.keep_rules.specs.LinePlaces.{IsPlaceOf, one_more};
@@ -88,6 +88,29 @@ impl Index {
     {
         let at = first_met_from(&self.nodes, line);
         self.nodes.insert_key(parent.0, text, line, kind, at)
+    }
+
+    /// One line more is the last of the document, and defines a key of the table `parent`, decoded, with a value of
+    /// this kind, in which nothing is nested. Its node is the last, and the facts about all others stay. `line` has the
+    /// numbers of the line in the syntax. It takes the memory of one node and its key, and goes over no other node.
+    ///
+    /// # Errors
+    ///
+    /// `NotInPlace` where `parent` takes no keys or has this one, and where memory was refused; then nothing has
+    /// changed, and the index has to be built anew.
+    pub fn append_line(
+        &mut self,
+        parent: NodeId,
+        text: &str,
+        line: LineNumbers,
+        kind: Kind,
+    ) -> Result<(), NotInPlace>
+        requires { parent.0 < length self.old.paths }
+        ensures appended { OnOk result (self.new ≡ with_last self.old
+            (path_numbered self.old parent.0 ++ key text.now ∷ []) (line_info (numbers_of line) kind)) }
+        ensures refused { OnErr result (self.new ≡ self.old) }
+    {
+        self.nodes.append_key(parent.0, text, line, kind)
     }
 
     /// One line more defines a key of the table `parent`, decoded, with this value: its nodes come as `insert_line` and
