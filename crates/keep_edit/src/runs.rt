@@ -332,7 +332,7 @@ impl Document {
         match edit {
             Edit::Insert(_, _) => {
                 let text = self.text.as_str();
-                !(has_header && at == text.len()) && changes.let_come(text, at)
+                !(has_header && at == text.len()) && changes.allows_line_at(text, at)
             }
             Edit::Table(_) | Edit::Element(_) => !changes.take_up_to(at),
             _ => true,

@@ -42,7 +42,7 @@ pub mod AddedItemLaws
 pub mod LineValueLaws
 pub mod LineRemovalLaws
 pub mod LineValueRemovalLaws
-pub mod TakenLineLaws
+pub mod RemovedLineLaws
 pub mod HeaderChangeLaws
 pub mod GivenLaws
 pub mod TextEditLaws

@@ -16,7 +16,7 @@ ghost use Rattle.keep_edit_plan.specs.Removing.{cut_place, KeepsNothing, KeepsGa
 ghost use Rattle.keep_edit_plan.specs.Removing.{IsRemovalFound};
 
 mod change;
-mod taken;
+mod line;
 
 use crate::document::DocumentRef;
 use crate::plan::{Plan, plan_at};

@@ -93,14 +93,14 @@ impl TextEdits {
 
     /// Whether a new line can come at this place: no edit takes the byte before it, but for one that takes a line in
     /// whose place it comes.
-    pub fn let_come(&self, text: &str, place: usize) -> bool
+    pub fn allows_line_at(&self, text: &str, place: usize) -> bool
         requires { All (IsChangeIn text.now) self.now }
         ensures { IsTrue result → All (LetsCome text.now self.now place) self.now }
     {
         for edit in self.edits.iter() {
             if edit.place.start < edit.place.end
                 && edit.place.end == place
-                && !self.leave_place(text, edit)
+                && !self.frees_place(text, edit)
             {
                 return false;
             }
@@ -110,7 +110,7 @@ impl TextEdits {
 
     /// Whether an edit writes nothing, and the line before its place says something and stays as it is, and nothing
     /// comes after that line.
-    fn leave_place(&self, text: &str, edit: &TextEdit) -> bool
+    fn frees_place(&self, text: &str, edit: &TextEdit) -> bool
         requires { edit.now.place.start ≤ length text.now }
         ensures { IsTrue result → LeavesPlace text.now self.now (change_of edit.now) }
     {
@@ -118,13 +118,13 @@ impl TextEdits {
             return false;
         }
         match said_line(text, edit.place.start) {
-            Some(line) => self.leave(line),
+            Some(line) => self.spare(line),
             None => false,
         }
     }
 
     /// Whether no edit takes one of these bytes, or writes between them or right after them.
-    fn leave(&self, bytes: Span) -> bool
+    fn spare(&self, bytes: Span) -> bool
         requires { bytes.start < bytes.end }
         ensures { IsTrue result → All (Leaves bytes) self.now }
     {

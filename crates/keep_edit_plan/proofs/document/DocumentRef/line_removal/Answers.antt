@@ -14,7 +14,7 @@ use Rattle.keep_edit_plan.specs.Removing.{cut_place}
 use Rattle.keep_edit_plan.proofs.AnswerLaws.{seen, text_seen}
 use Rattle.keep_edit_plan.proofs.FoundLaws.{value_nested}
 use Rattle.keep_edit_plan.proofs.RemoveCut.{line_arm}
-use Rattle.keep_edit_plan.proofs.TakenLineLaws.{cut_span, line_is_removed, line_within, rest_span, value_found}
+use Rattle.keep_edit_plan.proofs.RemovedLineLaws.{cut_span, line_is_removed, line_within, rest_span, value_found}
 use Rattle.keep_edit_plan.proofs.document.DocumentRef.line_removal.Goals as goal
 
 -- the bytes of a text that was copied

@@ -4,15 +4,15 @@ use Rattle.keep_edit_spec.specs.Runs.{LetsCome}
 use Rattle.keep_edit_plan.specs.TextEdits.{IsChangeIn, IsOrdered, change_of}
 use Rattle.keep_edit_plan.specs.declared.text_edit.TextEdit.{TextEdit}
 use Rattle.keep_edit_plan.proofs.TextEditLaws.{all_changes, all_further, change_at_edit, no_taker}
-use Rattle.keep_edit_plan.proofs.text_edits.TextEdits.let_come.Goals as goal
-use Rattle.keep_edit_plan.proofs.text_edits.TextEdits.let_come.Goals.{
+use Rattle.keep_edit_plan.proofs.text_edits.TextEdits.allows_line_at.Goals as goal
+use Rattle.keep_edit_plan.proofs.text_edits.TextEdits.allows_line_at.Goals.{
   else-edit-via-else-edit,
   else-edit-via-then-edit+else-edit-place,
-  else-edit-via-then-edit+then-edit-place+else-not-leave_place,
+  else-edit-via-then-edit+then-edit-place+else-not-frees_place,
 }
 
-pub leave_place-requires : goal.leave_place-requires
-leave_place-requires c =
+pub frees_place-requires : goal.frees_place-requires
+frees_place-requires c =
     let edits = c.deref-edit-items.result.now in
     let edit = c.edit-item.result in
     let all : c.args.self.now ≡ map change_of edits =
@@ -36,8 +36,8 @@ loop-edit-preserved c =
     c.loop-edit-test.true) in
     let here : LetsCome text changes place (change_of edit) =
     elim c.else-edit.branch [
-      | else-edit-via-then-edit+then-edit-place+else-not-leave_place w ↦
-          inr (w.leave_place.ensures w.if-not-leave_place.false)
+      | else-edit-via-then-edit+then-edit-place+else-not-frees_place w ↦
+          inr (w.frees_place.ensures w.if-not-frees_place.false)
       | else-edit-via-then-edit+else-edit-place w ↦ inl (no_taker place edit ordered (λ less. w.if-edit-place.false))
       | else-edit-via-else-edit w ↦
           inl (no_taker place edit ordered (λ less. absurd (omega (arith, less, w.if-edit.false))))

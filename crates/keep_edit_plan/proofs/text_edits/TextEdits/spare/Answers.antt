@@ -5,8 +5,8 @@ use Rattle.keep_edit_plan.specs.SaidSpans.{Leaves}
 use Rattle.keep_edit_plan.specs.TextEdits.{IsOrdered, change_of}
 use Rattle.keep_edit_plan.specs.declared.text_edit.TextEdit.{TextEdit}
 use Rattle.keep_edit_plan.proofs.TextEditLaws.{all_changes, all_further}
-use Rattle.keep_edit_plan.proofs.text_edits.TextEdits.leave.Goals as goal
-use Rattle.keep_edit_plan.proofs.text_edits.TextEdits.leave.Goals.{
+use Rattle.keep_edit_plan.proofs.text_edits.TextEdits.spare.Goals as goal
+use Rattle.keep_edit_plan.proofs.text_edits.TextEdits.spare.Goals.{
   else-start-bytes-via-else-start-bytes,
   else-start-bytes-via-then-start-bytes+else-bytes-end,
   else-start-end-via-else-start-end,
