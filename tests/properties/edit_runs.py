@@ -3,12 +3,13 @@
 
     tests/properties/edit_runs.py KEEP_TOML [RUNS [SEED]]
 
-Edits that come in a row are made at once, from some 20 of them on, and up to 1,000, by the document before all of them. So
-each list (of 80 edits, one in twenty of 1,100; RUNS of them, 100 if not given) is given to the program as one script, and then in
-scripts of 10, each on what the one before gave, where every edit is made by itself. Texts, faults and the number of the refused
-edit have to be the same. Most lists are of edits of one kind, a third of edits of all kinds in turn. A fifth of the lines that are
-changed have a comment. Among the edits are some that end such a row: one that is refused, one of a path that was there before
-or is in another's.
+Edits that come in a row are made at once, from some 20 of them on, or from three removes of tables with their headers, and up
+to 1,000, by the document before all of them. So each list (of 80 edits, one in twenty of 1,100; RUNS of them, 100 if not
+given) is given to the program as one script, and then in scripts of 10, or of 2 where tables are removed, each on what the
+one before gave, where every edit is made by itself. Texts, faults and the number of the refused edit have to be the same.
+Most lists are of edits of one kind, three in eleven of edits of all kinds in turn. A fifth of the lines that are changed have
+a comment. Among the edits are some that end such a row: one that is refused, one of a path that was there before or is in
+another's.
 """
 import sys
 from pathlib import Path
@@ -17,9 +18,9 @@ from random import Random
 sys.dont_write_bytecode = True
 sys.path[:0] = [str(Path(__file__).resolve().parents[2] / "tests/rows"), str(Path(__file__).resolve().parent)]
 from ask import Count, answer, in_parallel, short
-from edit_chains import KEYS, VALUES, document_of
+from edit_chains import GAPS, KEYS, VALUES, document_of
 
-RUNS, EDITS, MANY, FEW = 100, 80, 1100, 10
+RUNS, EDITS, MANY, FEW, FEW_TABLES = 100, 80, 1100, 10, 2
 REFUSED = b"keep-toml: edit "
 
 
@@ -39,10 +40,10 @@ class Run:
 
     def __init__(self, program, seed):
         self.program, self.random = program, Random(seed)
-        self.many = MANY if seed % 20 == 19 else EDITS
+        self.many, self.few = MANY if seed % 20 == 19 else EDITS, FEW
         self.text = document_of(self.random, lambda it: not self.ran([b"check"], it).returncode)
         self.entries = [tuple(it.rsplit(b"\t", 1)) for it in self.ran([b"list"], self.text).stdout.split(b"\n")[:-1]]
-        kinds = (self.inserts, self.items, self.removes, self.sets, self.renames, self.tables, self.elements)
+        kinds = (self.inserts, self.items, self.removes, self.sections, self.sets, self.renames, self.tables, self.elements)
         kinds += 3 * (self.all_kinds,)
         self.edits = self.random.choice(kinds)()
 
@@ -108,6 +109,31 @@ class Run:
         self.random.shuffle(left)
         return [edit_of(b"remove", it) for it in left]
 
+    def with_tables(self):
+        """The paths of new tables with headers, a few below others, which are put at the end of the text."""
+        random, paths, more = self.random, [], b""
+        for number in range(self.many):
+            below = paths[-1] + b"." if paths and random.random() < 0.002 else b""
+            paths.append(below + b"s_%d" % number)
+            lines = (b"%s_%d = %s\n" % (random.choice(KEYS), it, value_of(random)) for it in range(random.choice((2, 3))))
+            more += random.choice(GAPS) + b"[%s]\n" % paths[-1] + b"".join(lines)
+        end = b"" if self.text.endswith(b"\n") or not self.text else b"\n"
+        text = self.text + end + (more if random.random() < 0.9 else more.rstrip(b"\n"))
+        if self.ran([b"check"], text).returncode:
+            return []
+        self.text = text
+        return paths
+
+    def sections(self):
+        """Tables with their headers, each once; now and then something else that is there, or another edit between."""
+        random, paths = self.random, self.with_tables() + self.some_of()
+        self.few = FEW_TABLES
+        random.shuffle(paths)
+        edits = [edit_of(b"remove", it) for it in paths]
+        for number in range(random.choice((0, 0, 1, 3))):
+            edits.insert(random.randrange(len(edits) + 1), edit_of(b"insert", b"between_%d" % number, value_of(random)))
+        return edits
+
     def sets(self):
         """Values that are there, now and then one that was set before, or is in another; often with fewer or more bytes."""
         random, paths = self.random, self.with_lines()
@@ -167,8 +193,8 @@ class Run:
     def in_short_lists(self):
         """What the edits come to a few at a time: the text or the number of the refused edit and why."""
         text = self.text
-        for first in range(0, len(self.edits), FEW):
-            ran = self.ran([b"apply", b"".join(self.edits[first : first + FEW])], text)
+        for first in range(0, len(self.edits), self.few):
+            ran = self.ran([b"apply", b"".join(self.edits[first : first + self.few])], text)
             if ran.returncode:
                 number, colon, why = ran.stderr.removeprefix(REFUSED).partition(b":")
                 fault = REFUSED + b"%d" % (first + int(number)) + colon + why if number.isdigit() else ran.stderr

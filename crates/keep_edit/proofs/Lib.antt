@@ -18,3 +18,4 @@ mod SeenPathLaws
 mod KindLaws
 mod RunSteps
 mod ItemSteps
+mod SectionSteps

@@ -8,6 +8,7 @@ use Rattle.keep_path.specs.Path.{Part, key, strip}
 use Rattle.keep_edit_spec.specs.AddedItems.{AddsNextItem, IsItemRun, item_path}
 use Rattle.keep_edit_spec.specs.Edits as law
 use Rattle.keep_edit_spec.specs.Look.{keys_in}
+use Rattle.keep_edit_spec.specs.RemovedSections.{IsSectionRun, RemovesSection}
 use Rattle.keep_edit_spec.specs.Runs as runs
 use Rattle.keep_edit_spec.specs.Runs.{IsRun, LetsCome, takes_up_to}
 use Rattle.keep_edit_spec.specs.TextChanges.{TextChange, text_with}
@@ -100,3 +101,20 @@ pub record IsItemRunTo (s : Document) (edits : List Edit) (first end : ℕ) (old
     (array : List Part) (n at : ℕ) (texts : List TextChange) : Type 0 where
   pub made : AreMade s (take end edits) old (changed_text now texts)
   pub run : IsItemRun now.profile limit before array n at texts made.tree
+
+-- ---- tables
+
+-- The edit is the remove of a table that a header defines, and takes this from the document of this text: the header
+-- with its body.
+pub record RemovesSectionHere (now : ProfiledText) (edit : Edit) (t : TextEdit) : Type 0 where
+  pub path : List Part
+  pub is : IsEdit edit (law.remove path)
+  pub removes : (s : Document) → IsTextOfTree now s → RemovesSection now.profile limit s path (change_of t)
+  pub within : IsSpanOf now.text t.place
+
+-- The edits from number `first` up to number `end` are made, on a document in which those before are: they are removes
+-- of tables, and each takes its bytes of that document.
+pub record IsSectionRunTo (s : Document) (edits : List Edit) (first end : ℕ) (old now : ProfiledText)
+    (before : Document) (changes : List TextChange) : Type 0 where
+  pub made : AreMade s (take end edits) old (changed_text now changes)
+  pub run : IsSectionRun now.profile limit before changes made.tree

@@ -6,7 +6,8 @@ ghost use Rattle.std.specs.Bool.{Decides};
 ghost use Rattle.keep_syntax.specs.Tree as tree;
 ghost use Rattle.keep_edit.specs.Lists.{AreMade, StopsAt};
 ghost use Rattle.keep_edit.specs.Reading.{ProfiledText};
-ghost use Rattle.keep_edit.specs.Runs.{AddsItemHere, IsPlaceKept, MakeChanges, changed_text, writes_anew};
+ghost use Rattle.keep_edit.specs.Runs.{AddsItemHere, IsPlaceKept, MakeChanges, RemovesSectionHere, changed_text};
+ghost use Rattle.keep_edit.specs.Runs.{writes_anew};
 ghost use Rattle.keep_edit_plan.specs.TextEdits.{IsChangeIn};
 ghost use Rattle.keep_edit_spec.specs.AddedItems.{item_path};
 ghost use Rattle.keep_edit_spec.specs.Runs.{IsPlain};
@@ -18,7 +19,7 @@ use crate::seen::SeenKeys;
 use crate::seen_paths::SeenPaths;
 use keep_edit_plan::{Edit, TextEdit, TextEdits};
 use keep_edit_spec::EditFault;
-use keep_rules::{Path, Step};
+use keep_rules::{Origin, Path, Step};
 use memchr::memchr;
 
 /// No more edits than these are made at once.
@@ -195,27 +196,41 @@ impl Document {
         Ok(end)
     }
 
-    /// Whether edits take longer one by one than to read the text anew after all of them.
+    /// Whether edits take longer one by one than to read the text anew after all of them. It looks at no more of them
+    /// than that takes.
     fn is_worth_reading(&self, edits: &[Edit]) -> bool {
         let mut taken = 0usize;
         for edit in edits {
             taken = taken.saturating_add(self.part_of_reading(edit));
+            if taken > READING {
+                return true;
+            }
         }
-        taken > READING
+        false
     }
 
-    /// What it takes to make an edit alone, in parts of what it takes to read the text anew: that takes as long as 12
-    /// to 24 inserts, removes or sets of a list, and as 27 renames or sets of a scalar at 10 KB, 88 at 100 KB and some
-    /// 190 from 256 KB on; headers are so cheap that they are worth it in small texts alone.
+    /// What it takes to make an edit alone, in parts of what it takes to read the text anew: that takes as long as two
+    /// removes of tables with their headers, as 12 to 24 inserts, other removes or sets of a list, and as 27 renames or
+    /// sets of a scalar at 10 KB, 88 at 100 KB and some 190 from 256 KB on; new headers are so cheap that they are
+    /// worth it in small texts alone.
     fn part_of_reading(&self, edit: &Edit) -> usize {
         let len = self.text.len();
         let as_many = match edit {
             Edit::Set(_, value) if value.depth() > 0 => 23,
             Edit::Set(_, _) | Edit::Rename(_, _) => 20 + (len / 1500).min(170),
             Edit::Table(_) | Edit::Element(_) => 25 + len / 600,
+            Edit::Remove(path) if self.has_header(path) => 2,
             Edit::Insert(_, _) | Edit::Remove(_) => 23,
         };
         READING / as_many
+    }
+
+    /// Whether a header defines the table at a path.
+    fn has_header(&self, path: &Path) -> bool {
+        match self.index.find(path) {
+            Some(id) => matches!(self.index.node(id).origin, Origin::Header(_)),
+            None => false,
+        }
     }
 
     /// How many pairs of edits may be compared in a run.
@@ -234,7 +249,11 @@ impl Document {
         let changes = self.changes_by(edits, first);
         let end = first + changes.len();
         if end == first {
-            return self.items_by(edits, first);
+            return match &edits[first] {
+                Edit::Insert(_, _) => self.items_by(edits, first),
+                Edit::Remove(_) => self.sections_by(edits, first),
+                _ => changes,
+            };
         }
         if self.is_worth_reading(&edits[first..end])
             || !is_other_kind(&edits[first], edits.get(end))
@@ -375,6 +394,37 @@ impl Document {
             return None;
         }
         self.as_ref().added_item(self.alloc(), path, before, value)
+    }
+
+    /// What the edits from number `first` on take from the text, as far as they are removes of tables with their
+    /// headers, each beside those before it. Where memory is refused, there are fewer.
+    fn sections_by(&self, edits: &[Edit], first: usize) -> TextEdits
+        requires { first < length edits.now }
+        ensures few { first + length result ≤ length edits.now }
+        ensures made { MakeChanges edits.now first (first + length result) self.now result }
+        ensures within { All (IsChangeIn self.now.text) result }
+    {
+        let mut sections = TextEdits::new(self.alloc());
+        let end = edits.len().min(first.saturating_add(MOST_AT_ONCE));
+        for number in first..end {
+            let Some(section) = self.section_by(&edits[number]) else {
+                return sections;
+            };
+            if !sections.add(section).unwrap_or(false) {
+                return sections;
+            }
+        }
+        sections
+    }
+
+    /// What an edit takes from the text, if it is the remove of a table with its header.
+    fn section_by(&self, edit: &Edit) -> Option<TextEdit>
+        ensures { IfSome result (RemovesSectionHere self.now edit.now) }
+    {
+        let Edit::Remove(path) = edit else {
+            return None;
+        };
+        self.as_ref().removed_section(self.alloc(), path)
     }
 
     /// The document of the text with these changes, which is read anew. None where memory was refused.

@@ -43,6 +43,7 @@ pub mod LineValueLaws
 pub mod LineRemovalLaws
 pub mod LineValueRemovalLaws
 pub mod RemovedLineLaws
+pub mod SectionLaws
 pub mod HeaderChangeLaws
 pub mod GivenLaws
 pub mod TextEditLaws

@@ -98,7 +98,7 @@ some_stated is number ns x e = by (list_any is (map mention_kind_of ns)) refl
 
 -- ---- by the place
 
-header_fits : (a b c d e f : Option ℕ) (n : ℕ)
+pub header_fits : (a b c d e f : Option ℕ) (n : ℕ)
     → first_that_fits (option_map origin.Value a ∷ option_map (λ i. origin.Tables) b ∷ option_map origin.Element c
     ∷ option_map origin.Header d ∷ option_map origin.Dotted e ∷ option_map origin.Through f ∷ []) ≡ origin.Header n
     → (a ≡ None) × ((c ≡ None) × (d ≡ Some n))

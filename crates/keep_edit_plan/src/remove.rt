@@ -17,6 +17,7 @@ ghost use Rattle.keep_edit_plan.specs.Removing.{IsRemovalFound};
 
 mod change;
 mod line;
+mod section;
 
 use crate::document::DocumentRef;
 use crate::plan::{Plan, plan_at};

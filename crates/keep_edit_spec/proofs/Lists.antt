@@ -92,3 +92,8 @@ pub mod NextChange
 pub mod NextItem
 pub mod ItemAdded
 pub mod ItemRunLaws
+pub mod SectionLines
+pub mod SectionAt
+pub mod SectionsApart
+pub mod StillRemovesSection
+pub mod SectionRunLaws

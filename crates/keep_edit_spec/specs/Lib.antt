@@ -24,3 +24,4 @@ pub mod RemovedLines
 pub mod AddedLines
 pub mod ClearedLines
 pub mod SaidLines
+pub mod RemovedSections

@@ -6,6 +6,7 @@ ghost use Rattle.keep_edit_spec.specs.AppendedStatements as headers;
 ghost use Rattle.keep_edit_spec.specs.KeyvalLines as keyvals;
 ghost use Rattle.keep_edit_spec.specs.Laws as spec;
 ghost use Rattle.keep_edit_spec.specs.RemovedLines as removed;
+ghost use Rattle.keep_edit_spec.specs.RemovedSections as sections;
 ghost use Rattle.keep_edit_spec.specs.RenamedKeys as keys;
 ghost use Rattle.keep_edit_spec.specs.Runs as runs;
 ghost use Rattle.keep_edit_spec.specs.SetValues as values;
@@ -133,4 +134,12 @@ pub fn runs_are_known()
 /// So is a run of inserts that each add the next item of one array.
 pub fn inserts_add_items()
     ensures { items.ItemRunGoesOn }
+{}
+
+/// A `remove` of a table with its header makes the same change after another of these made its own. So a run of them is
+/// known by the document before it.
+pub fn removes_take_sections()
+    ensures still { sections.StillRemovesSection }
+    ensures none { sections.NoneIsSectionRun }
+    ensures run { sections.SectionRunGoesOn }
 {}

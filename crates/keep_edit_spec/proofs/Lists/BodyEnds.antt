@@ -4,7 +4,7 @@
 -- length is counted up to a header, so of the bodies only the holder's can become longer: each other body ends before
 -- a header at or before that line, or begins after it (`cut_at`). So an end moves as a line does (`end_moves`).
 --
--- Theorems: `end_stays`, `closed_stays`.
+-- Theorems: `end_stays`, `closed_stays`; `header_few`: before a header.
 use Rattle.std.proofs.Common.{◌≡◌, ℕ, zero, suc, ◌+◌, ◌<◌, ◌≤◌, Bool, true, false, cond, List, [], ◌∷◌, ◌++◌, length}
 use Rattle.std.proofs.Common.{map, take, drop, refl, sym, ap, ap₂, ◌∙◌, append_assoc, length-append, arith}
 use Rattle.std.proofs.Common.{Option, Some, None, inl, inr}
@@ -81,7 +81,7 @@ header_none (header b k a) m h = refl
 header_none (element b k a) m h = refl
 
 -- Before a header it is the same, whatever comes after that.
-header_few : (pre : List Line) (l : Line) (ls : List Line) → is_header l.content ≡ true
+pub header_few : (pre : List Line) (l : Line) (ls : List Line) → is_header l.content ≡ true
     → body_length (pre ++ l ∷ ls) ≤ length pre
 header_few [] l ls h = omega (arith, header_none l.content (body_length ls) h)
 header_few (x ∷ pre) l ls h = after_few x.content (body_length (pre ++ l ∷ ls)) (length pre) (header_few pre l ls h)

@@ -4,7 +4,7 @@
 -- do not count, and a header ends the body before it. So a body's length is the same (`lengths_same`), and so is its
 -- end, if the header does not begin it once more (`ends_same`, both by induction over the lines).
 --
--- Theorem: `end_headed`.
+-- Theorems: `lengths_same`, `end_headed`.
 use Rattle.std.proofs.Common.{◌≡◌, ℕ, true, false, List, [], ◌∷◌, ◌++◌, map, refl, sym, ap, ap₂, ◌∙◌, Option, Some}
 use Rattle.std.proofs.Common.{None}
 use Rattle.keep_syntax.specs.Tree.{Content, Document, Line, blank}
@@ -16,7 +16,7 @@ use Rattle.keep_edit_spec.specs.Lines.{begins, body_length, is_header, last_line
 use Rattle.keep_edit_spec.proofs.Lists.BodyEnds.{end_at, end_cons, end_in, end_or, header_none, length_after}
 use Rattle.keep_edit_spec.proofs.Lists.HeaderLines.{headed, lines_are, not_last, put_is}
 
-lengths_same : (first more others : List Line) → body_length more ≡ body_length others
+pub lengths_same : (first more others : List Line) → body_length more ≡ body_length others
     → body_length (first ++ more) ≡ body_length (first ++ others)
 lengths_same [] more others h = h
 lengths_same (l ∷ first) more others h = ap (length_after l.content) (lengths_same first more others h)

@@ -38,7 +38,7 @@ none_left : {A : Type 0} (T : A → Bool) (y z : List A) → list_any T (y ++ z)
 none_left T [] z e = e
 none_left T (u ∷ y) z e = none_left T y z (or_parts (T u) (list_any T (y ++ z)) e).1
 
-none_of_rest : {A : Type 0} (T : A → Bool) (x y z : List A) → list_any T (x ++ (y ++ z)) ≡ false
+pub none_of_rest : {A : Type 0} (T : A → Bool) (x y z : List A) → list_any T (x ++ (y ++ z)) ≡ false
     → list_any T (x ++ z) ≡ false
 none_of_rest T [] y z e = none_left T y z e
 none_of_rest T (u ∷ x) y z e =

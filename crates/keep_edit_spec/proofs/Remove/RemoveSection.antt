@@ -6,7 +6,8 @@
 -- the rules allow only headers that go through the path (`through_earlier`, `through_later`, one case for each kind);
 -- and the edit is refused where one does (`has_through`).
 --
--- Theorem: `section_dropped`: after the section is dropped the rules hold, and the tree has changed as it should.
+-- Theorems: `section_cut`; `begins_section`; `section_dropped`: after the section is dropped the rules hold, and the
+-- tree has changed as it should.
 use Rattle.std.proofs.Common.{◌≡◌, ℕ, zero, suc, Bool, true, false, cond, List, [], ◌∷◌, ◌++◌, map, take, drop, refl}
 use Rattle.std.proofs.Common.{sym, ap, subst, ◌∙◌, append_assoc, Option, Some, None, inl, inr}
 use Rattle.std.specs.Prelude.{◌==◌}
@@ -145,7 +146,7 @@ regroup_two : (left prefixes run right : List Mention) (d : Mention)
 regroup_two left prefixes run right d = simp append_assoc refl
 
 -- a header and its body, taken out of the lines
-section_cut : (pre post : List Line) (l : Line) (b : Gap) (k : Key) (a : Gap) → l.content ≡ header b k a
+pub section_cut : (pre post : List Line) (l : Line) (b : Gap) (k : Key) (a : Gap) → l.content ≡ header b k a
     → (let r : Reading = reading_after_lines start pre in
     let p : List Part = header_path r.tables [] (keys_of k) in
     EndsInKey p → Rules (lines_mentions start (pre ++ l ∷ post))
@@ -218,7 +219,7 @@ pub record IsSection (r : Reading) (path : List Part) (c : Content) : Type 0 whe
   pub was : c ≡ header before keys after
   pub place : header_path r.tables [] (keys_of keys) ≡ path
 
-begins_section : (path : List Part) (r : Reading) (before after : Gap) (comment : Option Written) (c : Content)
+pub begins_section : (path : List Part) (r : Reading) (before after : Gap) (comment : Option Written) (c : Content)
     → EndsInKey path
     → begins path r (record { before = before; content = c; after = after; comment = comment }) ≡ true
     → IsSection r path c

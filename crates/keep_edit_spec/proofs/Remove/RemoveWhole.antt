@@ -61,7 +61,7 @@ removable profile limit s path h =
     by true false false eb ec h = absurd cc
     by true false true eb ec h = record { below_root = eb; piece = ec }
 
-two_pieces : (v d t b q : Bool) → (v || ((d && not t) || (b && not q))) ≡ true → b ≡ false
+pub two_pieces : (v d t b q : Bool) → (v || ((d && not t) || (b && not q))) ≡ true → b ≡ false
     → (v ≡ true) ⊎ ((d ≡ true) × (t ≡ false))
 two_pieces true d t b q h e = inl refl
 two_pieces false true false b q h e = inr (refl, refl)
