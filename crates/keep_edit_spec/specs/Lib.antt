@@ -25,3 +25,4 @@ pub mod AddedLines
 pub mod ClearedLines
 pub mod SaidLines
 pub mod RemovedSections
+pub mod EntryEdits

@@ -3,6 +3,7 @@ ghost use Rattle.keep_edit_spec.specs.AddedItems as items;
 ghost use Rattle.keep_edit_spec.specs.AddedLines as added;
 ghost use Rattle.keep_edit_spec.specs.AppendedHeaders as appended;
 ghost use Rattle.keep_edit_spec.specs.AppendedStatements as headers;
+ghost use Rattle.keep_edit_spec.specs.EntryEdits as entries;
 ghost use Rattle.keep_edit_spec.specs.KeyvalLines as keyvals;
 ghost use Rattle.keep_edit_spec.specs.Laws as spec;
 ghost use Rattle.keep_edit_spec.specs.RemovedLines as removed;
@@ -142,4 +143,11 @@ pub fn removes_take_sections()
     ensures still { sections.StillRemovesSection }
     ensures none { sections.NoneIsSectionRun }
     ensures run { sections.SectionRunGoesOn }
+{}
+
+/// An insert or a `remove` of an item makes what the `set` of its array makes, and one of a key in an inline table what
+/// the `set` of that table makes. So it can be in a run, as that set.
+pub fn edits_of_entries_are_sets()
+    ensures still { entries.StillMakesSet }
+    ensures run { entries.RunGoesOnByEntry }
 {}

@@ -109,7 +109,7 @@ no_scalar profile w path none valid s = s
 no_scalar profile w path (entry None body nested after comma rest) valid s = valid.nested.0
 no_scalar profile w path (entry (Some name) body nested after comma rest) valid s = valid.nested.0
 
-some_removal : (profile : Profile) (path : List Part) (body : Body) (es : Entries)
+pub some_removal : (profile : Profile) (path : List Part) (body : Body) (es : Entries)
     → IsValue profile (record { body = body; nested = es }) → IsNamedIn path 0 es
     → IsSome (removal path (record { body = body; nested = es }))
 some_removal profile path (scalar w) es valid s = absurd (no_scalar profile w path es valid s)

@@ -300,15 +300,20 @@ pub kinds_at-below : (p r : List Part) (ms : List Mention) → kinds_at (p ++ r)
 kinds_at-below p r [] = refl
 kinds_at-below p r (m ∷ ms) = kinds_at-step p r m ms (kinds_at-below p r ms) (is_at r m) refl
 
--- The facts where a run is replaced: under its path those of the run, and elsewhere those from before.
+-- What is said where a run is replaced: under its path what the run says. So its facts are those there, and elsewhere
+-- those from before.
+pub kinds_at-run : (p q r : List Part) (before new after : List Mention) → AllOf (IsDisjoint p) before
+    → AllOf (IsDisjoint p) after → strip p q ≡ Some r → kinds_at q (before ++ (new ++ after)) ≡ kinds_at q new
+kinds_at-run p q r before new after hb hh u =
+    kinds_at-append q before (new ++ after)
+    ∙ ap (λ l. l ++ kinds_at q (new ++ after)) (kinds_at-disjoint p q r before hb u)
+    ∙ kinds_at-append q new after ∙ ap (λ l. kinds_at q new ++ l) (kinds_at-disjoint p q r after hh u)
+    ∙ append-nil (kinds_at q new)
+
 pub fact_under : (p q r : List Part) (before new after : List Mention) → AllOf (IsDisjoint p) before
     → AllOf (IsDisjoint p) after → strip p q ≡ Some r → fact_at q (before ++ (new ++ after)) ≡ fact_at q new
 fact_under p q r before new after hb hh u =
-    ap (λ l. first_of (filter_map fact_of l))
-    (kinds_at-append q before (new ++ after)
-    ∙ ap (λ l. l ++ kinds_at q (new ++ after)) (kinds_at-disjoint p q r before hb u)
-    ∙ kinds_at-append q new after ∙ ap (λ l. kinds_at q new ++ l) (kinds_at-disjoint p q r after hh u)
-    ∙ append-nil (kinds_at q new))
+    ap (λ l. first_of (filter_map fact_of l)) (kinds_at-run p q r before new after hb hh u)
 
 pub fact_elsewhere : (p q : List Part) (before old new after : List Mention) → AllOf (IsUnder p) old
     → AllOf (IsUnder p) new → strip p q ≡ None

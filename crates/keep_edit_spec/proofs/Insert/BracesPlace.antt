@@ -45,7 +45,7 @@ is_inline (scalar w) = false
 is_inline (array first) = false
 is_inline (inline first) = true
 
-table_body : (body : Body) → is_table_fact (Some (body_fact body)) ≡ true → is_inline body ≡ true
+pub table_body : (body : Body) → is_table_fact (Some (body_fact body)) ≡ true → is_inline body ≡ true
 table_body (inline first) e = refl
 table_body (array first) e = absurd cc
 table_body (scalar w) e =

@@ -48,7 +48,7 @@ ended fits act rest [] v =
     elim (fits v.body) [ true ↦ or_else (act rest v) (Some (same_value v)) | false ↦ Some (same_value v) ]
 ended fits act rest (p ∷ ps) v = None
 
-can_ended : (fits : Body → Bool) (act : Act) (rest : List Part) → CanBeDone (ended fits act rest)
+pub can_ended : (fits : Body → Bool) (act : Act) (rest : List Part) → CanBeDone (ended fits act rest)
 can_ended fits act rest v = by (fits v.body) (act rest v)
   where
     by : (b : Bool) (o : Option (Changed Value))
@@ -94,8 +94,8 @@ pub record IsApt (fits : Body → Bool) (act : Act) (rest : List Part) (body : B
   pub shallow : in_entries act rest 0 nested ≡ None
   pub some : IsSome (act rest (record { body = body; nested = nested }))
 
-apt_gives : (b : Bool) (o : Option (Changed Value)) (i : Option (Changed Entries)) (v : Value) (outer : Entries → Value)
-    (left right : List ℕ) → b ≡ true → i ≡ None → IsSome o
+pub apt_gives : (b : Bool) (o : Option (Changed Value)) (i : Option (Changed Entries)) (v : Value)
+    (outer : Entries → Value) (left right : List ℕ) → b ≡ true → i ≡ None → IsSome o
     → Gives {A = Value} (elim b [ true ↦ or_else o (Some (same_value v)) | false ↦ Some (same_value v) ])
     (or_else (within outer left right i) o)
 apt_gives true (Some c) None v outer left right e k s = refl
@@ -148,7 +148,7 @@ at_some P o c e h = subst (EachTo P) e h
 of_some : {A : Type 0} (P : Changed A → Type 0) (o : Option (Changed A)) (c : Changed A) → o ≡ Some c → EachOf P o → P c
 of_some P o c e h = subst (EachOf P) e h
 
-gives_some : {A : Type 0} (o p : Option (Changed A)) (c : Changed A) → o ≡ Some c → Gives o p → p ≡ Some c
+pub gives_some : {A : Type 0} (o p : Option (Changed A)) (c : Changed A) → o ≡ Some c → Gives o p → p ≡ Some c
 gives_some {A = A} o p c e h = subst (λ (x : Option (Changed A)). Gives x p) e h
 
 module _ (profile : Profile) (fits : Body → Bool) (act : Act) (rest path dots : List Part) (s : Document) (f : Fact)

@@ -8,8 +8,9 @@
 -- so that value has the number of the path (`number_of_value`), and the facts under the path are the facts in it.
 -- `IsFoundThere` is all that together.
 --
--- Theorems: `found_there`: the act is done at that value; `put_place`: a change that takes nothing out puts its bytes
--- in at one place.
+-- Theorems: `found_facts`: the facts at the path of a value and below it; `found_kinds`: what is said below it;
+-- `found_there`: the act is done at that value; `put_place`: a change that takes nothing out puts its bytes in at one
+-- place.
 use Rattle.std.proofs.Common.{◌≡◌, ℕ, ◌+◌, Bool, true, false, List, [], ◌∷◌, ◌++◌, length, map, refl, sym, ap, subst}
 use Rattle.std.proofs.Common.{◌∙◌, arith, Option, Some, None}
 use Rattle.std.proofs.lemmas.List.{append-nil}
@@ -23,7 +24,7 @@ use Rattle.keep_path.specs.Path.{Part, same_path}
 use Rattle.keep_meaning.specs.Marks.{Mention, below, item}
 use Rattle.keep_meaning.specs.Meaning.{body_fact, valued_mentions, entries_mentions, mentions_in, mentions_of_value}
 use Rattle.keep_meaning.specs.Counts.{is_value, numbered_in}
-use Rattle.keep_meaning.specs.Nodes.{fact_at, first_of, numbered_at, last_number, value_number}
+use Rattle.keep_meaning.specs.Nodes.{fact_at, first_of, kinds_at, numbered_at, last_number, value_number}
 use Rattle.std.specs.List.{filter_map}
 use Rattle.keep_meaning.specs.Marks.{fact_of}
 use Rattle.keep_edit_spec.specs.Changed.{Changed, place_of, or_else}
@@ -31,7 +32,7 @@ use Rattle.keep_edit_spec.specs.Values.{Act, text_of_value}
 use Rattle.keep_edit_spec.specs.Edits.{nested}
 use Rattle.keep_edit_spec.specs.Insertion.{put_in}
 use Rattle.keep_edit_spec.proofs.Common.Runs.{AllOf, Rules, pairs_split, Allowed, IsDisjoint, strip-append, fact_under}
-use Rattle.keep_edit_spec.proofs.Common.Runs.{kinds_at-below}
+use Rattle.keep_edit_spec.proofs.Common.Runs.{kinds_at-below, kinds_at-run}
 use Rattle.keep_edit_spec.proofs.Common.SetLaw.{rules_below}
 use Rattle.keep_edit_spec.proofs.Common.SetDocument.{valued_facts}
 use Rattle.keep_edit_spec.proofs.Common.DoneAtValue.{EachOf}
@@ -90,6 +91,48 @@ acted fits act rest v d some nothing e = by (fits v.body) refl (act rest v) refl
     by true f None k w = absurd (same (let z : same_value v ≡ d = cc in z))
     by false f o k w = absurd (same (let z : same_value v ≡ d = cc in z))
 
+-- ---- what is said of a value that was found at a path
+
+module _ (act : Act) (path : List Part) (s : Document) (c : Changed Document)
+    (h : IsFoundIn act (Valid_document s) 0 path (mentions_in s) (syntax.values s) c) (place : h.mention.path ≡ path)
+  where
+    abbrev its : List Mention
+    its = valued_mentions h.mention.kind (entries_mentions 0 h.value.nested)
+
+    found_whole : mentions_in s ≡ h.earlier ++ (map (below path) its ++ h.further)
+    found_whole =
+        let inner : List Mention = entries_mentions 0 h.value.nested in
+        let top : h.mention ≡ below path (record { path = []; kind = h.mention.kind }) =
+        ap (λ (q : List Part). record { path = q; kind = h.mention.kind }) (place ∙ sym (append-nil path)) in
+        h.mentioned
+        ∙ ap (λ (l : List Mention). h.earlier ++ h.mention ∷ l)
+        (h.within_mentioned ∙ ap (λ (q : List Part). map (below q) inner ++ h.further) place)
+        ∙ ap (λ (m : Mention). h.earlier ++ m ∷ (map (below path) inner ++ h.further)) top
+
+    pub found_kinds : Rules (mentions_in s) → (p : Part) (ps : List Part)
+        → kinds_at (path ++ p ∷ ps) (mentions_in s) ≡ kinds_at (p ∷ ps) (mentions_of_value h.value)
+    found_kinds rules p ps =
+        let disjoint = h.disjoint rules in
+        ap (kinds_at (path ++ p ∷ ps)) found_whole
+        ∙ kinds_at-run path (path ++ p ∷ ps) (p ∷ ps) h.earlier (map (below path) its) h.further
+        (subst (λ (q : List Part). AllOf (IsDisjoint q) h.earlier) place disjoint.0)
+        (subst (λ (q : List Part). AllOf (IsDisjoint q) h.further) place disjoint.1) (strip-append path (p ∷ ps))
+        ∙ kinds_at-below path (p ∷ ps) its
+
+    pub found_facts : Rules (mentions_in s) → (q : List Part)
+        → fact_at (path ++ q) (mentions_in s) ≡ fact_at q (mentions_of_value h.value)
+    found_facts rules q =
+        let disjoint = h.disjoint rules in
+        ap (fact_at (path ++ q)) found_whole
+        ∙ fact_under path (path ++ q) q h.earlier (map (below path) its) h.further
+        (subst (λ (p : List Part). AllOf (IsDisjoint p) h.earlier) place disjoint.0)
+        (subst (λ (p : List Part). AllOf (IsDisjoint p) h.further) place disjoint.1) (strip-append path q)
+        ∙ ap (λ l. first_of (filter_map fact_of l)) (kinds_at-below path q its)
+        ∙ valued_facts h.mention.kind (item (body_fact h.value.body)) (entries_mentions 0 h.value.nested) q h.fact
+        (same_path [] q) refl
+
+-- ---- where nothing is taken out
+
 module _ (profile : Profile) (fits : Body → Bool) (act : Act) (rest path : List Part) (s : Document)
     (valid : IsDocument profile s) (rules : Rules (mentions_in s)) (takes : TakesNothing act) (c : Changed Document)
     (is : nested act (path ++ rest) s ≡ Some c) (ended_is : nested (ended fits act rest) path s ≡ Some c) where
@@ -126,15 +169,9 @@ module _ (profile : Profile) (fits : Body → Bool) (act : Act) (rest path : Lis
       subst (λ (q : List Part). AllOf (IsDisjoint q) h.earlier) place disjoint.0 in
       let after : AllOf (IsDisjoint path) h.further =
       subst (λ (q : List Part). AllOf (IsDisjoint q) h.further) place disjoint.1 in
-      let inner : List Mention = entries_mentions 0 v.nested in
-      let own : List Mention = valued_mentions h.mention.kind inner in
-      let top : h.mention ≡ below path (record { path = []; kind = h.mention.kind }) =
-      ap (λ (q : List Part). record { path = q; kind = h.mention.kind }) (place ∙ sym (append-nil path)) in
+      let own : List Mention = valued_mentions h.mention.kind (entries_mentions 0 v.nested) in
       let whole : mentions_in s ≡ h.earlier ++ (map (below path) own ++ h.further) =
-      h.mentioned
-      ∙ ap (λ (l : List Mention). h.earlier ++ h.mention ∷ l)
-      (h.within_mentioned ∙ ap (λ (q : List Part). map (below q) inner ++ h.further) place)
-      ∙ ap (λ (m : Mention). h.earlier ++ m ∷ (map (below path) inner ++ h.further)) top in
+      found_whole only path s c h place in
       let mine : Rules own =
       rules_below path own (pairs_split Allowed (map (below path) own) h.further
       (pairs_split Allowed h.earlier (map (below path) own ++ h.further) (subst Rules whole rules)).right).left in
@@ -151,12 +188,7 @@ module _ (profile : Profile) (fits : Body → Bool) (act : Act) (rest path : Lis
         whole = whole;
         disjoint_before = before;
         disjoint_after = after;
-        facts = λ q.
-            ap (fact_at (path ++ q)) whole
-            ∙ fact_under path (path ++ q) q h.earlier (map (below path) own) h.further before after
-            (strip-append path q)
-            ∙ ap (λ l. first_of (filter_map fact_of l)) (kinds_at-below path q own)
-            ∙ valued_facts h.mention.kind (item (body_fact v.body)) inner q h.fact (same_path [] q) refl;
+        facts = found_facts only path s c h place rules;
         nothing = nothing;
       }
 

@@ -67,7 +67,7 @@ array_body (scalar w) e = absurd (by w.leaf w.text (let k : scalar_fact w.leaf w
         let x : array_test (scalar_fact l t) ≡ true = ap array_test e in
         let y : array_test (scalar_fact l t) ≡ false = none_array l t in absurd cc
 
-array_at : (path : List Part) (ms : List Mention) → is_array_at path ms ≡ true → fact_at path ms ≡ Some fact.array
+pub array_at : (path : List Part) (ms : List Mention) → is_array_at path ms ≡ true → fact_at path ms ≡ Some fact.array
 array_at path ms h = by (fact_at path ms) h
   where
     by : (o : Option Fact)

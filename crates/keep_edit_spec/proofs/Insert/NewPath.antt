@@ -94,7 +94,7 @@ pub none_holds : (b : Bool) (f : EditFault) (cs : List (Bool × EditFault)) → 
 none_holds true f cs h = absurd cc
 none_holds false f cs h = (refl, h)
 
-either_false : (a b : Bool) → (a || b) ≡ false → b ≡ false
+pub either_false : (a b : Bool) → (a || b) ≡ false → b ≡ false
 either_false false b h = h
 either_false true b h = absurd cc
 

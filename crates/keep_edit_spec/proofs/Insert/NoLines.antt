@@ -5,7 +5,7 @@
 -- and nothing else is under it. So no line passes (`disjoint_fail`), apart from the line of the value itself, whose own
 -- key and value are looked at one by one.
 --
--- Theorem: `value_no_lines`.
+-- Theorems: `value_no_lines`; `value_none`, of any test of lines that say something there; `value_no_begins`.
 use Rattle.std.proofs.Common.{◌≡◌, ℕ, Bool, true, false, List, [], ◌∷◌, ◌++◌, map, refl, sym, ap, subst, ◌∙◌}
 use Rattle.std.proofs.Common.{append_assoc, Option, Some, None, inl, inr}
 use Rattle.std.specs.Prelude.{⊤}
@@ -53,7 +53,7 @@ fail_join test r [] b h g = g
 fail_join test r (l ∷ a) b h g = (h.0, fail_join test (after_line r l) a b h.1 g)
 
 -- a line that passes says something of the path
-abbrev StatesEdits : List Part → (Reading → Line → Bool) → Type 0
+abbrev pub StatesEdits : List Part → (Reading → Line → Bool) → Type 0
 StatesEdits p test = (r : Reading) (l : Line) → test r l ≡ true → SomeOf (IsNamedAt p) (line_mentions r l)
 
 disjoint_fail : (p x : List Part) (test : Reading → Line → Bool) → StatesEdits (p ++ x) test
@@ -224,3 +224,25 @@ value_no_lines s at dots rules alone =
     none_of a e f g =
         none_by (end_of s a) (last_line (leads_dotted a) start (lines s)) (last_line (leads_through a) start (lines s))
         e f g
+
+-- Nor does any line pass a test of lines that say something at or under the path, if the value's own line does not.
+pub value_none : (s : Document) (at dots : List Part) → Rules (mentions_in s) → SomeOf (IsAloneAt at) (mentions_in s)
+    → (test : Reading → Line → Bool) → StatesEdits (at ++ dots) test
+    → ((r : Reading) (l : Line) (name : Name) (v : Value) (more : List Part) → l.content ≡ keyval name v
+    → at ≡ (r.body ++ step 0 (Some name)) ++ more → test r l ≡ false)
+    → last_line test start (lines s) ≡ None
+value_none s at dots rules alone test tells own =
+    let (c, d) = line_of_value at s rules alone in
+    let r : Reading = reading_after_lines start d.pre in
+    let whole : at ++ dots ≡ (r.body ++ step 0 (Some d.name)) ++ (d.more ++ dots) =
+    ap (λ (q : List Part). q ++ dots) d.place ∙ append_assoc (r.body ++ step 0 (Some d.name)) d.more dots in
+    none_by s rules d.pre d.post d.line d.name d.value d.was d.content (d.more ++ dots) test
+    (subst (λ (q : List Part). StatesEdits q test) whole tells)
+    (own r d.line d.name d.value d.more d.content d.place)
+
+pub value_no_begins : (s : Document) (at dots : List Part) → Rules (mentions_in s)
+    → SomeOf (IsAloneAt at) (mentions_in s) → last_line (begins (at ++ dots)) start (lines s) ≡ None
+value_no_begins s at dots rules alone =
+    value_none s at dots rules alone (begins (at ++ dots)) (begins_states (at ++ dots))
+    (λ r l name v more content place.
+    let no_header : is_header l.content ≡ false = ap is_header content in rw no_header refl)

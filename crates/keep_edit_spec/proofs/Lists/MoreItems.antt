@@ -5,8 +5,8 @@
 -- from: that of the array and of its prefixes from where it was (`put_prefix`), so the array stays, and other items are
 -- as deep. The item after the last is the given one, and the one after that is none: so there is one item more.
 --
--- Theorems: `item_allowed`, `array_stays`, `one_more_item`, `others_stay`; `prefixes_alike`; `keys_same`: the index of
--- an item's path is no key.
+-- Theorems: `unrefused`: an insert of an item; `item_allowed`, `array_stays`, `one_more_item`, `others_stay`;
+-- `prefixes_alike`; `keys_same`: the index of an item's path is no key.
 use Rattle.std.proofs.Common.{◌≡◌, ℕ, suc, ◌+◌, ◌-◌, ◌<◌, ◌≤◌, ◌==◌, Bool, true, false, cond, nat_lt, List, []}
 use Rattle.std.proofs.Common.{◌∷◌, ◌++◌, map, refl, sym, ap, subst, ◌∙◌, arith, Option, Some, None, IsUtf8, inl, inr}
 use Rattle.std.specs.Prelude.{◌⊎◌}
@@ -108,6 +108,32 @@ abbrev value_of : Option Fact → Bool
 value_of None = false
 value_of (Some f) = is_value_fact f
 
+-- ---- what is not refused
+
+abbrev tests : Bool → Bool → Bool → Option EditFault
+tests few deep foreign =
+    first_that_holds ((few, fault.NotFound) ∷ (deep, fault.TooDeep) ∷ (foreign, fault.Profile) ∷ [])
+
+all_pass : (few deep foreign : Bool) → few ≡ false → deep ≡ false → foreign ≡ false → tests few deep foreign ≡ None
+all_pass few deep foreign e g h = rw (e, g, h) refl
+
+pub unrefused : (profile : Profile) (limit : ℕ) (a : List Part) (n : ℕ) (new : Value) (ms : List Mention)
+    → is_array_at a ms ≡ true → n ≤ item_count a ms → is_too_deep limit (item_path a n) new ms ≡ false
+    → is_foreign profile new ≡ false → refusal_by profile limit ms (insert (item_path a n) new) ≡ None
+unrefused profile limit a n new ms array_is enough shallow own =
+    by ∙ all_pass (nat_lt (item_count (without_last (item_path a n)) ms) n) (is_too_deep limit (item_path a n) new ms)
+    (is_foreign profile new) few shallow own
+  where
+    by : refusal_by profile limit ms (insert (item_path a n) new)
+        ≡ tests (nat_lt (item_count (without_last (item_path a n)) ms) n) (is_too_deep limit (item_path a n) new ms)
+        (is_foreign profile new)
+    by = rw (number_at a n ms array_is, refusal_by) refl
+
+    few : nat_lt (item_count (without_last (item_path a n)) ms) n ≡ false
+    few =
+        le-ltb (item_count (without_last (item_path a n)) ms) n
+        (omega (arith, ap (λ (b : List Part). item_count b ms) (without_last-snoc a (index n)), enough))
+
 -- ---- one item more
 
 module _ (profile : Profile) (limit : ℕ) (s : Document) (array : List Part) (n at : ℕ) (value : Value) where
@@ -125,32 +151,12 @@ module _ (profile : Profile) (limit : ℕ) (s : Document) (array : List Part) (n
 
   -- ---- the refusal
 
-  abbrev tests : Bool → Bool → Bool → Option EditFault
-  tests few deep foreign =
-      first_that_holds ((few, fault.NotFound) ∷ (deep, fault.TooDeep) ∷ (foreign, fault.Profile) ∷ [])
-
-  all_pass : (few deep foreign : Bool) → few ≡ false → deep ≡ false → foreign ≡ false → tests few deep foreign ≡ None
-  all_pass few deep foreign e g h = rw (e, g, h) refl
-
   item_allowed_of : HasItems profile limit s array n at → CanBeItem profile limit s array value
       → refusal profile limit s (insert path value) ≡ None
-  item_allowed_of items can = by ∙ all_pass few deep (is_foreign profile value) enough shallow can.own
+  item_allowed_of items can =
+      unrefused profile limit array n value ms items.array_is (omega (arith, items.counted)) shallow can.own
     where
-      few : Bool
-      few = nat_lt (item_count (without_last path) ms) n
-
-      deep : Bool
-      deep = is_too_deep limit path value ms
-
-      by : refusal profile limit s (insert path value) ≡ tests few deep (is_foreign profile value)
-      by = rw (number_at array n ms items.array_is, refusal_by) refl
-
-      enough : few ≡ false
-      enough =
-          le-ltb (item_count (without_last path) ms) n
-          (omega (arith, ap (λ (a : List Part). item_count a ms) (without_last-snoc array (index n)), items.counted))
-
-      shallow : deep ≡ false
+      shallow : is_too_deep limit path value ms ≡ false
       shallow =
           ap (λ (k : ℕ). nat_lt limit (k + value_depth value))
           (prefixes_alike (is_bracket_at ms) (is_bracket_at ms) array (index n) (index 0) (λ q rest e. refl))

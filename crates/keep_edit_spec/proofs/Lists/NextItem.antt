@@ -8,46 +8,43 @@
 -- Theorems: `next_placed`; `not_before`, `not_empty`: what is written for a last item is not what is written for one
 -- before another, nor is it nothing.
 use Rattle.std.proofs.Common.{◌≡◌, ℕ, zero, suc, ◌+◌, true, List, [], ◌∷◌, ◌++◌, length, refl, sym, ap, subst}
-use Rattle.std.proofs.Common.{◌∙◌, append_assoc, length-append, arith, Option, Some, None, inl, inr, map}
+use Rattle.std.proofs.Common.{◌∙◌, append_assoc, length-append, arith, Option, Some, None, inl, inr}
 use Rattle.std.specs.Prelude.{codes}
-use Rattle.std.proofs.lemmas.List.{append-nil}
 use Rattle.std.proofs.lemmas.Option.{same_Some}
 use Rattle.keep_types.specs.declared.leaf.Profile.{Profile}
 use Rattle.keep_token.specs.Pieces.{first}
-use Rattle.keep_syntax.specs.Tree.{Gap, Name, named_leaves, opening, closing, comma_leaves, Body, scalar, array, inline}
+use Rattle.keep_syntax.specs.Tree.{Gap, named_leaves, comma_leaves, Body, scalar, array, inline}
 use Rattle.keep_syntax.specs.Tree.{Entries, none, entry, Value, Document, text_of, value_text}
 use Rattle.keep_syntax.specs.Grammar.{IsValue, IsDocument}
 use Rattle.keep_syntax.proofs.Shared.{allowed_value, value_begins}
 use Rattle.keep_syntax.proofs.ValueLaws.{is_value_first}
-use Rattle.keep_path.specs.Path.{Part, key, index}
+use Rattle.keep_path.specs.Path.{Part, index}
 use Rattle.keep_meaning.specs.Fact as fact
-use Rattle.keep_meaning.specs.Meaning.{further_value, step, mentions_in}
+use Rattle.keep_meaning.specs.Meaning.{mentions_in}
 use Rattle.keep_meaning.specs.Marks.{Mention}
 use Rattle.keep_meaning.specs.Nodes.{fact_at}
-use Rattle.keep_edit_spec.specs.Look.{strip, is_array_at, item_number}
+use Rattle.keep_edit_spec.specs.Look.{is_array_at, item_number}
 use Rattle.keep_edit_spec.specs.Changed.{Changed, framed_change, within, or_else, place_of}
-use Rattle.keep_edit_spec.specs.Values.{Act, entry_prefix, entry_back, space, in_entries, in_value}
+use Rattle.keep_edit_spec.specs.Values.{entry_prefix, entry_back, space}
 use Rattle.keep_edit_spec.specs.Values.{put_before, put_after, put_item, text_of_value}
 use Rattle.keep_edit_spec.specs.Edits.{insert, change, change_insert, changed_or_same, edited_document, nested, place}
 use Rattle.keep_edit_spec.specs.Insertion.{put_in}
 use Rattle.keep_edit_spec.specs.Refusals.{refusal}
 use Rattle.keep_edit_spec.specs.Laws.{IsEditable}
 use Rattle.keep_edit_spec.proofs.Common.Texts.{in-brackets}
-use Rattle.keep_edit_spec.proofs.Common.Runs.{SomeOf, Rules, strip-sound}
-use Rattle.keep_edit_spec.proofs.Common.SetLaw.{IsAloneAt, no_entry}
+use Rattle.keep_edit_spec.proofs.Common.Runs.{Rules}
 use Rattle.keep_edit_spec.proofs.Common.Marks.{rules_of_document}
-use Rattle.keep_edit_spec.proofs.Common.ValueThere.{IsSome, some_within, some_second, alone_of_fact}
 use Rattle.keep_edit_spec.proofs.Common.DoneAtValue.{EachOf, of_within}
 use Rattle.keep_edit_spec.proofs.Common.Cuts.{last_part-snoc, without_last-snoc}
-use Rattle.keep_edit_spec.proofs.Insert.DoneThere.{IsDoneThere, ended, same_value}
-use Rattle.keep_edit_spec.proofs.Insert.Gives.{Gives, IsNamedAt}
-use Rattle.keep_edit_spec.proofs.Insert.GivesLines.{gives_nested}
+use Rattle.keep_edit_spec.proofs.Insert.DoneThere.{IsDoneThere, same_value}
+use Rattle.keep_edit_spec.proofs.Insert.Gives.{Gives}
 use Rattle.keep_edit_spec.proofs.Insert.FoundThere.{put_place}
 use Rattle.keep_edit_spec.proofs.Insert.InsertItem.{insert_item}
 use Rattle.keep_edit_spec.proofs.Insert.InsertWhole.{IsInsertedWhole}
-use Rattle.keep_edit_spec.proofs.Insert.ItemThere.{is_array, array_body, item_at, granted, put_there}
+use Rattle.keep_edit_spec.proofs.Insert.ItemThere.{is_array, item_at, granted, put_there}
 use Rattle.keep_edit_spec.proofs.Insert.ItemPlaces.{of_some}
 use Rattle.keep_edit_spec.specs.AddedItems.{separator, item_path, HasItems, CanBeItem}
+use Rattle.keep_edit_spec.proofs.Lists.AtHolder.{gives_item, put_at}
 use Rattle.keep_edit_spec.proofs.Lists.NextChange.{IsNext, Outcome, Follows, outcome_framed, nested_follows}
 
 -- ---- in entries
@@ -139,9 +136,6 @@ after_last value more (suc m)
 
 -- ---- at the array
 
-abbrev put_at : Value → ℕ → Act
-put_at new n = ended is_array (put_item new) (index n ∷ [])
-
 in_array : (more : Value) (n : ℕ) (gap : Gap) (es : Entries) (d : Changed Entries)
     → or_else (put_before n more es) (put_after [] None more es) ≡ Some d
     → put_at more n [] (record { body = array gap; nested = es })
@@ -193,94 +187,6 @@ here value more n v = by v.body v.nested
             (λ d f. in_array more (suc n) gap x.to d
             (ap (λ (o : Option (Changed Entries)). or_else o (put_after [] None more x.to)) h.few ∙ f))
             (inr (inr h.next))
-
--- ---- in a document
-
--- a path of one step ends at an entry, so nothing is done inside one
-rest_none : (ks : List (List ℕ)) (more : List Part) → map key ks ++ more ≡ [] → more ≡ []
-rest_none [] more e = e
-rest_none (k ∷ ks) more e = absurd cc
-
-one_step : (p : Part) (n : ℕ) (name : Option Name) (more : List Part) → p ∷ [] ≡ step n name ++ more → more ≡ []
-one_step p n None more e = let k : [] ≡ more = cc in sym k
-one_step p n (Some name) more e =
-    rest_none (map further_value name.key.more) more
-    (let k : [] ≡ map key (map further_value name.key.more) ++ more = cc in sym k)
-
-nothing_deeper : (more : Value) (p : Part) (n : ℕ) (es : Entries) → in_entries (put_item more) (p ∷ []) n es ≡ None
-nothing_deeper more p n none = refl
-nothing_deeper more p n (entry name body nested after comma rest) =
-    by (strip (step n name) (p ∷ [])) refl (nothing_deeper more p (n + 1) rest)
-  where
-    v : Value
-    v = record { body = body; nested = nested }
-
-    at_end : (ps : List Part) → ps ≡ [] → in_value (put_item more) ps v ≡ None
-    at_end [] e =
-        ap (λ (o : Option (Changed Entries)).
-        or_else (within (λ es. record { body = body; nested = es }) (text_of (opening body)) (text_of (closing body)) o)
-        None) (no_entry (put_item more) 0 nested)
-    at_end (q ∷ qs) e = absurd cc
-
-    by : (o : Option (List Part)) → strip (step n name) (p ∷ []) ≡ o
-        → in_entries (put_item more) (p ∷ []) (n + 1) rest ≡ None
-        → in_entries (put_item more) (p ∷ []) n (entry name body nested after comma rest) ≡ None
-    by None e further = rw (in_entries, e) (ap (within (entry name body nested after comma) _ []) further)
-    by (Some ps) e further =
-        rw (in_entries, e) (ap (within (λ (v : Value). entry name v.body v.nested after comma rest) _ _)
-        (at_end ps (one_step p n name ps (strip-sound (step n name) (p ∷ []) ps e))))
-
-some_named : (p : List Part) (ms : List Mention) → SomeOf (IsAloneAt p) ms → SomeOf (IsNamedAt (p ++ [])) ms
-some_named p [] s = absurd s
-some_named p (m ∷ ms) (inl a) = inl (a.path ∙ sym (append-nil p))
-some_named p (m ∷ ms) (inr s) = inr (some_named p ms s)
-
--- what is done at the array's own value is what is done by the path
-gives_item : (profile : Profile) (s : Document) (a : List Part) (more : Value) (n : ℕ) → IsDocument profile s
-    → Rules (mentions_in s) → fact_at a (mentions_in s) ≡ Some fact.array
-    → Gives (nested (put_at more n) a s) (nested (put_item more) (a ++ index n ∷ []) s)
-gives_item profile s a more n valid rules at =
-    gives_nested profile (put_at more n) (put_item more) (λ p ps v. refl) (index n ∷ [])
-    (λ q. fact_at (a ++ q) (mentions_in s)) [] fact.array there refl
-    (λ body nested h r k. by body nested (array_body body (k.facts [] ∙ there)))
-    a s valid rules
-    (record {
-      facts = λ q. refl;
-      named = some_named a (mentions_in s) (alone_of_fact a (mentions_in s) fact.array at refl);
-    })
-  where
-    there : fact_at (a ++ []) (mentions_in s) ≡ Some fact.array
-    there = ap (λ (x : List Part). fact_at x (mentions_in s)) (append-nil a) ∙ at
-
-    some : (gap : Gap) (nested : Entries)
-        → IsSome (put_item more (index n ∷ []) (record { body = array gap; nested = nested }))
-    some gap none = tt
-    some gap (entry name body nested after comma rest) =
-        some_within (λ es. record { body = array gap; nested = es }) (codes "[" ++ text_of gap) (codes "]")
-        (or_else (put_before n more es) (put_after [] None more es))
-        (some_second (put_before n more es) (put_after [] None more es) (some_second _ (Some _) tt))
-      where
-        es : Entries
-        es = entry name body nested after comma rest
-
-    gives : {A B : Type 0} (outer : A → B) (left right : List ℕ) (i : Option (Changed A)) (o : Option (Changed B))
-        (x : Changed B) → i ≡ None → IsSome o
-        → Gives (or_else o (Some x)) (or_else (within outer left right i) o)
-    gives outer left right None (Some c) x e h = refl
-    gives outer left right None None x e h = absurd h
-    gives outer left right (Some d) o x e h = absurd cc
-
-    by : (body : Body) (nested : Entries) → is_array body ≡ true
-        → Gives (put_at more n [] (record { body = body; nested = nested }))
-        (in_value (put_item more) (index n ∷ []) (record { body = body; nested = nested }))
-    by (scalar w) nested e = absurd cc
-    by (inline gap) nested e = absurd cc
-    by (array gap) nested e =
-        gives (λ es. record { body = array gap; nested = es }) (text_of (opening (array gap)))
-        (text_of (closing (array gap))) (in_entries (put_item more) (index n ∷ []) 0 nested)
-        (put_item more (index n ∷ []) (record { body = array gap; nested = nested }))
-        (same_value (record { body = array gap; nested = nested })) (nothing_deeper more (index n) 0 nested)
-        (some gap nested)
 
 -- ---- where it is not put
 

@@ -29,18 +29,18 @@ use Rattle.keep_edit_spec.specs.TextChanges.{TextChange}
 use Rattle.keep_edit_spec.specs.Values.{removal}
 use Rattle.keep_edit_spec.proofs.Common.Doubles.{has_some}
 use Rattle.keep_edit_spec.proofs.Common.Runs.{Rules, SomeOf, some_left, some_right}
-use Rattle.keep_edit_spec.proofs.Common.SetDocument.{keyval_alone, page_lines, whole_mentions}
-use Rattle.keep_edit_spec.proofs.Common.SetLaw.{EachTo, IsAloneAt}
+use Rattle.keep_edit_spec.proofs.Common.SetDocument.{keyval_alone, whole_mentions}
+use Rattle.keep_edit_spec.proofs.Common.SetLaw.{IsAloneAt}
 use Rattle.keep_edit_spec.proofs.Common.TableThere.{IsDefined, some_begins}
 use Rattle.keep_edit_spec.proofs.Common.ValueThere.{the_some}
 use Rattle.keep_edit_spec.proofs.Lists.HeaderLines.{last_blank}
-use Rattle.keep_edit_spec.proofs.Lists.Places.{size, width, width_more}
+use Rattle.keep_edit_spec.proofs.Lists.ForeignPath as foreign
+use Rattle.keep_edit_spec.proofs.Lists.Places.{width, width_more}
 use Rattle.keep_edit_spec.proofs.Lists.RemovedOwn.{last_or}
 use Rattle.keep_edit_spec.proofs.Lists.RemovedPlaces.{lines_here, mine}
 use Rattle.keep_edit_spec.proofs.Lists.SectionLines.{body_within}
 use Rattle.keep_edit_spec.proofs.Remove.RemoveLinePlace.{IsPageLine, head_line, page_line, tail_lines}
-use Rattle.keep_edit_spec.proofs.Remove.RemoveLines.{IsFound, IsLastLine, IsOwnLine, LinesCleared, found, lines_cleared}
-use Rattle.keep_edit_spec.proofs.Remove.RemoveLines.{own_line}
+use Rattle.keep_edit_spec.proofs.Remove.RemoveLines.{IsOwnLine}
 use Rattle.keep_edit_spec.proofs.Remove.RemoveRefusal.{no_both}
 use Rattle.keep_edit_spec.proofs.Remove.RemoveSectionPlace.{after_length}
 use Rattle.keep_edit_spec.proofs.Remove.RemoveWhole.{shared_define}
@@ -65,24 +65,10 @@ module _ (s : Document) (path : List Part) (rules : Rules (mentions_in s))
       (some_left (IsAloneAt path) mid (lines_mentions r post) alone))) rules
 
   pub none_own : last_line (mine path) start (lines s) ≡ None
-  none_own = by (last_line (mine path) start (lines s)) refl
-    where
-      by : (o : Option ℕ) → last_line (mine path) start (lines s) ≡ o → last_line (mine path) start (lines s) ≡ None
-      by None e = e
-      by (Some n) e =
-          let h : IsLastLine (mine path) start (lines s) n =
-          subst (IsFound (mine path) start (lines s)) e (found (mine path) start (lines s)) in
-          absurd (not_own h.pre h.line h.post h.was
-          (own_line path (reading_after_lines start h.pre) h.line.content h.passes))
+  none_own = foreign.none_own s path not_own
 
   pub bare : in_lines (clear_line path) start s.ended s.last ≡ None
-  bare = by (in_lines (clear_line path) start s.ended s.last) refl (lines_cleared path start s.ended s.last)
-    where
-      by : (o : Option (Changed Page)) → in_lines (clear_line path) start s.ended s.last ≡ o
-          → EachTo (λ p. LinesCleared start path (lines s) (page_lines p)) o
-          → in_lines (clear_line path) start s.ended s.last ≡ None
-      by None e h = e
-      by (Some p) e h = absurd (not_own h.pre h.old h.post h.was h.own)
+  bare = foreign.bare s path not_own
 
 -- ---- lines that are dropped in a row
 

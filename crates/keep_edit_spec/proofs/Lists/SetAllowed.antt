@@ -60,7 +60,7 @@ some_there path (m ∷ ms) (inl h) =
     rw here refl
 some_there path (m ∷ ms) (inr h) = or_true (is_at path m) (list_any (is_at path) ms) (some_there path ms h)
 
-node_alone : (path : List Part) (ms : List Mention) → SomeOf (IsAloneAt path) ms → is_node path ms ≡ true
+pub node_alone : (path : List Part) (ms : List Mention) → SomeOf (IsAloneAt path) ms → is_node path ms ≡ true
 node_alone path ms h = or_true (is_root path) (list_any (is_at path) ms) (some_there path ms h)
 
 -- ---- what is no prefix of a path is none of a prefix of it

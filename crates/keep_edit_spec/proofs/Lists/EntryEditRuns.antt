@@ -1,0 +1,47 @@
+-- A run of edits goes on by an insert or a remove of an entry, as by the set of the value that holds it.
+--
+-- That set makes its change after the run (`later`), where the value's bytes are as before (`kept`). So the edit does
+-- what the set does there (EntryEdits), and the run with the set is one with the edit.
+--
+-- Theorem: `run_goes_on_by_entry`.
+use Rattle.std.proofs.Common.{ℕ, sym, subst}
+use Rattle.keep_types.specs.declared.leaf.Profile.{Profile}
+use Rattle.keep_syntax.specs.Tree.{Document, Value}
+use Rattle.keep_path.specs.Path.{Part}
+use Rattle.std.specs.Prelude.{List, ◌∷◌}
+use Rattle.keep_edit_spec.specs.Edits.{Edit, append_element, append_table, insert, remove, rename, set}
+use Rattle.keep_edit_spec.specs.EntryEdits.{RunGoesOnByEntry, MakesSet}
+use Rattle.keep_edit_spec.specs.Laws.{IsEditable, IsLawfulEdit}
+use Rattle.keep_edit_spec.specs.Runs.{IsRun, IsRunLonger}
+use Rattle.keep_edit_spec.specs.SetValues.{SetsValue}
+use Rattle.keep_edit_spec.specs.TextChanges.{TextChange, moved_past, with_change}
+use Rattle.keep_edit_spec.proofs.EditLaws.{insert_lawful, remove_lawful}
+use Rattle.keep_edit_spec.proofs.Lists.EntryEdits.{still_makes_set}
+use Rattle.keep_edit_spec.proofs.Lists.MadeChanges.{within_text}
+use Rattle.keep_edit_spec.proofs.Lists.RunLaws.{run_goes_on}
+
+entry_lawful : (profile : Profile) (limit : ℕ) (s : Document) (e : Edit) (a : List Part) (value : Value)
+    (c : TextChange)
+    → IsEditable profile limit s → MakesSet profile limit s e a value c → IsLawfulEdit profile limit s e
+entry_lawful profile limit s (insert path new) a value c fine h =
+    insert_lawful profile limit s path new fine h.of_entry.given h.of_entry.utf8 h.allowed
+entry_lawful profile limit s (remove path) a value c fine h = remove_lawful profile limit s path fine h.allowed
+entry_lawful profile limit s (set path new) a value c fine h = absurd h.of_entry
+entry_lawful profile limit s (rename path name) a value c fine h = absurd h.of_entry
+entry_lawful profile limit s (append_table keys) a value c fine h = absurd h.of_entry
+entry_lawful profile limit s (append_element keys) a value c fine h = absurd h.of_entry
+
+pub run_goes_on_by_entry : RunGoesOnByEntry
+run_goes_on_by_entry profile limit s edits changes now e a value c r h alone beside =
+    let there : TextChange = moved_past changes c in
+    let is_now : SetsValue profile limit now a value there = r.later (set a value) c h.sets alone beside tt in
+    let longer : IsRunLonger profile limit s edits changes now (set a value) c =
+    run_goes_on profile limit s edits changes now (set a value) c r h.sets alone beside tt in
+    let still : MakesSet profile limit now e a value there =
+    still_makes_set profile limit s e a value c now there r.first r.editable h is_now
+    (r.kept c beside (within_text profile limit s (set a value) c r.first h.sets)) in
+    record {
+      allowed = still.allowed;
+      lawful = entry_lawful profile limit now e a value there r.editable still;
+      run = subst (IsRun profile limit s (set a value ∷ edits) (with_change changes c)) (sym still.same) longer.run;
+    }
