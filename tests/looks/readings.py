@@ -7,7 +7,7 @@ throws away what it read, meets every contract. So this is looked at: each name 
 these crates where READ_BY says, once in each of these functions, and nowhere else. No edit is among them; `copied` reads the
 document's text for a list of edits, once, and `with_changes` the text after many edits of a list that are made at once; and
 where a value changes the index, its own text is read once more: that of a given value by `nodes_of_value` or `set_value`, that
-of a touched line's value by `set_inside`.
+of a touched line's value by `set_inside`. For a list of edits `holder_set` reads the text that a value has with an entry more or less.
 
 Comments, contracts and proofs are not looked at. The functions are found by the layout of `rt fmt` (bodies.py).
 """
@@ -44,7 +44,11 @@ READ_BY = {
         # many edits of a list at once
         DOCUMENT + "with_changes",
     ],
-    "read_in": [DOCUMENT + "read"],
+    "read_in": [
+        DOCUMENT + "read",
+        # what a value is with an entry more or less, of its own text
+        "keep_edit_plan document::DocumentRef::holder_set",
+    ],
     "read_owned_in": [DOCUMENT + "read_owned"],
     "read_owned": [],
     # what reads a given value once more

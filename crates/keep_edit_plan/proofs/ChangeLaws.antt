@@ -1,7 +1,7 @@
 -- Edits that are found to make a change of a document: what is known of the plan of each is what the law of runs wants.
 --
 -- Theorems: `insert_here`, `remove_here`: an insert that adds a line, and a remove that takes one, or leaves it with
--- its comment; `plan_there`, `planned_is`, `by_set_or_rename`, `by_header`: by the plan.
+-- its comment; `ok_there`, `planned_is`, `sets_here`, `by_set_or_rename`, `by_header`: by the plan.
 use Rattle.std.proofs.Common.{◌≡◌, ◌<◌, ◌≤◌, ◌+◌, ◌-◌, ℕ, List, [], true, refl, sym, ap, subst, ◌∙◌, arith}
 use Rattle.std.proofs.Common.{IsCharBoundary, Option, Some, None, inl, inr}
 use Rattle.std.specs.Prelude.{Err, IfSome, Ok, Result, String, Vec, string_bytes, ◌⊎◌}
@@ -20,6 +20,7 @@ use Rattle.keep_edit_spec.specs.Edits as law
 use Rattle.keep_edit_spec.specs.Edits.{key_with, place}
 use Rattle.keep_edit_spec.specs.Refusals.{refusal}
 use Rattle.keep_edit_spec.specs.Runs.{MakesChange}
+use Rattle.keep_edit_spec.specs.SetValues.{SetsValue}
 use Rattle.keep_edit_spec.specs.TextChanges.{place_of_change}
 use Rattle.keep_edit_spec.specs.TextEnds.{ends_in_newline}
 use Rattle.keep_edit_spec.proofs.Shared.{rename_has_bytes, set_has_bytes, append_place}
@@ -87,11 +88,11 @@ planned_is old s e plan h = by (refusal_in old s e) refl h
     by None is k = (is, k.made.0)
     by (Some f) is k = absurd cc
 
--- what is known of an answer is known of the plan in it
-pub plan_there : (P : Result Plan EditFault → Type 0) (r : Result Plan EditFault) (plan : Plan)
-    → Some plan ≡ result_ok r → P r → P (Ok plan)
-plan_there P (Ok found) plan is h = let same : found ≡ plan = cc in subst (λ (p : Plan). P (Ok p)) same h
-plan_there P (Err f) plan is h = absurd cc
+-- what is known of an answer is known of what is in it
+pub ok_there : {A E : Type 0} (P : Result A E → Type 0) (r : Result A E) (a : A) → Some a ≡ result_ok r → P r
+    → P (Ok a)
+ok_there {A} {E} P (Ok found) a is h = let same : found ≡ a = cc in subst (λ (x : A). P (Ok x)) same h
+ok_there {A} {E} P (Err f) a is h = absurd cc
 
 -- what is written is the change that is known of it
 place_is : (p : Place) (t : TextEdit) → IsMadeAt p t → t.place.start ≤ t.place.end → p ≡ place_of_change (change_of t)
@@ -127,22 +128,26 @@ module _ (now : ProfiledText) (x : Edit) (t : TextEdit) (h : IsPlannedHere now x
     within = h.within;
   }
 
+  -- it sets that value
+  pub sets_here : (path : List Part) (given : List ℕ) → x ≡ edit.Set path given → (v : Value) → IsTextOfValue given v
+      → (s : Document) → IsTextOfTree now s → SetsValue now.profile limit s path v (change_of t)
+  sets_here path given is v value s read =
+      let e : law.Edit = law.set path v in
+      let (allowed, made) = h.planned s read e (subst (λ (y : Edit). IsEdit y e) (sym is) (v, value, refl)) in
+      record {
+        given = record { valid = value.reads.valid; obeys = value.obeys };
+        allowed = allowed;
+        some = size_some (place s e) t made
+            (set_has_bytes now.profile limit s path v (editable now s read) allowed);
+        is = place_is (place s e) t made h.within.ordered;
+      }
+
   set_here : (path : List Part) (given : List ℕ) → x ≡ edit.Set path given → MakesChangeHere now x t
   set_here path given is =
       let (v, value, same) = subst (λ (y : Edit). IsEdit y h.edit) is h.is in
-      let e : law.Edit = law.set path v in
       makes_here (λ s read.
-      let (allowed, made) = h.planned s read h.edit h.is in
-      let allowed_set : refusal now.profile limit s e ≡ None =
-      subst (λ (f : law.Edit). refusal now.profile limit s f ≡ None) same allowed in
-      let made_set : IsMadeAt (place s e) t = subst (λ (f : law.Edit). IsMadeAt (place s f) t) same made in
-      subst (λ (f : law.Edit). MakesChange now.profile limit s f (change_of t)) (sym same) (record {
-        given = record { valid = value.reads.valid; obeys = value.obeys };
-        allowed = allowed_set;
-        some = size_some (place s e) t made_set
-            (set_has_bytes now.profile limit s path v (editable now s read) allowed_set);
-        is = place_is (place s e) t made_set h.within.ordered;
-      }))
+      subst (λ (f : law.Edit). MakesChange now.profile limit s f (change_of t)) (sym same)
+      (sets_here path given is v value s read))
 
   rename_here : (path : List Part) (name : String Global) → x ≡ edit.Rename path name
       → MakesChangeHere now x t

@@ -49,4 +49,5 @@ pub mod GivenLaws
 pub mod TextEditLaws
 pub mod SaidLaws
 pub mod ChangeLaws
+pub mod HolderSetLaws
 pub mod Shared

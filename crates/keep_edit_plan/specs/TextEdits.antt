@@ -1,10 +1,15 @@
 -- Edits of one text, and what changes of the text they are.
-use Rattle.std.specs.Prelude.{◌≡◌, ◌+◌, ◌-◌, ◌≤◌, ℕ, List, None, IsCharBoundary, string_bytes}
-use Rattle.keep_syntax.specs.Tree.{Document}
+use Rattle.std.specs.Prelude.{◌≡◌, ◌+◌, ◌-◌, ◌≤◌, ◌++◌, ◌∷◌, [], ℕ, List, None, IsCharBoundary, string_bytes}
+use Rattle.keep_syntax.specs.Tree.{Document, Value, text}
+use Rattle.keep_path.specs.Path.{Part}
+use Rattle.keep_meaning.specs.Meaning.{mentions_in}
+use Rattle.keep_meaning.specs.Nodes.{fact_at}
 use Rattle.keep_edit_spec.specs.Edits as law
-use Rattle.keep_edit_spec.specs.Edits.{place}
+use Rattle.keep_edit_spec.specs.Edits.{edited_document, place}
+use Rattle.keep_edit_spec.specs.EntryEdits.{CanHold, MakesSet}
 use Rattle.keep_edit_spec.specs.Refusals.{refusal}
 use Rattle.keep_edit_spec.specs.Runs.{MakesChange}
+use Rattle.keep_edit_spec.specs.SetValues.{SetsValue}
 use Rattle.keep_edit_spec.specs.TextChanges.{TextChange, change_at}
 use Rattle.keep_edit_plan.specs.Answers.{IsMadeAt, IsSpanOf}
 use Rattle.keep_edit_plan.specs.Given.{IsEdit}
@@ -37,4 +42,33 @@ pub record IsPlannedHere (now : ProfiledText) (x : Edit) (t : TextEdit) : Type 0
   pub is : IsEdit x edit
   pub planned : (s : Document) → IsTextOfTree now s → (e : law.Edit) → IsEdit x e
       → (refusal now.profile limit s e ≡ None) × IsMadeAt (place s e) t
+  pub within : IsSpanOf now.text t.place
+
+-- ---- an edit of an entry, as a set of the value that holds it
+
+-- What the path's last step leads from can have such an entry. The edit is not refused, and the text with it is that
+-- with this value set there.
+pub record IsSetOfHolder (now : ProfiledText) (x : Edit) (path : List Part) (t : TextEdit) : Type 0 where
+  pub edit : law.Edit
+  pub is : IsEdit x edit
+  pub holder : List Part
+  pub part : Part
+  pub whole : path ≡ holder ++ part ∷ []
+  pub value : Value
+  pub holds : (s : Document) → IsTextOfTree now s → CanHold (fact_at holder (mentions_in s)) part
+  pub allowed : (s : Document) → IsTextOfTree now s → refusal now.profile limit s edit ≡ None
+  pub sets : (s : Document) → IsTextOfTree now s → SetsValue now.profile limit s holder value (change_of t)
+  pub same : (s : Document) → IsTextOfTree now s
+      → text (edited_document s edit) ≡ text (edited_document s (law.set holder value))
+  pub within : IsSpanOf now.text t.place
+
+-- The edit is of an entry, and makes of the document of this text what the set of its holder to this value makes, which
+-- changes the text so.
+pub record MakesSetHere (now : ProfiledText) (x : Edit) (t : TextEdit) : Type 0 where
+  pub edit : law.Edit
+  pub is : IsEdit x edit
+  pub holder : List Part
+  pub value : Value
+  pub makes : (s : Document) → IsTextOfTree now s
+      → MakesSet now.profile limit s edit holder value (change_of t)
   pub within : IsSpanOf now.text t.place

@@ -29,7 +29,7 @@ impl<'a> DocumentRef<'a> {
     }
 
     /// What the plan of an edit writes; None where it is refused, and where memory was refused.
-    fn planned(&self, alloc: Global, edit: &Edit) -> Option<TextEdit>
+    pub(crate) fn planned(&self, alloc: Global, edit: &Edit) -> Option<TextEdit>
         ensures { IfSome result (IsPlannedHere self.now edit.now) }
     {
         let plan = self.plan(alloc, edit).ok()?;

@@ -9,6 +9,7 @@ mod document;
 mod edit;
 mod header;
 mod holder;
+mod holder_set;
 mod insert;
 mod inside;
 mod newline;

@@ -1,6 +1,6 @@
 use Rattle.std.specs.Prelude.{IfOk}
 use Rattle.keep_edit_plan.specs.Plans.{EditPlanned, IsPlanOf}
-use Rattle.keep_edit_plan.proofs.ChangeLaws.{plan_there, planned_is}
+use Rattle.keep_edit_plan.proofs.ChangeLaws.{ok_there, planned_is}
 use Rattle.keep_edit_plan.proofs.document.DocumentRef.planned.Goals as goal
 
 pub returns : goal.returns
@@ -14,6 +14,6 @@ returns c =
       is = given;
       planned = λ s read f its.
           planned_is now s f plan
-          (plan_there (EditPlanned s f now) c.plan.result plan is (c.plan.ensures.planned s read f its));
-      within = (plan_there (λ r. IfOk r (IsPlanOf now)) c.plan.result plan is c.plan.ensures.of_edit).0.within;
+          (ok_there (EditPlanned s f now) c.plan.result plan is (c.plan.ensures.planned s read f its));
+      within = (ok_there (λ r. IfOk r (IsPlanOf now)) c.plan.result plan is c.plan.ensures.of_edit).0.within;
     }
