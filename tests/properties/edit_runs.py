@@ -7,7 +7,7 @@ Edits that come in a row are made at once, from some 20 of them on, or from thre
 to 1,000, by the document before all of them. So each list (of 80 edits, one in twenty of 1,100; RUNS of them, 100 if not
 given) is given to the program as one script, and then in scripts of 10, or of 2 where tables are removed, each on what the
 one before gave, where every edit is made by itself. Texts, faults and the number of the refused edit have to be the same.
-Most lists are of edits of one kind, three in eleven of edits of all kinds in turn. A fifth of the lines that are changed have
+Most lists are of edits of one kind, a quarter of them of edits of all kinds in turn. A fifth of the lines that are changed have
 a comment. Among the edits are some that end such a row: one that is refused, one of a path that was there before or is in
 another's.
 """
@@ -44,7 +44,7 @@ class Run:
         self.text = document_of(self.random, lambda it: not self.ran([b"check"], it).returncode)
         self.entries = [tuple(it.rsplit(b"\t", 1)) for it in self.ran([b"list"], self.text).stdout.split(b"\n")[:-1]]
         kinds = (self.inserts, self.items, self.removes, self.sections, self.sets, self.renames, self.tables, self.elements)
-        kinds += 3 * (self.all_kinds,)
+        kinds += (self.parts,) + 3 * (self.all_kinds,)
         self.edits = self.random.choice(kinds)()
 
     def ran(self, words, given):
@@ -166,9 +166,54 @@ class Run:
         arrays = self.random.choice(([b"els"], [b"els", b"more.els"], [b"els", b"els.in"], [b"a_1.b.c", b"a_1.b.d", b"a_1"]))
         return self.headers(b"element", lambda number: self.random.choice(arrays[: 1 if number == 0 else None]))
 
+    def with_holders(self):
+        """The paths of new arrays and inline tables, each with how many entries it has; keys are k0, k1 and so on."""
+        random, lines, holders = self.random, b"[held]\n", []
+        for number in range(self.many):
+            count, gap = random.choice((0, 1, 2, 3)), random.choice((b"", b" "))
+            values = [value_of(random) for _ in range(count)]
+            if random.random() < 0.6:
+                between = random.choice((b", ", b",", b",\n  ", b" , # one\n  "))
+                text = b"[" + gap + between.join(values) + random.choice((gap, b",\n" if count else b"\n", b" # end\n")) + b"]"
+                holders.append((b"held.h_%d" % number, count, True))
+            else:
+                text = b"{" + gap + b", ".join(b"k%d = %s" % it for it in enumerate(values)) + gap + b"}"
+                holders.append((b"held.h_%d" % number, count, False))
+            lines += b"h_%d = %s%s\n" % (number, text, random.choice((b"", b"", b"  # some")))
+        text = self.text + (b"" if self.text.endswith(b"\n") or not self.text else b"\n") + lines
+        if self.ran([b"check"], text).returncode:
+            return []
+        self.text = text
+        return holders
+
+    def part(self, path, count, is_array):
+        """An edit of an entry of one of these: one is inserted or removed; now and then one that can't be."""
+        random = self.random
+        at = random.randrange(count + 1)
+        step = lambda number: path + (b"[%d]" if is_array else b".k%d") % number
+        if at < count and random.random() < 0.5:
+            return edit_of(b"remove", step(at))
+        end = at if is_array and random.random() < 0.99 else count + (random.random() < 0.01)
+        return edit_of(b"insert", step(end), value_of(random))
+
+    def parts(self):
+        """Entries of arrays and inline tables, mostly one of each, and sets between; now and then a second one."""
+        random, holders = self.random, self.with_holders()
+        random.shuffle(holders)
+        edits = []
+        for path, count, is_array in holders:
+            if random.random() < 0.2:
+                edits.append(edit_of(b"set", path, value_of(random)))
+            else:
+                edits.append(self.part(path, count, is_array))
+                if random.random() < 0.01:
+                    edits.append(random.choice(edits))
+        return edits
+
     def all_kinds(self):
         """Edits of all kinds in turn, nearly all of paths apart; now and then some newlines have a carriage return."""
         random, paths = self.random, self.with_lines() + self.some_of()
+        holders = self.with_holders() if random.random() < 0.5 else []
         random.shuffle(paths)
         new = lambda path, number: b".".join([*path.split(b".")[:-1], random.choice(KEYS) + b"_more_%d" % number])
         if random.random() < 0.2:
@@ -178,7 +223,9 @@ class Run:
         edits = []
         for number, path in enumerate(paths):
             kind = random.choice((b"insert", b"insert", b"remove", b"remove", b"set", b"rename", b"table", b"element"))
-            if kind == b"table":
+            if holders and random.random() < 0.3:
+                edits.append(self.part(*holders.pop()))
+            elif kind == b"table":
                 edits.append(edit_of(kind, b"tables_%d" % number))
             elif kind == b"element":
                 edits.append(edit_of(kind, b"elements_%d" % (number if random.random() < 0.9 else number // 2)))

@@ -16,6 +16,7 @@ mod KeysOnPath
 mod SeenLaws
 mod SeenPathLaws
 mod KindLaws
+mod InRuns
 mod RunSteps
 mod ItemSteps
 mod SectionSteps

@@ -1,12 +1,10 @@
 -- One edit more of a list, by its law: the edits before it are made, and it is not refused.
 --
--- Theorems: `more_made`: then it is made too; `tree_after`: and its document is the edited one; `taken_more`: the part
--- of the list with one edit more.
-use Rattle.std.proofs.Common.{◌≡◌, ◌<◌, ◌≤◌, ◌-◌, ◌+◌, ◌∷◌, ◌++◌, [], ℕ, suc, List, length, length-drop, take, drop}
+-- Theorems: `more_made`: then it is made too; `tree_after`: and its document is the edited one.
+use Rattle.std.proofs.Common.{◌≡◌, ◌<◌, ℕ, suc, List, length, take}
 use Rattle.std.proofs.Common.{get_or, refl, sym}
-use Rattle.std.proofs.Common.{ap, subst, ◌∙◌, arith, Option, None, slice_range}
+use Rattle.std.proofs.Common.{ap, subst, ◌∙◌, arith, Option, None}
 use Rattle.std.specs.Prelude.{IsUtf8, Ok}
-use Rattle.std.proofs.lemmas.List.{get_or-drop, take_more}
 use Rattle.keep_syntax.specs.Tree.{Document, text}
 use Rattle.keep_edit_spec.specs.declared.fault.EditFault.{EditFault}
 use Rattle.keep_edit_spec.specs.Changed.{put}
@@ -60,13 +58,3 @@ module _ (now : ProfiledText) (t : Document) (e : law.Edit) (read : IsTextOfTree
   -- a document of the text that was made is the edited one
   pub tree_after : (u : Document) → IsTextOfTree (text_in now.profile bytes) u → edited_document t e ≡ u
   tree_after u h = one_tree (text_in now.profile bytes) (edited_document t e) u text_made.tree h
-
--- with one edit more
-pub taken_more : (edits : List Edit) (first n : ℕ) (d : Edit) → first ≤ n → n < length edits
-    → slice_range edits first (suc n) ≡ slice_range edits first n ++ get_or edits n d ∷ []
-taken_more edits first n d low lt =
-    ap (λ (k : ℕ). take k (drop first edits)) (let e : suc n - first ≡ (n - first) + 1 = omega (arith, low) in e)
-    ∙ take_more (drop first edits) (n - first) d (omega (arith, lt, low, length-drop first edits))
-    ∙ ap (λ (e : Edit). take (n - first) (drop first edits) ++ e ∷ [])
-    (get_or-drop first edits (n - first) d
-    ∙ ap (λ (k : ℕ). get_or edits k d) (let e : first + (n - first) ≡ n = omega (arith, low) in e))

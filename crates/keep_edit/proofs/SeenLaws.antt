@@ -7,27 +7,26 @@
 --
 -- Theorems: `text_added`, `texts_stay`, `key_added`: one more key; `goes_on`: after it; `seen_as`: an edit that is seen
 -- so; `not_below`: a path that has no such step; `insert_alone`, `rename_alone`, `table_alone`, `alone_as`: one that
--- leaves alone those seen; `was_added`, `none_seen`, `more_seen`: the edits of a list that are seen.
-use Rattle.std.proofs.Common.{◌≡◌, ◌-◌, ◌<◌, ◌≤◌, ◌∷◌, [], ℕ, suc, All, Bool, Bor, Global, List, None, Some}
-use Rattle.std.proofs.Common.{BuildHasherDefault, FoldHasher, String, Vec, cond, drop, false, get_or, length, take}
-use Rattle.std.proofs.Common.{refl, true, slice_get, slice_range, string_bytes, sym, ap, subst, ◌∙◌, arith}
+-- leaves alone those seen; `was_added`, `more_seen`: the edits of a list that are seen.
+use Rattle.std.proofs.Common.{◌≡◌, ◌-◌, ◌∷◌, ◌++◌, [], ℕ, All, Bool, Bor, Global, List, None, Some}
+use Rattle.std.proofs.Common.{BuildHasherDefault, FoldHasher, String, cond, false, length, take}
+use Rattle.std.proofs.Common.{refl, true, slice_get, sym, subst, ◌∙◌, arith}
 use Rattle.std.specs.Prelude.{Err, IfOk, IsTrue, Ok, Result, bytes_eq}
 use Rattle.std.specs.HashSet.{HashSet, Updates, contains_by}
 use Rattle.std.specs.List.{list_any}
 use Rattle.std.specs.Result.{result_unwrap_or}
 use Rattle.std.specs.declared.alloc.AllocError.{AllocError}
 use Rattle.std.proofs.lemmas.List.{take_all}
-use Rattle.std.proofs.lemmas.List.Elements.{All-nil, All-push, All-weaker}
+use Rattle.std.proofs.lemmas.List.Elements.{All-push, All-weaker}
 use Rattle.keep_path.specs.Path.{Part, key, strip}
 use Rattle.keep_edit_spec.specs.Runs.{IsNoStep}
 use Rattle.keep_edit_plan.specs.Headers.{key_texts}
-use Rattle.keep_edit_plan.specs.declared.edit.Edit.{Edit}
-use Rattle.keep_edit_plan.specs.declared.edit.Edit.TheVariants.{Element, Insert, Remove, Rename, Set, Table}
+use Rattle.keep_edit.specs.declared.outline.Outline.{Outline}
+use Rattle.keep_edit.specs.declared.outline.Outline.TheVariants.{Element, Insert, Remove, Rename, Set, Table}
 use Rattle.keep_edit.specs.Runs.{LeavesAlone}
 use Rattle.keep_edit.specs.Seen.{EndsIn, GoesOn, HasKey, HasKeysOf, IsSeen}
 use Rattle.keep_edit.specs.declared.seen.SeenKeys.{SeenKeys}
 use Rattle.keep_edit.proofs.AlikeLaws.{begins_with, none_unless, renamed_parts, same_steps}
-use Rattle.keep_edit.proofs.MadeMore.{taken_more}
 
 -- ---- one more key
 
@@ -61,10 +60,10 @@ pub key_added : (seen : SeenKeys) (keys : Texts) (k : Bor (List ℕ))
 key_added seen keys k updates =
     let (here, on) = text_added seen.keys keys k updates in (here, (refl, on))
 
-pub seen_as : (old new : SeenKeys) (f x y : Edit) → GoesOn old new → old.first.now ≡ f → x ≡ y → HasKeysOf new f y
+pub seen_as : (old new : SeenKeys) (f x y : Outline) → GoesOn old new → old.first ≡ f → x ≡ y → HasKeysOf new f y
     → IsSeen new x
 seen_as old new f x y on first is h =
-    subst (λ e. HasKeysOf new e x) (sym first ∙ ap (λ (e : Bor Edit). e.now) (sym on.0))
+    subst (λ e. HasKeysOf new e x) (sym first ∙ sym on.0)
     (subst (HasKeysOf new f) (sym is) h)
 
 pub goes_on : (a b c : SeenKeys) → GoesOn a b → GoesOn b c → GoesOn a c
@@ -85,45 +84,45 @@ pub not_below : (p path : List Part) (last : List ℕ) → EndsIn p (key last) �
 not_below p path last ends lacks =
     none_unless (strip p path) (λ h. lacks (length p - 1) (last_step p path (begins_with p path h).1 (key last) ends))
 
-pub alone_as : (seen : SeenKeys) (f x y : Edit) → seen.first.now ≡ f → x ≡ y
-    → ((e : Edit) → HasKeysOf seen f e → LeavesAlone e y) → (e : Edit) → IsSeen seen e → LeavesAlone e x
+pub alone_as : (seen : SeenKeys) (f x y : Outline) → seen.first ≡ f → x ≡ y
+    → ((e : Outline) → HasKeysOf seen f e → LeavesAlone e y) → (e : Outline) → IsSeen seen e → LeavesAlone e x
 alone_as seen f x y first is all e h =
     subst (LeavesAlone e) (sym is) (all e (subst (λ g. HasKeysOf seen g e) first h))
 
 module _ (seen : SeenKeys) where
-  pub insert_alone : (f path : List Part) (v value : List ℕ)
+  pub insert_alone : (f path : List Part)
       → ((text : List ℕ) → EndsIn path (key text) → ¬ HasKey seen text)
-      → (e : Edit) → HasKeysOf seen (Insert f v) e → LeavesAlone e (Insert path value)
-  insert_alone f path v value lacks (Insert p w) (text, ends, has) =
+      → (e : Outline) → HasKeysOf seen (Insert f) e → LeavesAlone e (Insert path)
+  insert_alone f path lacks (Insert p) (text, ends, has) =
       λ same. lacks text (subst (λ (l : List Part). EndsIn l (key text)) same ends) has
-  insert_alone f path v value lacks (Remove p) h = absurd h
-  insert_alone f path v value lacks (Set p w) h = absurd h
-  insert_alone f path v value lacks (Rename p w) h = absurd h
-  insert_alone f path v value lacks (Table ks) h = absurd h
-  insert_alone f path v value lacks (Element ks) h = absurd h
+  insert_alone f path lacks (Remove p) h = absurd h
+  insert_alone f path lacks (Set p) h = absurd h
+  insert_alone f path lacks (Rename p w) h = absurd h
+  insert_alone f path lacks (Table ks) h = absurd h
+  insert_alone f path lacks (Element ks) h = absurd h
 
-  pub rename_alone : (f path : List Part) (v name : String Global)
+  pub rename_alone : (f path : List Part) (v name : Bor (List ℕ))
       → ((n : ℕ) (text : List ℕ) → slice_get path n ≡ Some (key text) → ¬ HasKey seen text)
-      → ¬ HasKey seen (string_bytes name)
-      → (e : Edit) → HasKeysOf seen (Rename f v) e → LeavesAlone e (Rename path name)
-  rename_alone f path v name lacks new (Insert p w) h = absurd h
+      → ¬ HasKey seen name.now
+      → (e : Outline) → HasKeysOf seen (Rename f v) e → LeavesAlone e (Rename path name)
+  rename_alone f path v name lacks new (Insert p) h = absurd h
   rename_alone f path v name lacks new (Remove p) h = absurd h
-  rename_alone f path v name lacks new (Set p w) h = absurd h
+  rename_alone f path v name lacks new (Set p) h = absurd h
   rename_alone f path v name lacks new (Rename p w) (text, ends, has, its) = record {
     below = not_below p path text ends (λ n is. lacks n text is has);
     new = λ same.
-        let parts = renamed_parts (length p - 1) p path (string_bytes w) (string_bytes name) refl same in
+        let parts = renamed_parts (length p - 1) p path w.now name.now refl same in
         new (subst (HasKey seen) parts.0 its);
   }
   rename_alone f path v name lacks new (Table ks) h = absurd h
   rename_alone f path v name lacks new (Element ks) h = absurd h
 
-  pub table_alone : (f more : Vec (String Global) Global)
-      → ((text : List ℕ) → EndsIn (key_texts more.items) text → ¬ HasKey seen text)
-      → (e : Edit) → HasKeysOf seen (Table f) e → LeavesAlone e (Table more)
-  table_alone f more lacks (Insert p w) h = absurd h
+  pub table_alone : (f more : Bor (List (String Global)))
+      → ((text : List ℕ) → EndsIn (key_texts more.now) text → ¬ HasKey seen text)
+      → (e : Outline) → HasKeysOf seen (Table f) e → LeavesAlone e (Table more)
+  table_alone f more lacks (Insert p) h = absurd h
   table_alone f more lacks (Remove p) h = absurd h
-  table_alone f more lacks (Set p w) h = absurd h
+  table_alone f more lacks (Set p) h = absurd h
   table_alone f more lacks (Rename p w) h = absurd h
   table_alone f more lacks (Table ks) (text, ends, has) =
       λ same. lacks text (subst (λ (l : List (List ℕ)). EndsIn l text) same ends) has
@@ -137,16 +136,7 @@ was_added P (Ok true) h e = h refl
 was_added P (Ok false) h e = absurd cc
 was_added P (Err f) h e = absurd cc
 
-pub none_seen : (P : Edit → Type 0) (edits : List Edit) (first : ℕ) → All P (slice_range edits first first)
-none_seen P edits first =
-    let none : 0 ≡ first - first = omega arith in
-    subst (λ (n : ℕ). All P (take n (drop first edits))) none (All-nil P)
-
 -- where what holds of an edit holds of it with one more key, too
-pub more_seen : (P Q : Edit → Type 0) (edits : List Edit) (first n : ℕ) (d x : Edit) → first ≤ n → n < length edits
-    → get_or edits n d ≡ x → ((e : Edit) → P e → Q e) → Q x → All P (slice_range edits first n)
-    → All Q (slice_range edits first (suc n))
-more_seen P Q edits first n d x low lt is on here all =
-    subst (All Q) (sym (taken_more edits first n d low lt))
-    (All-push Q (slice_range edits first n) (get_or edits n d) (All-weaker P Q on (slice_range edits first n) all)
-    (subst Q (sym is) here))
+pub more_seen : (P Q : Outline → Type 0) (outlines : List Outline) (x : Outline) → ((o : Outline) → P o → Q o) → Q x
+    → All P outlines → All Q (outlines ++ x ∷ [])
+more_seen P Q outlines x on here all = All-push Q outlines x (All-weaker P Q on outlines all) here

@@ -8,8 +8,8 @@
 -- Theorems: `all_before`: one step or key more; `insert_alone`, `remove_alone`, `set_alone`, `rename_alone`,
 -- `table_alone`, `element_alone`, `alone_as`: an edit that all of those leave alone; `headless`: where there is no
 -- header.
-use Rattle.std.proofs.Common.{◌≡◌, ◌-◌, ◌<◌, ◌∷◌, ◌++◌, [], ℕ, zero, suc, Global, List, Some, String, Vec}
-use Rattle.std.proofs.Common.{false, inl, inr, length, map, option_map, refl, slice_get, string_bytes, subst, sym}
+use Rattle.std.proofs.Common.{◌≡◌, ◌-◌, ◌<◌, ◌∷◌, ◌++◌, [], ℕ, zero, suc, Bor, Global, List, Some, String}
+use Rattle.std.proofs.Common.{false, inl, inr, length, map, option_map, refl, slice_get, subst, sym}
 use Rattle.std.proofs.Common.{◌+◌, ◌∙◌, ap, arith}
 use Rattle.std.proofs.lemmas.Bool.{cases_lt}
 use Rattle.std.proofs.lemmas.List.{length-map}
@@ -19,9 +19,9 @@ use Rattle.keep_edit_spec.specs.Look.{keys_in}
 use Rattle.keep_edit_spec.specs.Runs as runs
 use Rattle.keep_edit_spec.specs.Runs.{AreApart, IsNoStep, PassesBy}
 use Rattle.keep_edit_plan.specs.Headers.{key_texts}
-use Rattle.keep_edit_plan.specs.declared.edit.Edit.{Edit}
-use Rattle.keep_edit_plan.specs.declared.edit.Edit.TheVariants.{Element, Insert, Remove, Rename, Set, Table}
-use Rattle.keep_edit.specs.Runs.{LeavesAlone, outline}
+use Rattle.keep_edit.specs.declared.outline.Outline.{Outline}
+use Rattle.keep_edit.specs.declared.outline.Outline.TheVariants.{Element, Insert, Remove, Rename, Set, Table}
+use Rattle.keep_edit.specs.Runs.{LeavesAlone, outlined}
 use Rattle.keep_edit.specs.Seen.{EndsIn}
 use Rattle.keep_edit.specs.SeenPaths.{HasEnd, HasNames, HasPath, HasStep, IsSeen, MissesNames, MissesPath}
 use Rattle.keep_edit.specs.declared.seen_paths.SeenPaths.{SeenPaths}
@@ -145,82 +145,82 @@ module _ (seen : SeenPaths) where
     passes_new keys p name (λ n is. m.all n name (name_of keys n name is) end),
   )
 
-  pub insert_alone : (path : List Part) (value : List ℕ) → MissesPath seen path
-      → (e : Edit) → IsSeen seen e → LeavesAlone e (Insert path value)
-  insert_alone path value m (Insert p w) h =
+  pub insert_alone : (path : List Part) → MissesPath seen path
+      → (e : Outline) → IsSeen seen e → LeavesAlone e (Insert path)
+  insert_alone path m (Insert p) h =
       λ same. m.lacks (h.all (length path - 1) m.last
       (subst (λ (l : List Part). slice_get l (length path - 1) ≡ Some (key m.last)) (sym same) m.ends))
-  insert_alone path value m (Remove p) h = apart p path h m
-  insert_alone path value m (Set p w) h = apart p path h m
-  insert_alone path value m (Rename p w) (h, end, step) = (apart p path h m, λ n is. m.all n (string_bytes w) is end)
-  insert_alone path value m (Table ks) (h, header) = passes_later (key_texts ks.items) path h m
-  insert_alone path value m (Element ks) (h, header) = passes_later (key_texts ks.items) path h m
+  insert_alone path m (Remove p) h = apart p path h m
+  insert_alone path m (Set p) h = apart p path h m
+  insert_alone path m (Rename p w) (h, end, step) = (apart p path h m, λ n is. m.all n w.now is end)
+  insert_alone path m (Table ks) (h, header) = passes_later (key_texts ks.now) path h m
+  insert_alone path m (Element ks) (h, header) = passes_later (key_texts ks.now) path h m
 
   pub remove_alone : (path : List Part) → MissesPath seen path
-      → (e : Edit) → IsSeen seen e → LeavesAlone e (Remove path)
-  remove_alone path m (Insert p w) h = apart p path h m
+      → (e : Outline) → IsSeen seen e → LeavesAlone e (Remove path)
+  remove_alone path m (Insert p) h = apart p path h m
   remove_alone path m (Remove p) h = tt
-  remove_alone path m (Set p w) h = apart p path h m
-  remove_alone path m (Rename p w) (h, end, step) = (apart p path h m, λ n is. m.all n (string_bytes w) is end)
-  remove_alone path m (Table ks) (h, header) = passes_later (key_texts ks.items) path h m
-  remove_alone path m (Element ks) (h, header) = passes_later (key_texts ks.items) path h m
+  remove_alone path m (Set p) h = apart p path h m
+  remove_alone path m (Rename p w) (h, end, step) = (apart p path h m, λ n is. m.all n w.now is end)
+  remove_alone path m (Table ks) (h, header) = passes_later (key_texts ks.now) path h m
+  remove_alone path m (Element ks) (h, header) = passes_later (key_texts ks.now) path h m
 
-  pub set_alone : (path : List Part) (value : List ℕ) → MissesPath seen path
-      → (e : Edit) → IsSeen seen e → LeavesAlone e (Set path value)
-  set_alone path value m (Insert p w) h = apart p path h m
-  set_alone path value m (Remove p) h = apart p path h m
-  set_alone path value m (Set p w) h = tt
-  set_alone path value m (Rename p w) (h, end, step) = (apart p path h m, λ n is. m.all n (string_bytes w) is end)
-  set_alone path value m (Table ks) (h, header) = passes_later (key_texts ks.items) path h m
-  set_alone path value m (Element ks) (h, header) = passes_later (key_texts ks.items) path h m
+  pub set_alone : (path : List Part) → MissesPath seen path
+      → (e : Outline) → IsSeen seen e → LeavesAlone e (Set path)
+  set_alone path m (Insert p) h = apart p path h m
+  set_alone path m (Remove p) h = apart p path h m
+  set_alone path m (Set p) h = tt
+  set_alone path m (Rename p w) (h, end, step) = (apart p path h m, λ n is. m.all n w.now is end)
+  set_alone path m (Table ks) (h, header) = passes_later (key_texts ks.now) path h m
+  set_alone path m (Element ks) (h, header) = passes_later (key_texts ks.now) path h m
 
-  pub rename_alone : (path : List Part) (name : String Global) → MissesPath seen path
-      → ¬ HasEnd seen (string_bytes name) × ¬ HasStep seen (string_bytes name)
-      → (e : Edit) → IsSeen seen e → LeavesAlone e (Rename path name)
-  rename_alone path name m new (Insert p w) h =
-      (apart p path h m, λ n is. new.1 (h.all n (string_bytes name) is))
-  rename_alone path name m new (Remove p) h = (apart p path h m, λ n is. new.1 (h.all n (string_bytes name) is))
-  rename_alone path name m new (Set p w) h = (apart p path h m, λ n is. new.1 (h.all n (string_bytes name) is))
+  pub rename_alone : (path : List Part) (name : Bor (List ℕ)) → MissesPath seen path
+      → ¬ HasEnd seen name.now × ¬ HasStep seen name.now
+      → (e : Outline) → IsSeen seen e → LeavesAlone e (Rename path name)
+  rename_alone path name m new (Insert p) h =
+      (apart p path h m, λ n is. new.1 (h.all n name.now is))
+  rename_alone path name m new (Remove p) h = (apart p path h m, λ n is. new.1 (h.all n name.now is))
+  rename_alone path name m new (Set p) h = (apart p path h m, λ n is. new.1 (h.all n name.now is))
   rename_alone path name m new (Rename p w) (h, end, step) = record {
     below = (apart p path h m).0;
     new = λ same.
-        let parts = renamed_parts (length p - 1) p path (string_bytes w) (string_bytes name) refl same in
+        let parts = renamed_parts (length p - 1) p path w.now name.now refl same in
         new.0 (subst (HasEnd seen) parts.0 end);
   }
   rename_alone path name m new (Table ks) (h, header) =
-      later_name (key_texts ks.items) path (string_bytes name) h m new.1
+      later_name (key_texts ks.now) path name.now h m new.1
   rename_alone path name m new (Element ks) (h, header) =
-      later_name (key_texts ks.items) path (string_bytes name) h m new.1
+      later_name (key_texts ks.now) path name.now h m new.1
 
-  pub table_alone : (more : Vec (String Global) Global) → MissesNames seen (key_texts more.items)
-      → (e : Edit) → IsSeen seen e → LeavesAlone e (Table more)
-  table_alone more m (Insert p w) h = passes_earlier (key_texts more.items) p m h
-  table_alone more m (Remove p) h = passes_earlier (key_texts more.items) p m h
-  table_alone more m (Set p w) h = passes_earlier (key_texts more.items) p m h
-  table_alone more m (Rename p w) (h, end, step) = earlier_name (key_texts more.items) p (string_bytes w) m h end
+  pub table_alone : (more : Bor (List (String Global))) → MissesNames seen (key_texts more.now)
+      → (e : Outline) → IsSeen seen e → LeavesAlone e (Table more)
+  table_alone more m (Insert p) h = passes_earlier (key_texts more.now) p m h
+  table_alone more m (Remove p) h = passes_earlier (key_texts more.now) p m h
+  table_alone more m (Set p) h = passes_earlier (key_texts more.now) p m h
+  table_alone more m (Rename p w) (h, end, step) = earlier_name (key_texts more.now) p w.now m h end
   table_alone more m (Table ks) (h, header) =
-      λ same. m.lacks (h.all (length (key_texts more.items) - 1) m.last
-      (subst (λ (l : List (List ℕ)). slice_get l (length (key_texts more.items) - 1) ≡ Some m.last) (sym same) m.ends))
-  table_alone more m (Element ks) (h, header) = names_apart (key_texts ks.items) (key_texts more.items) h m
+      λ same. m.lacks (h.all (length (key_texts more.now) - 1) m.last
+      (subst (λ (l : List (List ℕ)). slice_get l (length (key_texts more.now) - 1) ≡ Some m.last) (sym same) m.ends))
+  table_alone more m (Element ks) (h, header) = names_apart (key_texts ks.now) (key_texts more.now) h m
 
-  pub element_alone : (more : Vec (String Global) Global) → MissesNames seen (key_texts more.items)
-      → (e : Edit) → IsSeen seen e → LeavesAlone e (Element more)
-  element_alone more m (Insert p w) h = passes_earlier (key_texts more.items) p m h
-  element_alone more m (Remove p) h = passes_earlier (key_texts more.items) p m h
-  element_alone more m (Set p w) h = passes_earlier (key_texts more.items) p m h
-  element_alone more m (Rename p w) (h, end, step) = earlier_name (key_texts more.items) p (string_bytes w) m h end
-  element_alone more m (Table ks) (h, header) = names_apart (key_texts ks.items) (key_texts more.items) h m
-  element_alone more m (Element ks) (h, header) = inr (names_apart (key_texts ks.items) (key_texts more.items) h m)
+  pub element_alone : (more : Bor (List (String Global))) → MissesNames seen (key_texts more.now)
+      → (e : Outline) → IsSeen seen e → LeavesAlone e (Element more)
+  element_alone more m (Insert p) h = passes_earlier (key_texts more.now) p m h
+  element_alone more m (Remove p) h = passes_earlier (key_texts more.now) p m h
+  element_alone more m (Set p) h = passes_earlier (key_texts more.now) p m h
+  element_alone more m (Rename p w) (h, end, step) = earlier_name (key_texts more.now) p w.now m h end
+  element_alone more m (Table ks) (h, header) = names_apart (key_texts ks.now) (key_texts more.now) h m
+  element_alone more m (Element ks) (h, header) = inr (names_apart (key_texts ks.now) (key_texts more.now) h m)
 
   -- no header was seen
-  pub headless : seen.has_header ≡ false → (e : Edit) → IsSeen seen e → runs.is_header (outline e) ≡ false
-  headless none (Insert p w) h = refl
+  pub headless : seen.has_header ≡ false → (e : Outline) → IsSeen seen e → runs.is_header (outlined e) ≡ false
+  headless none (Insert p) h = refl
   headless none (Remove p) h = refl
-  headless none (Set p w) h = refl
+  headless none (Set p) h = refl
   headless none (Rename p w) h = refl
   headless none (Table ks) (h, header) = sym header ∙ none
   headless none (Element ks) (h, header) = sym header ∙ none
 
-  pub alone_as : (x y : Edit) → x ≡ y → ((e : Edit) → IsSeen seen e → LeavesAlone e y)
-      → (e : Edit) → IsSeen seen e → LeavesAlone e x
+  pub alone_as : (x y : Outline) → x ≡ y → ((e : Outline) → IsSeen seen e → LeavesAlone e y)
+      → (e : Outline) → IsSeen seen e → LeavesAlone e x
   alone_as x y is all e h = subst (LeavesAlone e) (sym is) (all e h)

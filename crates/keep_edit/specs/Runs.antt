@@ -1,16 +1,18 @@
 -- Edits of a list that are made at once: each makes its change of the document before all of them.
-use Rattle.std.specs.Prelude.{◌≡◌, ◌≢◌, ◌⊎◌, ℕ, ◌+◌, Bool, true, false, ◌||◌, IsTrue, List, [], All, Option, drop}
-use Rattle.std.specs.Prelude.{length, map, take, slice_range, String, string_bytes}
+use Rattle.std.specs.Prelude.{◌≡◌, ◌≢◌, ◌⊎◌, ℕ, ◌+◌, Bool, true, false, if◌then◌else◌, ◌||◌, IsTrue, List, [], All}
+use Rattle.std.specs.Prelude.{Option, drop, length, map, take, String, string_bytes}
 use Rattle.std.specs.Global.{Global}
 use Rattle.std.specs.List.{list_any}
+use Rattle.keep_types.specs.declared.leaf.Profile.{Profile}
 use Rattle.keep_syntax.specs.Tree.{Document, Value, inline, none}
-use Rattle.keep_path.specs.Path.{Part, key, strip}
+use Rattle.keep_path.specs.Path.{Part, key, strip, without_last}
 use Rattle.keep_edit_spec.specs.AddedItems.{AddsNextItem, IsItemRun, item_path}
 use Rattle.keep_edit_spec.specs.Edits as law
+use Rattle.keep_edit_spec.specs.EntryEdits.{MakesSet}
 use Rattle.keep_edit_spec.specs.Look.{keys_in}
 use Rattle.keep_edit_spec.specs.RemovedSections.{IsSectionRun, RemovesSection}
 use Rattle.keep_edit_spec.specs.Runs as runs
-use Rattle.keep_edit_spec.specs.Runs.{IsRun, LetsCome, takes_up_to}
+use Rattle.keep_edit_spec.specs.Runs.{IsRun, LetsCome, MakesChange, takes_up_to}
 use Rattle.keep_edit_spec.specs.TextChanges.{TextChange, text_with}
 use Rattle.keep_edit_plan.specs.Headers.{key_texts}
 use Rattle.keep_edit_plan.specs.TextEdits.{change_of}
@@ -20,35 +22,55 @@ use Rattle.keep_edit.specs.Reading.{IsTextOfTree, ProfiledText, limit, text_in}
 use Rattle.keep_edit_plan.specs.declared.edit.Edit.{Edit}
 use Rattle.keep_edit_plan.specs.declared.text_edit.TextEdit.{TextEdit}
 use Rattle.keep_edit_plan.specs.declared.edit.Edit.TheVariants.{Element, Insert, Remove, Rename, Set, Table}
+use Rattle.keep_edit.specs.declared.outline.Outline.{Outline}
+use Rattle.keep_edit.specs.declared.outline.Outline.TheVariants as kind
 
 -- a value that stands for any
-abbrev no_value : Value
+abbrev pub no_value : Value
 no_value = record { body = inline []; nested = none }
 
--- an edit, as far as it tells which others it leaves alone: what it does, and its path and keys
-abbrev pub outline : Edit → law.Edit
-outline (Set path value) = law.set path no_value
-outline (Insert path value) = law.insert path no_value
-outline (Rename path name) = law.rename path (string_bytes name)
-outline (Remove path) = law.remove path
-outline (Table keys) = law.append_table (key_texts keys.items)
-outline (Element keys) = law.append_element (key_texts keys.items)
+-- an edit without its value
+abbrev pub plain : law.Edit → law.Edit
+plain (law.set path value) = law.set path no_value
+plain (law.insert path value) = law.insert path no_value
+plain e = e
+
+-- An edit, as far as it tells which others it leaves alone: what it does, and its path and keys. One of an entry of a
+-- value sets that value.
+abbrev pub outline : Edit → Bool → law.Edit
+outline (Set path value) entry = law.set path no_value
+outline (Insert path value) entry =
+    (if entry then law.set (without_last path) no_value else law.insert path no_value)
+outline (Rename path name) entry = law.rename path (string_bytes name)
+outline (Remove path) entry = (if entry then law.set (without_last path) no_value else law.remove path)
+outline (Table keys) entry = law.append_table (key_texts keys.items)
+outline (Element keys) entry = law.append_element (key_texts keys.items)
+
+-- what is stored of it
+abbrev pub outlined : Outline → law.Edit
+outlined (kind.Set path) = law.set path no_value
+outlined (kind.Insert path) = law.insert path no_value
+outlined (kind.Rename path name) = law.rename path name.now
+outlined (kind.Remove path) = law.remove path
+outlined (kind.Table keys) = law.append_table (key_texts keys.now)
+outlined (kind.Element keys) = law.append_element (key_texts keys.now)
 
 -- The first edit leaves the second alone, which comes after it.
-abbrev pub LeavesAlone : Edit → Edit → Type 0
-LeavesAlone x y = runs.LeavesAlone (outline x) (outline y)
+abbrev pub LeavesAlone : Outline → Outline → Type 0
+LeavesAlone x y = runs.LeavesAlone (outlined x) (outlined y)
 
 -- the edit writes a line or a header with a newline of its own
-abbrev pub writes_anew : Edit → Bool
-writes_anew x = runs.is_insert (outline x) || runs.is_header (outline x)
+abbrev pub writes_anew : Outline → Bool
+writes_anew x = runs.is_insert (outlined x) || runs.is_header (outlined x)
 
 -- An edit's place is kept by changes that are made before it. A header's is where none takes the byte before it; a
 -- line's is there too, or where one is taken in whose place it comes; and it is not at the end where headers are
 -- written.
-pub record IsPlaceKept (bytes : List ℕ) (changes : List TextChange) (x : Edit) (at : ℕ) (headers : Bool) : Type 0 where
-  pub line : runs.is_insert (outline x) ≡ true
+pub record IsPlaceKept (bytes : List ℕ) (changes : List TextChange) (x : Outline) (at : ℕ) (headers : Bool)
+    : Type 0 where
+  pub line : runs.is_insert (outlined x) ≡ true
       → All (LetsCome bytes changes at) changes × ((headers ≡ false) ⊎ (at ≢ length bytes))
-  pub header : runs.is_header (outline x) ≡ true → list_any (takes_up_to at) changes ≡ false
+  pub header : runs.is_header (outlined x) ≡ true → list_any (takes_up_to at) changes ≡ false
 
 -- what is left of keys after so many, and after those of the steps of a path
 abbrev pub rest_from : List (String Global) → ℕ → List Part
@@ -68,19 +90,33 @@ MakeChanges edits first end now changes =
     (s : Document) (old : ProfiledText) → AreMade s (take first edits) old now
     → AreMade s (take end edits) old (changed_text now changes)
 
--- The same, with what is known of the document: it is after a run of edits, which leave alone what each of these does.
-pub record IsRunTo (s : Document) (edits : List Edit) (first end : ℕ) (old now : ProfiledText) (before : Document)
-    (changes : List TextChange) : Type 0 where
+-- The edit makes its own change, or is of an entry and makes what the set of a value makes, and this stands for it in a
+-- run. That changes the text so.
+abbrev pub MakesInRun : Profile → Document → law.Edit → law.Edit → TextChange → Type 0
+MakesInRun profile s e a c =
+    ((a ≡ e) × MakesChange profile limit s e c)
+    ⊎ ((holder : List Part) × (value : Value) × (a ≡ law.set holder value) × MakesSet profile limit s e holder value c)
+
+-- so it does in the document of this text, and what stands for it has that outline
+pub record MakesInRunHere (now : ProfiledText) (x : Edit) (outline : law.Edit) (t : TextEdit) : Type 0 where
+  pub edit : law.Edit
+  pub is : IsEdit x edit
+  pub in_run : law.Edit
+  pub outline_is : (s : Document) → IsTextOfTree now s → plain in_run ≡ outline
+  pub makes : (s : Document) → IsTextOfTree now s → MakesInRun now.profile s edit in_run (change_of t)
+  pub within : IsSpanOf now.text t.place
+
+-- With the edits up to number `end` made, this is the text with the changes. It is known of the document that it is
+-- after a run of edits, which leave alone what each of these outlines does.
+pub record IsRunTo (s : Document) (edits : List Edit) (end : ℕ) (old now : ProfiledText) (before : Document)
+    (outlines : List Outline) (changes : List TextChange) : Type 0 where
   pub made : AreMade s (take end edits) old (changed_text now changes)
   pub es : List law.Edit
-  pub alone : (y : Edit) (f : law.Edit) → IsEdit y f → All (λ x. LeavesAlone x y) (slice_range edits first end)
+  pub alone : (f : law.Edit) → All (λ x. runs.LeavesAlone (outlined x) (plain f)) outlines
       → All (λ e. runs.LeavesAlone e f) es
-  pub inserts : All (λ x. runs.is_insert (outline x) ≡ true) (slice_range edits first end)
-      → All (λ e. IsTrue (runs.is_insert e)) es
-  pub headers : All (λ x. runs.is_header (outline x) ≡ true) (slice_range edits first end)
-      → All (λ e. IsTrue (runs.is_header e)) es
-  pub headless : All (λ x. runs.is_header (outline x) ≡ false) (slice_range edits first end)
-      → list_any runs.is_header es ≡ false
+  pub inserts : All (λ x. runs.is_insert (outlined x) ≡ true) outlines → All (λ e. IsTrue (runs.is_insert e)) es
+  pub headers : All (λ x. runs.is_header (outlined x) ≡ true) outlines → All (λ e. IsTrue (runs.is_header e)) es
+  pub headless : All (λ x. runs.is_header (outlined x) ≡ false) outlines → list_any runs.is_header es ≡ false
   pub run : IsRun now.profile limit before es changes made.tree
 
 -- ---- items

@@ -1,10 +1,10 @@
 -- Keys of edits of any kinds that are made at once, by which most are known to leave alone those before them.
-use Rattle.std.specs.Prelude.{◌≡◌, ℕ, IsTrue, List, Some, bytes_eq, slice_get, string_bytes, true}
+use Rattle.std.specs.Prelude.{◌≡◌, ℕ, IsTrue, List, Some, bytes_eq, slice_get, true}
 use Rattle.std.specs.HashSet.{contains_by}
 use Rattle.keep_path.specs.Path.{Part, key}
 use Rattle.keep_edit_plan.specs.Headers.{key_texts}
-use Rattle.keep_edit_plan.specs.declared.edit.Edit.{Edit}
-use Rattle.keep_edit_plan.specs.declared.edit.Edit.TheVariants.{Element, Insert, Remove, Rename, Set, Table}
+use Rattle.keep_edit.specs.declared.outline.Outline.{Outline}
+use Rattle.keep_edit.specs.declared.outline.Outline.TheVariants.{Element, Insert, Remove, Rename, Set, Table}
 use Rattle.keep_edit.specs.Seen.{EndsIn}
 use Rattle.keep_edit.specs.declared.seen_paths.SeenPaths.{SeenPaths}
 
@@ -33,14 +33,14 @@ pub record HasNames (seen : SeenPaths) (keys : List (List ℕ)) : Type 0 where
   pub all : (n : ℕ) (text : List ℕ) → slice_get keys n ≡ Some text → HasStep seen text
 
 -- the keys of an edit are among those
-abbrev pub IsSeen : SeenPaths → Edit → Type 0
-IsSeen seen (Insert path value) = HasPath seen path
+abbrev pub IsSeen : SeenPaths → Outline → Type 0
+IsSeen seen (Insert path) = HasPath seen path
 IsSeen seen (Remove path) = HasPath seen path
-IsSeen seen (Set path value) = HasPath seen path
+IsSeen seen (Set path) = HasPath seen path
 IsSeen seen (Rename path name) =
-    HasPath seen path × HasEnd seen (string_bytes name) × HasStep seen (string_bytes name)
-IsSeen seen (Table keys) = HasNames seen (key_texts keys.items) × (seen.has_header ≡ true)
-IsSeen seen (Element keys) = HasNames seen (key_texts keys.items) × (seen.has_header ≡ true)
+    HasPath seen path × HasEnd seen name.now × HasStep seen name.now
+IsSeen seen (Table keys) = HasNames seen (key_texts keys.now) × (seen.has_header ≡ true)
+IsSeen seen (Element keys) = HasNames seen (key_texts keys.now) × (seen.has_header ≡ true)
 
 -- the new ones have all keys of the old ones
 pub record GoesOn (old new : SeenPaths) : Type 0 where

@@ -1,19 +1,19 @@
 //! Which edits of a list leave one another alone, by their paths and keys.
 ghost use Rattle.std.specs.Prelude.{◌≡◌, ◌≢◌, ◌≤◌, All, IfSome, IsTrue, None, length, map, min, option_map, take};
 ghost use Rattle.std.specs.Bool.{Decides};
-ghost use Rattle.keep_edit.specs.Runs.{LeavesAlone, outline, rest_after, rest_from};
+ghost use Rattle.keep_edit.specs.Runs.{LeavesAlone, outlined, rest_after, rest_from};
 ghost use Rattle.keep_edit_spec.specs.AppendedHeaders.{AreSameOrApart};
 ghost use Rattle.keep_edit_spec.specs.RenamedKeys.{ArePathsApart};
 ghost use Rattle.keep_edit_spec.specs.Runs.{AreApart, IsNoStep, PassesBy, PassesByPaths};
 ghost use Rattle.keep_edit_plan.specs.Headers.{key_texts};
 ghost use Rattle.keep_path.specs.Path.{beside, key, strip};
 
-use keep_edit_plan::Edit;
-use keep_rules::{Path, Step};
+use crate::outline::{Outline, Steps};
+use keep_rules::Step;
 
 /// Whether two paths agree in so many steps from the first on. The last of them are compared first: paths of one list
 /// often begin alike.
-pub fn agree(path: &Path, other: &Path, count: usize) -> bool
+pub fn agree(path: &Steps, other: &Steps, count: usize) -> bool
     requires { (count ≤ length path.now) × (count ≤ length other.now) }
     ensures { Decides result (take count path.now ≡ take count other.now) }
 {
@@ -29,21 +29,21 @@ pub fn agree(path: &Path, other: &Path, count: usize) -> bool
 }
 
 /// Whether these are the same path.
-fn is_same(path: &Path, other: &Path) -> bool
+pub fn is_same(path: &Steps, other: &Steps) -> bool
     ensures { Decides result (path.now ≡ other.now) }
 {
     path.len() == other.len() && agree(path, other, path.len())
 }
 
 /// Whether a path is at another or below it.
-fn is_within(path: &Path, above: &Path) -> bool
+fn is_within(path: &Steps, above: &Steps) -> bool
     ensures { Decides result (strip above.now path.now ≢ None) }
 {
     above.len() <= path.len() && agree(path, above, above.len())
 }
 
 /// Whether two paths are the same once each has another key in place of its last step.
-fn is_renamed_alike(path: &Path, key: &str, other: &Path, other_key: &str) -> bool
+fn is_renamed_alike(path: &Steps, key: &str, other: &Steps, other_key: &str) -> bool
     ensures { Decides result (beside path.now key.now ≡ beside other.now other_key.now) }
 {
     let parents = path.len().saturating_sub(1);
@@ -51,21 +51,21 @@ fn is_renamed_alike(path: &Path, key: &str, other: &Path, other_key: &str) -> bo
 }
 
 /// Whether a rename of the second path can be made as if the first were not renamed before it.
-fn are_renamed_apart(path: &Path, key: &str, other: &Path, other_key: &str) -> bool
+fn are_renamed_apart(path: &Steps, key: &str, other: &Steps, other_key: &str) -> bool
     ensures { Decides result (ArePathsApart path.now key.now other.now other_key.now) }
 {
     !is_within(other, path) && !is_renamed_alike(path, key, other, other_key)
 }
 
 /// Whether neither of two paths is the other or below it.
-fn are_apart(path: &Path, other: &Path) -> bool
+fn are_apart(path: &Steps, other: &Steps) -> bool
     ensures { Decides result (AreApart path.now other.now) }
 {
     !agree(path, other, path.len().min(other.len()))
 }
 
 /// Whether no step of a path is this key.
-fn lacks_step(path: &Path, key: &str) -> bool
+fn lacks_step(path: &Steps, key: &str) -> bool
     ensures { Decides result (IsNoStep key.now path.now) }
 {
     for number in 0..path.len() {
@@ -114,7 +114,7 @@ fn are_keys_apart(keys: &[String], more: &[String]) -> bool
 
 /// How many keys come before the rest of some, where these begin with the keys of so many steps of a path; None where
 /// they don't.
-fn keys_on_path(keys: &[String], path: &Path, count: usize) -> Option<usize>
+fn keys_on_path(keys: &[String], path: &Steps, count: usize) -> Option<usize>
     requires { count ≤ length path.now }
     ensures rest { option_map (rest_from keys.now) result ≡ rest_after keys.now (take count path.now) }
     ensures few { IfSome result (λ n. n ≤ length keys.now) }
@@ -133,14 +133,14 @@ fn keys_on_path(keys: &[String], path: &Path, count: usize) -> Option<usize>
 }
 
 /// Whether no header of these keys is that of a path, or of a table below it.
-fn passes_by(keys: &[String], path: &Path) -> bool
+fn passes_by(keys: &[String], path: &Steps) -> bool
     ensures { Decides result (PassesBy (key_texts keys.now) path.now) }
 {
     keys_on_path(keys, path, path.len()).is_none()
 }
 
 /// The same of the path with another key in place of its last step.
-fn passes_by_renamed(keys: &[String], path: &Path, key: &str) -> bool
+fn passes_by_renamed(keys: &[String], path: &Steps, key: &str) -> bool
     ensures { Decides result (PassesBy (key_texts keys.now) (beside path.now key.now)) }
 {
     match keys_on_path(keys, path, path.len().saturating_sub(1)) {
@@ -150,55 +150,52 @@ fn passes_by_renamed(keys: &[String], path: &Path, key: &str) -> bool
 }
 
 /// Whether a header of these keys passes by all paths of an edit.
-fn passes_by_paths(keys: &[String], edit: &Edit) -> bool
-    ensures { Decides result (PassesByPaths (key_texts keys.now) (outline edit.now)) }
+fn passes_by_paths(keys: &[String], outline: &Outline) -> bool
+    ensures { Decides result (PassesByPaths (key_texts keys.now) (outlined outline.now)) }
 {
-    match edit {
-        Edit::Insert(path, _) | Edit::Remove(path) | Edit::Set(path, _) => passes_by(keys, path),
-        Edit::Rename(path, key) => {
-            passes_by(keys, path) && passes_by_renamed(keys, path, key.as_str())
+    match outline {
+        Outline::Insert(path) | Outline::Remove(path) | Outline::Set(path) => passes_by(keys, path),
+        Outline::Rename(path, key) => {
+            passes_by(keys, path) && passes_by_renamed(keys, path, key)
         }
-        Edit::Table(_) | Edit::Element(_) => false,
+        Outline::Table(_) | Outline::Element(_) => false,
     }
 }
 
 /// Whether an edit leaves alone another, which comes after it.
 #[inline(always)]
-fn leaves_alone(edit: &Edit, other: &Edit) -> bool
-    ensures { Decides result (LeavesAlone edit.now other.now) }
+fn leaves_alone(outline: &Outline, other: &Outline) -> bool
+    ensures { Decides result (LeavesAlone outline.now other.now) }
 {
-    match (edit, other) {
-        (Edit::Remove(_), Edit::Remove(_)) | (Edit::Set(_, _), Edit::Set(_, _)) => true,
-        (Edit::Insert(path, _), Edit::Insert(other, _)) => !is_same(path, other),
-        (Edit::Rename(path, key), Edit::Rename(other, other_key)) => {
-            are_renamed_apart(path, key.as_str(), other, other_key.as_str())
+    match (outline, other) {
+        (Outline::Remove(_), Outline::Remove(_)) | (Outline::Set(_), Outline::Set(_)) => true,
+        (Outline::Insert(path), Outline::Insert(other)) => !is_same(path, other),
+        (Outline::Rename(path, key), Outline::Rename(other, other_key)) => {
+            are_renamed_apart(path, key, other, other_key)
         }
-        (Edit::Table(keys), Edit::Table(more)) => !are_same_keys(keys.as_slice(), more.as_slice()),
-        (Edit::Element(keys), Edit::Element(more)) => {
-            are_same_or_apart(keys.as_slice(), more.as_slice())
-        }
-        (Edit::Table(keys), Edit::Element(more)) | (Edit::Element(keys), Edit::Table(more)) => {
-            are_keys_apart(keys.as_slice(), more.as_slice())
-        }
+        (Outline::Table(keys), Outline::Table(more)) => !are_same_keys(keys, more),
+        (Outline::Element(keys), Outline::Element(more)) => are_same_or_apart(keys, more),
+        (Outline::Table(keys), Outline::Element(more))
+        | (Outline::Element(keys), Outline::Table(more)) => are_keys_apart(keys, more),
         (
-            Edit::Table(keys) | Edit::Element(keys),
-            Edit::Insert(_, _) | Edit::Remove(_) | Edit::Set(_, _) | Edit::Rename(_, _),
-        ) => passes_by_paths(keys.as_slice(), other),
+            Outline::Table(keys) | Outline::Element(keys),
+            Outline::Insert(_) | Outline::Remove(_) | Outline::Set(_) | Outline::Rename(_, _),
+        ) => passes_by_paths(keys, other),
         (
-            Edit::Insert(_, _) | Edit::Remove(_) | Edit::Set(_, _) | Edit::Rename(_, _),
-            Edit::Table(keys) | Edit::Element(keys),
-        ) => passes_by_paths(keys.as_slice(), edit),
+            Outline::Insert(_) | Outline::Remove(_) | Outline::Set(_) | Outline::Rename(_, _),
+            Outline::Table(keys) | Outline::Element(keys),
+        ) => passes_by_paths(keys, outline),
         (
-            Edit::Rename(path, key),
-            Edit::Insert(other, _) | Edit::Remove(other) | Edit::Set(other, _),
-        ) => are_apart(path, other) && lacks_step(other, key.as_str()),
+            Outline::Rename(path, key),
+            Outline::Insert(other) | Outline::Remove(other) | Outline::Set(other),
+        ) => are_apart(path, other) && lacks_step(other, key),
         (
-            Edit::Insert(path, _) | Edit::Remove(path) | Edit::Set(path, _),
-            Edit::Rename(other, key),
-        ) => are_apart(path, other) && lacks_step(path, key.as_str()),
-        (Edit::Insert(path, _), Edit::Remove(other) | Edit::Set(other, _))
-        | (Edit::Remove(path), Edit::Insert(other, _) | Edit::Set(other, _))
-        | (Edit::Set(path, _), Edit::Insert(other, _) | Edit::Remove(other)) => {
+            Outline::Insert(path) | Outline::Remove(path) | Outline::Set(path),
+            Outline::Rename(other, key),
+        ) => are_apart(path, other) && lacks_step(path, key),
+        (Outline::Insert(path), Outline::Remove(other) | Outline::Set(other))
+        | (Outline::Remove(path), Outline::Insert(other) | Outline::Set(other))
+        | (Outline::Set(path), Outline::Insert(other) | Outline::Remove(other)) => {
             are_apart(path, other)
         }
     }
@@ -206,14 +203,14 @@ fn leaves_alone(edit: &Edit, other: &Edit) -> bool
 
 /// Whether these edits and another that comes after them all append elements, with as many keys each: of such lists
 /// none is the beginning of another.
-fn are_elements_alike(edits: &[Edit], other: &Edit) -> bool
-    ensures { IsTrue result → All (λ e. LeavesAlone e other.now) edits.now }
+fn are_elements_alike(outlines: &[Outline], other: &Outline) -> bool
+    ensures { IsTrue result → All (λ e. LeavesAlone e other.now) outlines.now }
 {
-    let Edit::Element(more) = other else {
+    let Outline::Element(more) = other else {
         return false;
     };
-    for edit in edits {
-        let Edit::Element(keys) = edit else {
+    for outline in outlines {
+        let Outline::Element(keys) = outline else {
             return false;
         };
         if keys.len() != more.len() {
@@ -224,11 +221,11 @@ fn are_elements_alike(edits: &[Edit], other: &Edit) -> bool
 }
 
 /// Whether each of these edits leaves alone another that comes after them.
-pub fn all_leave_alone(edits: &[Edit], other: &Edit) -> bool
-    ensures { Decides result (All (λ e. LeavesAlone e other.now) edits.now) }
+pub fn all_leave_alone(outlines: &[Outline], other: &Outline) -> bool
+    ensures { Decides result (All (λ e. LeavesAlone e other.now) outlines.now) }
 {
-    for edit in edits {
-        if !leaves_alone(edit, other) {
+    for outline in outlines {
+        if !leaves_alone(outline, other) {
             return false;
         }
     }
@@ -238,15 +235,15 @@ pub fn all_leave_alone(edits: &[Edit], other: &Edit) -> bool
 /// Whether each of these edits is found to leave alone another that comes after them. Where that takes comparing their
 /// keys or paths, none is if there are more of them than `left`, how many pairs may still be compared; else they are
 /// taken from that.
-pub fn leave_alone_within(left: &mut usize, edits: &[Edit], other: &Edit) -> bool
-    ensures { IsTrue result → All (λ e. LeavesAlone e other.now) edits.now }
+pub fn leave_alone_within(left: &mut usize, outlines: &[Outline], other: &Outline) -> bool
+    ensures { IsTrue result → All (λ e. LeavesAlone e other.now) outlines.now }
 {
-    if are_elements_alike(edits, other) {
+    if are_elements_alike(outlines, other) {
         return true;
     }
-    if edits.len() > *left {
+    if outlines.len() > *left {
         return false;
     }
-    *left -= edits.len();
-    all_leave_alone(edits, other)
+    *left -= outlines.len();
+    all_leave_alone(outlines, other)
 }

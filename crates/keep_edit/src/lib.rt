@@ -47,6 +47,7 @@ mod document;
 mod edits;
 mod index_change;
 mod lines;
+mod outline;
 mod patch;
 mod planned;
 mod runs;

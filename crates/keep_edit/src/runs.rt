@@ -6,15 +6,16 @@ ghost use Rattle.std.specs.Bool.{Decides};
 ghost use Rattle.keep_syntax.specs.Tree as tree;
 ghost use Rattle.keep_edit.specs.Lists.{AreMade, StopsAt};
 ghost use Rattle.keep_edit.specs.Reading.{ProfiledText};
-ghost use Rattle.keep_edit.specs.Runs.{AddsItemHere, IsPlaceKept, MakeChanges, RemovesSectionHere, changed_text};
-ghost use Rattle.keep_edit.specs.Runs.{writes_anew};
+ghost use Rattle.keep_edit.specs.Runs.{AddsItemHere, IsPlaceKept, MakeChanges, MakesInRunHere};
+ghost use Rattle.keep_edit.specs.Runs.{RemovesSectionHere, changed_text, outline};
 ghost use Rattle.keep_edit_plan.specs.TextEdits.{IsChangeIn};
 ghost use Rattle.keep_edit_spec.specs.AddedItems.{item_path};
 ghost use Rattle.keep_edit_spec.specs.Runs.{IsPlain};
 ghost use Rattle.keep_path.specs.Path.{Part, index};
 
-use crate::alike::{agree, leave_alone_within};
+use crate::alike::{agree, is_same, leave_alone_within};
 use crate::document::Document;
+use crate::outline::{Outline, Steps};
 use crate::seen::SeenKeys;
 use crate::seen_paths::SeenPaths;
 use keep_edit_plan::{Edit, TextEdit, TextEdits};
@@ -27,27 +28,8 @@ const MOST_AT_ONCE: usize = 1000;
 /// So many pairs of edits are compared in a run, and one more for each byte of the text: to compare more takes longer
 /// than to read the text anew.
 const PAIRS: usize = 5000;
-/// No edit of a longer path, in bytes, is made at once with others where its path is compared, so that this takes no
-/// longer.
-const LONGEST_PATH: usize = 128;
 /// What it takes to read a text anew, in parts of it.
 const READING: usize = 1000;
-
-/// Whether an edit has a path that would take long to compare with those of its kind.
-fn has_long_path(edit: &Edit) -> bool {
-    match edit {
-        Edit::Insert(path, _) | Edit::Rename(path, _) => path.encoded_len() > LONGEST_PATH,
-        _ => false,
-    }
-}
-
-/// Whether an edit has a path that would take long to compare with any.
-fn has_long_path_among_all(edit: &Edit) -> bool {
-    match edit {
-        Edit::Remove(path) | Edit::Set(path, _) => path.encoded_len() > LONGEST_PATH,
-        _ => has_long_path(edit),
-    }
-}
 
 /// Whether a text has no carriage return.
 fn is_plain(text: &str) -> bool
@@ -56,42 +38,16 @@ fn is_plain(text: &str) -> bool
     memchr(b'\r', text.as_bytes()).is_none()
 }
 
-/// Whether an edit writes a line or a header with a newline of its own.
-fn writes_anew(edit: &Edit) -> bool
-    ensures { result ≡ writes_anew edit.now }
-{
-    matches!(edit, Edit::Insert(_, _) | Edit::Table(_) | Edit::Element(_))
-}
-
-/// The kinds of edits.
-#[derive(Drop, PartialEq)]
-enum EditKind {
-    Insert,
-    Remove,
-    Set,
-    Rename,
-    Table,
-    Element,
-}
-
-/// The kind of an edit.
-fn kind_of(edit: &Edit) -> EditKind {
-    match edit {
-        Edit::Insert(_, _) => EditKind::Insert,
-        Edit::Remove(_) => EditKind::Remove,
-        Edit::Set(_, _) => EditKind::Set,
-        Edit::Rename(_, _) => EditKind::Rename,
-        Edit::Table(_) => EditKind::Table,
-        Edit::Element(_) => EditKind::Element,
-    }
-}
-
-/// Whether the second edit is there and of another kind.
-fn is_other_kind(edit: &Edit, other: Option<&Edit>) -> bool {
-    match other {
-        Some(other) => kind_of(edit) != kind_of(other),
-        None => false,
-    }
+/// Whether the second edit is there, and both are inserts or removes whose paths differ in their last step alone. Of
+/// entries, they are of one value.
+fn is_in_holder_of(edit: &Edit, next: Option<&Edit>) -> bool {
+    let (
+        Edit::Insert(path, _) | Edit::Remove(path),
+        Some(Edit::Insert(other, _) | Edit::Remove(other)),
+    ) = (edit, next) else {
+        return false;
+    };
+    is_same(&Steps::before_last(path), &Steps::before_last(other))
 }
 
 /// The number that is the step of a path with that number; None where another step is there, or none.
@@ -113,7 +69,7 @@ fn is_item_after(path: &Path, item: &Path, before: usize) -> bool
     if len == 0 || path.len() != len {
         return false;
     }
-    if !agree(path, item, len - 1) {
+    if !agree(&Steps::of(path), &Steps::of(item), len - 1) {
         return false;
     }
     let (Some(own), Some(number)) = (index_at(path, len - 1), index_at(item, len - 1)) else {
@@ -238,33 +194,46 @@ impl Document {
         PAIRS + self.text.len()
     }
 
-    /// What the edits from number `first` on change in the text, as far as they can be made at once: of one kind, or of
-    /// several where those are few.
+    /// What the edits from number `first` on change in the text, as far as they can be made at once: inserts of the
+    /// next items of one array, or edits of one kind, or of several where those are few.
     fn changes_at_once(&self, edits: &[Edit], first: usize) -> TextEdits
         requires { first < length edits.now }
         ensures few { first + length result ≤ length edits.now }
         ensures made { MakeChanges edits.now first (first + length result) self.now result }
         ensures within { All (IsChangeIn self.now.text) result }
     {
+        let items = self.items_by(edits, first);
+        if items.len() > 1 {
+            return items;
+        }
         let changes = self.changes_by(edits, first);
         let end = first + changes.len();
-        if end == first {
-            return match &edits[first] {
-                Edit::Insert(_, _) => self.items_by(edits, first),
-                Edit::Remove(_) => self.sections_by(edits, first),
-                _ => changes,
-            };
-        }
-        if self.is_worth_reading(&edits[first..end])
-            || !is_other_kind(&edits[first], edits.get(end))
+        if end > first
+            && (self.is_worth_reading(&edits[first..end])
+                || !self.is_other_kind(&edits[first], edits.get(end)))
         {
             return changes;
         }
-        let of_kinds = self.changes_of_kinds(edits, first);
-        if of_kinds.len() > changes.len() {
-            return of_kinds;
+        let others = self.others_by(edits, first, end > first);
+        if others.len() > changes.len() {
+            return others;
         }
         changes
+    }
+
+    /// The same as far as they are of several kinds, if the first is known to leave others alone; else as far as they
+    /// remove tables with their headers.
+    fn others_by(&self, edits: &[Edit], first: usize, is_known: bool) -> TextEdits
+        requires { first < length edits.now }
+        ensures few { first + length result ≤ length edits.now }
+        ensures made { MakeChanges edits.now first (first + length result) self.now result }
+        ensures within { All (IsChangeIn self.now.text) result }
+    {
+        if is_known {
+            self.changes_of_kinds(edits, first)
+        } else {
+            self.sections_by(edits, first)
+        }
     }
 
     /// What the edits from number `first` on change in the text, as far as all are of one kind and each makes its
@@ -276,22 +245,25 @@ impl Document {
         ensures within { All (IsChangeIn self.now.text) result }
     {
         let mut changes = TextEdits::new(self.alloc());
-        let mut keys = SeenKeys::new(self.alloc(), &edits[first]);
+        let mut outlines = Vec::new(self.alloc());
+        let mut keys = SeenKeys::new(self.alloc(), self.outline_of(&edits[first]));
         let mut left = self.most_pairs();
         let end = edits.len().min(first.saturating_add(MOST_AT_ONCE));
         for number in first..end {
             let edit = &edits[number];
-            if has_long_path(edit)
-                || !(keys.leaves_alone(edit)
-                    || leave_alone_within(&mut left, &edits[first..number], edit))
-                || !keys.add(edit).unwrap_or(false)
+            let is_entry = self.is_entry(edit);
+            let outline = Outline::of(edit, is_entry);
+            if outline.has_long_path()
+                || !(keys.leaves_alone(&outline)
+                    || leave_alone_within(&mut left, outlines.as_slice(), &outline))
+                || !keys.add(&outline).unwrap_or(false)
             {
                 return changes;
             }
-            let Some(change) = self.as_ref().change_by(self.alloc(), edit) else {
+            let Some(change) = self.change_in_run(edit, edits.get(number + 1), is_entry) else {
                 return changes;
             };
-            if !changes.add(change).unwrap_or(false) {
+            if outlines.push(outline).is_err() || !changes.add(change).unwrap_or(false) {
                 return changes;
             }
         }
@@ -307,6 +279,7 @@ impl Document {
         ensures within { All (IsChangeIn self.now.text) result }
     {
         let mut changes = TextEdits::new(self.alloc());
+        let mut outlines = Vec::new(self.alloc());
         let mut paths = SeenPaths::new(self.alloc());
         let mut left = self.most_pairs();
         let mut is_text_plain = false;
@@ -314,46 +287,97 @@ impl Document {
         let end = edits.len().min(first.saturating_add(MOST_AT_ONCE));
         for number in first..end {
             let edit = &edits[number];
-            if has_long_path_among_all(edit)
-                || !(paths.leave_alone(edit)
-                    || leave_alone_within(&mut left, &edits[first..number], edit))
-                || !paths.add(edit).unwrap_or(false)
+            let is_entry = self.is_entry(edit);
+            let outline = Outline::of(edit, is_entry);
+            if outline.has_long_path_among_all()
+                || !(paths.leave_alone(&outline)
+                    || leave_alone_within(&mut left, outlines.as_slice(), &outline))
+                || !paths.add(&outline).unwrap_or(false)
             {
                 return changes;
             }
-            let Some(change) = self.as_ref().change_by(self.alloc(), edit) else {
+            let Some(change) = self.change_in_run(edit, edits.get(number + 1), is_entry) else {
                 return changes;
             };
+            let at = change.place.start;
             are_plain = are_plain && is_plain(change.new.as_str());
-            if writes_anew(edit) {
+            if outline.writes_anew() {
                 is_text_plain = is_text_plain || is_plain(self.text.as_str());
                 if !is_text_plain
                     || !are_plain
-                    || !self.keeps_place(&changes, edit, change.place.start, paths.has_header())
+                    || !self.keeps_place(&changes, &outline, at, paths.has_header())
                 {
                     return changes;
                 }
             }
-            if !changes.add(change).unwrap_or(false) {
+            if outlines.push(outline).is_err() || !changes.add(change).unwrap_or(false) {
                 return changes;
             }
         }
         changes
     }
 
+    /// Whether an edit is the insert or the remove of an entry of a value.
+    fn is_entry(&self, edit: &Edit) -> bool {
+        let (Edit::Insert(path, _) | Edit::Remove(path)) = edit else {
+            return false;
+        };
+        if path.len() == 0 {
+            return false;
+        }
+        match self.index.find_first(path, path.len() - 1) {
+            Some(id) => matches!(self.index.node(id).origin, Origin::Value(_)),
+            None => false,
+        }
+    }
+
+    /// The outline of an edit of this document.
+    fn outline_of<'a>(&self, edit: &'a Edit) -> Outline<'a> {
+        Outline::of(edit, self.is_entry(edit))
+    }
+
+    /// Whether the second edit is there and of another kind.
+    fn is_other_kind(&self, edit: &Edit, other: Option<&Edit>) -> bool {
+        match other {
+            Some(other) => !self.outline_of(edit).is_like(&self.outline_of(other)),
+            None => false,
+        }
+    }
+
+    /// What an edit changes of the text in a run, by itself, or as the set of the value that holds its entry. None if
+    /// the next edit is of an entry of that value too, which would end the run: to make the value for each of many
+    /// takes as long as they take alone.
+    fn change_in_run(&self, edit: &Edit, next: Option<&Edit>, is_entry: bool) -> Option<TextEdit>
+        ensures { IfSome result (MakesInRunHere self.now edit.now (outline edit.now is_entry)) }
+    {
+        if !is_entry {
+            return self.as_ref().change_by(self.alloc(), edit);
+        }
+        if is_in_holder_of(edit, next) {
+            return None;
+        }
+        self.as_ref().change_of_holder(self.alloc(), edit)
+    }
+
     /// Whether an edit that writes a line or a header at a byte can do so after these changes as before them. A header
     /// can if none of them takes the byte before it. So can a line, or it comes in the place of one that is taken; and
     /// not at the end, if a header was written.
-    fn keeps_place(&self, changes: &TextEdits, edit: &Edit, at: usize, has_header: bool) -> bool
+    fn keeps_place(
+        &self,
+        changes: &TextEdits,
+        outline: &Outline,
+        at: usize,
+        has_header: bool,
+    ) -> bool
         requires { All (IsChangeIn self.now.text) changes.now }
-        ensures { IsTrue result → IsPlaceKept self.now.text changes.now edit.now at has_header }
+        ensures { IsTrue result → IsPlaceKept self.now.text changes.now outline.now at has_header }
     {
-        match edit {
-            Edit::Insert(_, _) => {
+        match outline {
+            Outline::Insert(_) => {
                 let text = self.text.as_str();
                 !(has_header && at == text.len()) && changes.allows_line_at(text, at)
             }
-            Edit::Table(_) | Edit::Element(_) => !changes.take_up_to(at),
+            Outline::Table(_) | Outline::Element(_) => !changes.take_up_to(at),
             _ => true,
         }
     }

@@ -1,18 +1,18 @@
 //! The keys of edits of one kind that are made at once, by which most are known to leave alone those before them.
 ghost use Rattle.std.specs.Prelude.{◌≡◌, ◌↔◌, ℕ, IfOk, IsTrue, List, Some, option_copied, slice_get};
-ghost use Rattle.keep_edit_plan.specs.declared.edit.Edit.{Edit};
+ghost use Rattle.keep_edit.specs.declared.outline.Outline.{Outline};
 ghost use Rattle.keep_edit.specs.Runs.{LeavesAlone};
 ghost use Rattle.keep_edit.specs.Seen.{EndsIn, GoesOn, HasKey, IsSeen};
 ghost use Rattle.keep_edit_plan.specs.Headers.{key_texts};
 ghost use Rattle.keep_path.specs.Path.{key};
 
-use keep_edit_plan::Edit;
-use keep_rules::{Path, Step};
+use crate::outline::{Outline, Steps};
+use keep_rules::Step;
 use std::alloc::{AllocError, Global};
 use std::collections::HashSet;
 
 /// The last step of a path, if it is a key.
-pub fn last_key(path: &Path) -> Option<&str>
+pub fn last_key<'a>(path: &Steps<'a>) -> Option<&'a str>
     ensures { (text : List ℕ) → (option_copied result ≡ Some text) ↔ EndsIn path.now (key text) }
 {
     match path.step(path.len().saturating_sub(1))? {
@@ -32,13 +32,13 @@ pub fn last_name(keys: &[String]) -> Option<&str>
 /// There are at most 2,000, so that keys made to collide take little time.
 #[derive(Drop)]
 pub struct SeenKeys<'a> {
-    first: &'a Edit,
+    first: Outline<'a>,
     keys: HashSet<&'a str>,
 }
 
 impl<'a> SeenKeys<'a> {
     /// No keys yet, for edits of the kind of this one.
-    pub fn new(alloc: Global, first: &'a Edit) -> SeenKeys<'a> {
+    pub fn new(alloc: Global, first: Outline<'a>) -> SeenKeys<'a> {
         SeenKeys {
             first,
             keys: HashSet::new(alloc),
@@ -51,18 +51,19 @@ impl<'a> SeenKeys<'a> {
     /// # Errors
     ///
     /// Out of memory.
-    pub fn add(&mut self, edit: &'a Edit) -> Result<bool, AllocError>
-        ensures seen { IfOk result (λ added. IsTrue added → IsSeen self.new edit.now) }
-        ensures others { (other : Edit) → IsSeen self.old other → IsSeen self.new other }
+    pub fn add(&mut self, outline: &Outline<'a>) -> Result<bool, AllocError>
+        ensures seen { IfOk result (λ added. IsTrue added → IsSeen self.new outline.now) }
+        ensures others { (other : Outline) → IsSeen self.old other → IsSeen self.new other }
     {
-        match (self.first, edit) {
-            (Edit::Insert(_, _), Edit::Insert(path, _)) => self.add_key(last_key(path)),
-            (Edit::Rename(_, _), Edit::Rename(path, key)) => {
-                Ok(self.add_key(last_key(path))? && self.add_key(Some(key.as_str()))?)
+        match (&self.first, outline) {
+            (Outline::Insert(_), Outline::Insert(path)) => self.add_key(last_key(path)),
+            (Outline::Rename(_, _), Outline::Rename(path, key)) => {
+                Ok(self.add_key(last_key(path))? && self.add_key(Some(key))?)
             }
-            (Edit::Table(_), Edit::Table(keys)) => self.add_key(last_name(keys.as_slice())),
-            (Edit::Remove(_), Edit::Remove(_)) | (Edit::Set(_, _), Edit::Set(_, _)) => Ok(true),
-            (Edit::Element(_), Edit::Element(_)) => Ok(true),
+            (Outline::Table(_), Outline::Table(keys)) => self.add_key(last_name(keys)),
+            (Outline::Remove(_), Outline::Remove(_))
+            | (Outline::Set(_), Outline::Set(_))
+            | (Outline::Element(_), Outline::Element(_)) => Ok(true),
             _ => Ok(false),
         }
     }
@@ -85,16 +86,16 @@ impl<'a> SeenKeys<'a> {
     }
 
     /// Whether an edit is known by its keys to leave alone each one whose keys were added.
-    pub fn leaves_alone(&self, edit: &Edit) -> bool
-        ensures { IsTrue result → (other : Edit) → IsSeen self.now other → LeavesAlone other edit.now }
+    pub fn leaves_alone(&self, outline: &Outline) -> bool
+        ensures { IsTrue result → (other : Outline) → IsSeen self.now other → LeavesAlone other outline.now }
     {
-        match (self.first, edit) {
-            (Edit::Insert(_, _), Edit::Insert(path, _)) => self.lacks(last_key(path)),
-            (Edit::Rename(_, _), Edit::Rename(path, key)) => {
-                self.lacks(Some(key.as_str())) && self.lacks_steps(path)
+        match (&self.first, outline) {
+            (Outline::Insert(_), Outline::Insert(path)) => self.lacks(last_key(path)),
+            (Outline::Rename(_, _), Outline::Rename(path, key)) => {
+                self.lacks(Some(key)) && self.lacks_steps(path)
             }
-            (Edit::Table(_), Edit::Table(keys)) => self.lacks(last_name(keys.as_slice())),
-            (Edit::Remove(_), Edit::Remove(_)) | (Edit::Set(_, _), Edit::Set(_, _)) => true,
+            (Outline::Table(_), Outline::Table(keys)) => self.lacks(last_name(keys)),
+            (Outline::Remove(_), Outline::Remove(_)) | (Outline::Set(_), Outline::Set(_)) => true,
             _ => false,
         }
     }
@@ -110,7 +111,7 @@ impl<'a> SeenKeys<'a> {
     }
 
     /// Whether no step of a path is one of these.
-    fn lacks_steps(&self, path: &Path) -> bool
+    fn lacks_steps(&self, path: &Steps) -> bool
         ensures { IsTrue result → (n : ℕ) (text : List ℕ) → slice_get path.now n ≡ Some (key text)
             → ¬ HasKey self.now text }
     {

@@ -1,14 +1,14 @@
 //! The keys of edits of any kinds that are made at once, by which most are known to leave alone those before them.
 ghost use Rattle.std.specs.Prelude.{◌≡◌, IfOk, IsTrue};
-ghost use Rattle.keep_edit_plan.specs.declared.edit.Edit.{Edit};
+ghost use Rattle.keep_edit.specs.declared.outline.Outline.{Outline};
 ghost use Rattle.keep_edit_plan.specs.Headers.{key_texts};
 ghost use Rattle.keep_edit.specs.Runs.{LeavesAlone};
 ghost use Rattle.keep_edit.specs.SeenPaths.{GoesOn, HasEnd, HasNames, HasPath, HasStep, IsSeen, MissesNames};
 ghost use Rattle.keep_edit.specs.SeenPaths.{MissesPath};
 
+use crate::outline::{Outline, Steps};
 use crate::seen::{last_key, last_name};
-use keep_edit_plan::Edit;
-use keep_rules::{Path, Step};
+use keep_rules::Step;
 use std::alloc::{AllocError, Global};
 use std::collections::HashSet;
 
@@ -38,19 +38,21 @@ impl<'a> SeenPaths<'a> {
     /// # Errors
     ///
     /// Out of memory.
-    pub fn add(&mut self, edit: &'a Edit) -> Result<bool, AllocError>
-        ensures seen { IfOk result (λ added. IsTrue added → IsSeen self.new edit.now) }
-        ensures others { (other : Edit) → IsSeen self.old other → IsSeen self.new other }
+    pub fn add(&mut self, outline: &Outline<'a>) -> Result<bool, AllocError>
+        ensures seen { IfOk result (λ added. IsTrue added → IsSeen self.new outline.now) }
+        ensures others { (other : Outline) → IsSeen self.old other → IsSeen self.new other }
     {
-        match edit {
-            Edit::Insert(path, _) | Edit::Remove(path) | Edit::Set(path, _) => self.add_path(path),
-            Edit::Rename(path, key) => {
-                self.add_end(key.as_str())?;
+        match outline {
+            Outline::Insert(path) | Outline::Remove(path) | Outline::Set(path) => {
                 self.add_path(path)
             }
-            Edit::Table(keys) | Edit::Element(keys) => {
+            Outline::Rename(path, key) => {
+                self.add_end(key)?;
+                self.add_path(path)
+            }
+            Outline::Table(keys) | Outline::Element(keys) => {
                 self.has_header = true;
-                self.add_names(keys.as_slice())
+                self.add_names(keys)
             }
         }
     }
@@ -60,7 +62,7 @@ impl<'a> SeenPaths<'a> {
     /// # Errors
     ///
     /// Out of memory.
-    fn add_path(&mut self, path: &'a Path) -> Result<bool, AllocError>
+    fn add_path(&mut self, path: &Steps<'a>) -> Result<bool, AllocError>
         ensures added { IfOk result (λ added. IsTrue added → HasPath self.new path.now) }
         ensures others { GoesOn self.old self.new }
     {
@@ -118,20 +120,20 @@ impl<'a> SeenPaths<'a> {
     }
 
     /// Whether an edit is known by its keys to be left alone by each one whose keys were added.
-    pub fn leave_alone(&self, edit: &Edit) -> bool
-        ensures { IsTrue result → (other : Edit) → IsSeen self.now other → LeavesAlone other edit.now }
+    pub fn leave_alone(&self, outline: &Outline) -> bool
+        ensures { IsTrue result → (other : Outline) → IsSeen self.now other → LeavesAlone other outline.now }
     {
-        match edit {
-            Edit::Insert(path, _) | Edit::Remove(path) | Edit::Set(path, _) => {
+        match outline {
+            Outline::Insert(path) | Outline::Remove(path) | Outline::Set(path) => {
                 self.misses_path(path)
             }
-            Edit::Rename(path, key) => self.misses_path(path) && self.misses_end(key.as_str()),
-            Edit::Table(keys) | Edit::Element(keys) => self.misses_names(keys.as_slice()),
+            Outline::Rename(path, key) => self.misses_path(path) && self.misses_end(key),
+            Outline::Table(keys) | Outline::Element(keys) => self.misses_names(keys),
         }
     }
 
     /// Whether a path ends in a key that is none of these, and has none as a step that is the last of another.
-    fn misses_path(&self, path: &Path) -> bool
+    fn misses_path(&self, path: &Steps) -> bool
         ensures { IsTrue result → MissesPath self.now path.now }
     {
         match last_key(path) {

@@ -15,10 +15,10 @@ returns-then-parents-saturating_sub c =
       | then-eq w ↦
           let same = eqb-true n w.saturating_sub.result (sym w.value-is ∙ c.if-parents-saturating_sub.true) in
           let wide : n ≡ length other - 1 =
-          omega (arith, same, w.saturating_sub.ensures, w.len-then-eq.ensures.count) in
+          omega (arith, same, w.saturating_sub.ensures, w.len-then-eq.ensures) in
           let (alike, parts) =
           renamed_alike n c.args.path.now other key more
-          (omega (arith, c.saturating_sub-parents.ensures, c.len.ensures.count)) wide
+          (omega (arith, c.saturating_sub-parents.ensures, c.len.ensures)) wide
           ((bytes_eq-Decides key more).0 (sym c.eq.ensures ∙ w.if-eq.true)) in
           Decides-like c.agree.result alike parts c.agree.ensures
       | else-eq w ↦ absurd cc
@@ -33,12 +33,12 @@ returns-else-parents-saturating_sub c =
       λ same.
           let (keys, many, steps) =
           renamed_parts n c.args.path.now c.args.other.now key more
-          (omega (arith, c.saturating_sub-parents.ensures, c.len.ensures.count)) same in
+          (omega (arith, c.saturating_sub-parents.ensures, c.len.ensures)) same in
           elim c.if-eq.branch [
             | then-eq w ↦
                 w.value-is
                 ∙ eq-eqb n w.saturating_sub.result
-                (omega (arith, many, w.saturating_sub.ensures, w.len-then-eq.ensures.count))
+                (omega (arith, many, w.saturating_sub.ensures, w.len-then-eq.ensures))
             | else-eq w ↦ w.value-is ∙ c.eq.ensures ∙ (bytes_eq-Decides key more).1 keys
           ],
     )

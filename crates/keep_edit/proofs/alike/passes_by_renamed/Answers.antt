@@ -11,7 +11,7 @@ returns-then-next-keys c =
     let next = c.in-Some.next in
     let end = c.if-next-keys.true in
     let long : c.saturating_sub.result ≡ length path - 1 =
-    omega (arith, c.saturating_sub.ensures, c.len.ensures.count) in (
+    omega (arith, c.saturating_sub.ensures, c.len.ensures) in (
       λ yes. end_beside keys path c.args.key.now c.saturating_sub.result next long c.in-Some.ensures.rest end,
       λ none. eq-eqb next (length keys) end,
     )
@@ -25,7 +25,7 @@ returns-else-next-keys c =
     let own = c.index-keys-next.result in
     let same = bytes_eq (string_bytes own) text in
     let long : c.saturating_sub.result ≡ length path - 1 =
-    omega (arith, c.saturating_sub.ensures, c.len.ensures.count) in
+    omega (arith, c.saturating_sub.ensures, c.len.ensures) in
     Decides-at c.ne.result (not same)
     (c.ne.ensures ∙ ap (λ (l : List ℕ). not (bytes_eq l text)) c.as_str.ensures.value)
     (key_beside keys path text c.saturating_sub.result next long c.in-Some.ensures.rest own same refl
@@ -35,7 +35,7 @@ pub returns-in-None : goal.returns-in-None
 returns-in-None c =
     let path = c.args.path.now in
     let long : c.saturating_sub.result ≡ length path - 1 =
-    omega (arith, c.saturating_sub.ensures, c.len.ensures.count) in (
+    omega (arith, c.saturating_sub.ensures, c.len.ensures) in (
       λ yes. none_beside c.args.keys.now path c.args.key.now c.saturating_sub.result long c.in-None.ensures.rest,
       λ none. refl,
     )

@@ -1,5 +1,6 @@
-use Rattle.std.proofs.Common.{◌+◌, ◌-◌, ◌∙◌, sym, arith, eqb-true, eq-eqb}
+use Rattle.std.proofs.Common.{◌+◌, ◌-◌, ◌∙◌, List, ap, sym, take, arith, eqb-true, eq-eqb}
 use Rattle.std.proofs.lemmas.Bool.{leb-true}
+use Rattle.keep_path.specs.Path.{Part}
 use Rattle.keep_edit.proofs.ItemSteps.{item_after, number_there}
 use Rattle.keep_edit.proofs.runs.is_item_after.Goals as goal
 
@@ -26,12 +27,14 @@ returns-in_default-2 c = λ array n is. (
 
 pub returns-then-own-number : goal.returns-then-own-number
 returns-then-own-number c = λ array n is.
+    let first = λ (path : List Part). take (c.len-len.result - 1) path in
+    let same = ap first (sym c.of.ensures) ∙ c.agree.ensures.0 c.if-not-agree.false ∙ ap first c.of-2.ensures in
     let own = c.in-Some-Some.own in
     let number = c.in-Some-Some.number in
     let before = c.args.before in
     let (after, sum) =
     item_after c.args.path.now c.args.item.now array n number own before c.len-len.result is
-    (sym c.if-len.false ∙ c.len.ensures.count) c.len-len.ensures.count (c.agree.ensures.0 c.if-not-agree.false)
+    (sym c.if-len.false ∙ c.len.ensures.count) c.len-len.ensures.count same
     ((c.index_at-2.ensures number).0 c.in-Some-Some.is-1) ((c.index_at.ensures own).0 c.in-Some-Some.is-0) in (
       λ yes. after (omega (arith, eqb-true (own - number) before yes, c.if-own-number.true)),
       λ is_after. eq-eqb (own - number) before (omega (arith, sum is_after)),
@@ -39,11 +42,13 @@ returns-then-own-number c = λ array n is.
 
 pub returns-else-own-number : goal.returns-else-own-number
 returns-else-own-number c = λ array n is.
+    let first = λ (path : List Part). take (c.len-len.result - 1) path in
+    let same = ap first (sym c.of.ensures) ∙ c.agree.ensures.0 c.if-not-agree.false ∙ ap first c.of-2.ensures in
     let own = c.in-Some-Some.own in
     let number = c.in-Some-Some.number in
     let (after, sum) =
     item_after c.args.path.now c.args.item.now array n number own c.args.before c.len-len.result is
-    (sym c.if-len.false ∙ c.len.ensures.count) c.len-len.ensures.count (c.agree.ensures.0 c.if-not-agree.false)
+    (sym c.if-len.false ∙ c.len.ensures.count) c.len-len.ensures.count same
     ((c.index_at-2.ensures number).0 c.in-Some-Some.is-1) ((c.index_at.ensures own).0 c.in-Some-Some.is-0) in (
       λ yes. absurd (omega (arith, leb-true number own yes, c.if-own-number.false)),
       λ is_after. absurd (omega (arith, sum is_after, c.if-own-number.false)),

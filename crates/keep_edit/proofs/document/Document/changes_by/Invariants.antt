@@ -1,8 +1,8 @@
-use Rattle.std.proofs.Common.{All, slice_range}
+use Rattle.std.proofs.Common.{All}
 use Rattle.keep_edit.specs.Seen.{IsSeen}
 use Rattle.keep_edit.proofs.RunSteps.{AreMadeTo}
 use Rattle.keep_edit.proofs.document.Document.changes_by.Given as goal
 
 abbrev pub invariant-loop-number : goal.invariant-loop-number
 invariant-loop-number l =
-    AreMadeTo l.edits l.first l.number l.fn.self l.changes × All (IsSeen l.keys) (slice_range l.edits l.first l.number)
+    AreMadeTo l.edits l.first l.number l.fn.self l.outlines.items l.changes × All (IsSeen l.keys) l.outlines.items

@@ -1,4 +1,4 @@
-use Rattle.std.proofs.Common.{◌≡◌, All, slice_range, true}
+use Rattle.std.proofs.Common.{◌≡◌, All, true}
 use Rattle.keep_edit_spec.specs.Runs.{IsPlain}
 use Rattle.keep_edit.specs.SeenPaths.{IsSeen}
 use Rattle.keep_edit.proofs.RunSteps.{AreMadeTo}
@@ -6,7 +6,7 @@ use Rattle.keep_edit.proofs.document.Document.changes_of_kinds.Given as goal
 
 abbrev pub invariant-loop-number : goal.invariant-loop-number
 invariant-loop-number l =
-    AreMadeTo l.edits l.first l.number l.fn.self l.changes
-    × All (IsSeen l.paths) (slice_range l.edits l.first l.number)
+    AreMadeTo l.edits l.first l.number l.fn.self l.outlines.items l.changes
+    × All (IsSeen l.paths) l.outlines.items
     × (l.is_text_plain ≡ true → IsPlain l.fn.self.text)
     × (l.are_plain ≡ true → All (λ d. IsPlain d.new) l.changes)

@@ -1,6 +1,4 @@
-use Rattle.std.proofs.Common.{List, String, Global, inl, inr, ℕ, subst}
-use Rattle.keep_edit_plan.specs.Headers.{key_texts}
-use Rattle.keep_edit.specs.SeenPaths.{HasEnd, HasStep, MissesNames}
+use Rattle.std.proofs.Common.{inl, inr}
 use Rattle.keep_edit.proofs.SeenPathLaws.{alone_as, element_alone, insert_alone, remove_alone, rename_alone}
 use Rattle.keep_edit.proofs.SeenPathLaws.{set_alone, table_alone}
 use Rattle.keep_edit.proofs.seen_paths.SeenPaths.leave_alone.Goals as goal
@@ -9,18 +7,16 @@ pub returns-then-misses_path : goal.returns-then-misses_path
 returns-then-misses_path c = λ yes.
     let here = c.in-Rename in
     let seen = c.args.self.now in
-    alone_as seen c.args.edit.now _ here.is
+    alone_as seen c.args.outline.now _ here.is
     (rename_alone seen here.path here.key (c.misses_path.ensures c.if-misses_path.true)
-    (subst (λ (text : List ℕ). ¬ HasEnd seen text × ¬ HasStep seen text) c.as_str.ensures.value
-    (c.misses_end.ensures yes)))
+    (c.misses_end.ensures yes))
 
 pub returns-in-Table : goal.returns-in-Table
 returns-in-Table c = λ yes.
     let here = c.in-Table in
     let seen = c.args.self.now in
-    let edit = c.args.edit.now in
-    let misses = subst (λ (l : List (String Global)). MissesNames seen (key_texts l)) c.as_slice.ensures.value
-    (c.misses_names.ensures yes) in
+    let edit = c.args.outline.now in
+    let misses = c.misses_names.ensures yes in
     elim here.is [
       | inl table ↦ alone_as seen edit _ table (table_alone seen here.keys misses)
       | inr element ↦ alone_as seen edit _ element (element_alone seen here.keys misses)
@@ -30,12 +26,12 @@ pub returns-in-Insert : goal.returns-in-Insert
 returns-in-Insert c = λ yes.
     let here = c.in-Insert in
     let seen = c.args.self.now in
-    let edit = c.args.edit.now in
+    let edit = c.args.outline.now in
     let misses = c.misses_path-in-Insert.ensures yes in
     elim here.is [
-      | inl insert ↦ alone_as seen edit _ insert.1 (insert_alone seen here.path insert.0 misses)
+      | inl insert ↦ alone_as seen edit _ insert (insert_alone seen here.path misses)
       | inr more ↦ elim more [
         | inl remove ↦ alone_as seen edit _ remove (remove_alone seen here.path misses)
-        | inr set ↦ alone_as seen edit _ set.1 (set_alone seen here.path set.0 misses)
+        | inr set ↦ alone_as seen edit _ set (set_alone seen here.path misses)
       ]
     ]

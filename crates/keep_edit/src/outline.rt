@@ -1,0 +1,145 @@
+//! What edits do, as far as it tells which others they leave alone.
+ghost use Rattle.std.specs.Prelude.{◌≡◌, length, option_copied, option_map, slice_get};
+ghost use Rattle.keep_edit.specs.Runs.{outline, outlined, writes_anew};
+ghost use Rattle.keep_path.specs.Path.{without_last};
+ghost use Rattle.keep_path.specs.Step.{part_of};
+
+use keep_edit_plan::Edit;
+use keep_rules::{Path, Step};
+use std::marker::Model;
+
+/// No edit of a longer path, in bytes, is made at once with others where its path is compared, so that this takes no
+/// longer.
+const LONGEST_PATH: usize = 128;
+
+/// The first steps of a path. Contracts see their parts.
+#[derive(Drop)]
+pub struct Steps<'a> {
+    path: &'a Path,
+    count: usize,
+}
+
+impl<'a> Model for Steps<'a> {
+    ghost use Rattle.std.specs.Prelude.{◌≤◌, List, length, take};
+    ghost use Rattle.keep_path.specs.Path.{Part};
+
+    ghost Value = { List Part };
+
+    ghost view = { λ s. take s.count s.path.now };
+
+    ghost invariant = { λ s. s.count ≤ length s.path.now };
+}
+
+impl<'a> Steps<'a> {
+    /// All steps of a path.
+    pub fn of(path: &'a Path) -> Steps<'a>
+        ensures { result ≡ path.now }
+    {
+        Steps {
+            path,
+            count: path.len(),
+        }
+    }
+
+    /// All steps of a path but the last.
+    pub fn before_last(path: &'a Path) -> Steps<'a>
+        ensures { result ≡ without_last path.now }
+    {
+        Steps {
+            path,
+            count: path.len().saturating_sub(1),
+        }
+    }
+
+    /// The number of steps.
+    pub fn len(&self) -> usize
+        ensures { result ≡ length self.now }
+    {
+        self.count
+    }
+
+    /// The step with that number, from 0; None from `len()` on.
+    pub fn step(&self, number: usize) -> Option<&'a Step>
+        ensures { option_map part_of (option_copied result) ≡ slice_get self.now number }
+    {
+        if number < self.count {
+            self.path.step(number)
+        } else {
+            None
+        }
+    }
+
+    /// Whether their path would take long to compare with others.
+    pub fn are_long(&self) -> bool {
+        self.path.encoded_len() > LONGEST_PATH
+    }
+}
+
+/// What an edit does, with its path or keys. An insert or a remove of an entry of a value sets that value.
+#[derive(Drop)]
+pub enum Outline<'a> {
+    Insert(Steps<'a>),
+    Remove(Steps<'a>),
+    Set(Steps<'a>),
+    Rename(Steps<'a>, &'a str),
+    Table(&'a [String]),
+    Element(&'a [String]),
+}
+
+impl<'a> Outline<'a> {
+    /// That of an edit, which is of an entry of a value or not.
+    pub fn of(edit: &'a Edit, is_entry: bool) -> Outline<'a>
+        ensures { outlined result ≡ outline edit.now is_entry }
+    {
+        match edit {
+            Edit::Insert(path, _) | Edit::Remove(path) if is_entry => {
+                Outline::Set(Steps::before_last(path))
+            }
+            Edit::Insert(path, _) => Outline::Insert(Steps::of(path)),
+            Edit::Remove(path) => Outline::Remove(Steps::of(path)),
+            Edit::Set(path, _) => Outline::Set(Steps::of(path)),
+            Edit::Rename(path, key) => Outline::Rename(Steps::of(path), key.as_str()),
+            Edit::Table(keys) => Outline::Table(keys.as_slice()),
+            Edit::Element(keys) => Outline::Element(keys.as_slice()),
+        }
+    }
+
+    /// Whether it writes a line or a header with a newline of its own.
+    pub fn writes_anew(&self) -> bool
+        ensures { result ≡ writes_anew self.now }
+    {
+        matches!(
+            self,
+            Outline::Insert(_) | Outline::Table(_) | Outline::Element(_)
+        )
+    }
+
+    /// Whether it has a path that would take long to compare with those of its kind.
+    pub fn has_long_path(&self) -> bool {
+        match self {
+            Outline::Insert(path) | Outline::Rename(path, _) => path.are_long(),
+            _ => false,
+        }
+    }
+
+    /// Whether it has a path that would take long to compare with any.
+    pub fn has_long_path_among_all(&self) -> bool {
+        match self {
+            Outline::Remove(path) | Outline::Set(path) => path.are_long(),
+            _ => self.has_long_path(),
+        }
+    }
+
+    /// Whether this is of the same kind as another.
+    pub fn is_like(&self, other: &Outline) -> bool {
+        matches!(
+            (self, other),
+            (Outline::Insert(_), Outline::Insert(_))
+                | (Outline::Remove(_), Outline::Remove(_))
+                | (Outline::Set(_), Outline::Set(_))
+                | (Outline::Rename(_, _), Outline::Rename(_, _))
+                | (Outline::Table(_), Outline::Table(_))
+                | (Outline::Element(_), Outline::Element(_))
+        )
+    }
+}
