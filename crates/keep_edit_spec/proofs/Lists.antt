@@ -101,6 +101,7 @@ pub mod StillRemovesSection
 pub mod SectionRunLaws
 pub mod OneValue
 pub mod ValueSet
+pub mod SetTwice
 pub mod EntryActs
 pub mod EntryDepth
 pub mod EntryMade

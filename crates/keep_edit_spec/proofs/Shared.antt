@@ -81,6 +81,7 @@ pub use Rattle.keep_edit_spec.proofs.Lists.MadeChanges.{change_lawful}
 pub use Rattle.keep_edit_spec.proofs.Lists.RunLaws.{none_is_run, run_goes_on}
 pub use Rattle.keep_edit_spec.proofs.Lists.ItemRunLaws.{item_run_goes_on, none_is_item_run}
 pub use Rattle.keep_edit_spec.proofs.Lists.EntryEditRuns.{run_goes_on_by_entry}
+pub use Rattle.keep_edit_spec.proofs.Lists.SetTwice.{sets_again}
 pub use Rattle.keep_edit_spec.proofs.Lists.SectionRunLaws.{none_is_section_run, section_run_goes_on}
 pub use Rattle.keep_edit_spec.proofs.Lists.MoreItems.{keys_same, prefixes_alike}
 pub use Rattle.keep_edit_spec.proofs.Lists.NextItem.{not_before, not_empty}

@@ -112,6 +112,11 @@ pub fn sets_change_values()
     ensures { values.StillSetsValue }
 {}
 
+/// A `set` after another of the same path replaces what that one wrote, and gives the document that it alone gives.
+pub fn set_again_is_set()
+    ensures { values.SetsAgain }
+{}
+
 /// A `rename` makes the same change after another made its own elsewhere, of a path apart.
 pub fn renames_change_keys()
     ensures { keys.StillRenamesKey }

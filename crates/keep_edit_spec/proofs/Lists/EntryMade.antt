@@ -36,7 +36,7 @@ use Rattle.keep_edit_spec.proofs.Insert.DoneThere.{can_ended}
 use Rattle.keep_edit_spec.proofs.Insert.ItemThere.{array_at, is_array}
 use Rattle.keep_edit_spec.proofs.Lists.AtHolder.{any_body, put_at, put_keyval_at, take_at}
 use Rattle.keep_edit_spec.proofs.Lists.EntryActs.{inserted, inserted_keyval, removed_entry}
-use Rattle.keep_edit_spec.proofs.Lists.OneValue.{IsAtValue}
+use Rattle.keep_edit_spec.proofs.Lists.OneValue.{IsAtValue, makes_there}
 use Rattle.keep_edit_spec.proofs.Lists.ValueSet as value_set
 use Rattle.keep_edit_spec.proofs.Set.SetIsLawful.{settable}
 
@@ -52,7 +52,7 @@ value_of o = elim o [ None ↦ false | Some f ↦ is_value_fact f ]
 
 module _ (profile : Profile) (limit : ℕ) (s : Document) (a : List Part) (value : Value) (c : TextChange)
     (fine : IsEditable profile limit s) (h : SetsValue profile limit s a value c) where
-  abbrev pub there : IsAtValue (Valid_document s) (λ act. nested act a s)
+  abbrev pub there : IsAtValue (Valid_document s) (λ t act. nested act a t) s
   there = value_set.there profile limit s a value c fine h
 
   abbrev pub its : Value
@@ -74,7 +74,7 @@ module _ (profile : Profile) (limit : ℕ) (s : Document) (a : List Part) (value
         made = m;
         by = is;
         to_is = does (framed_change there.outer there.left there.right m)
-            (there.makes act ends can ∙ ap (within there.outer there.left there.right) is);
+            (makes_there there act ends can ∙ ap (within there.outer there.left there.right) is);
       }
 
   pub insert_there : (n : ℕ) (new : Value) → is_array_at a (mentions_in s) ≡ true

@@ -6,8 +6,8 @@
 -- facts of the old one at each path that does not begin with the one that was set (`fact_stays`). The other path does
 -- not, so none of its prefixes does (`prefix_clear`).
 --
--- Theorems: `prefix_clear`; `set_kept`, `facts_kept`: where what a set asks, or where the facts stay; `set_allowed`:
--- after another set.
+-- Theorems: `prefix_clear`; `set_kept`, `facts_kept`: where what a set asks, or where the facts stay; `fact_stays`: a
+-- fact that a set leaves; `set_allowed`: after another set.
 use Rattle.std.proofs.Common.{◌≡◌, ℕ, ◌+◌, Bool, true, false, not, List, [], ◌∷◌, ◌++◌, refl, sym, ap, subst, ◌∙◌}
 use Rattle.std.proofs.Common.{append_assoc, arith, Option, Some, None, inl, inr}
 use Rattle.std.specs.List.{list_any}
@@ -23,7 +23,7 @@ use Rattle.keep_meaning.specs.Meaning.{mentions_in, mentions_of_value}
 use Rattle.keep_meaning.specs.Nodes.{fact_at, is_at, is_node, is_root}
 use Rattle.keep_edit_spec.specs.declared.fault.EditFault.TheVariants as fault
 use Rattle.keep_edit_spec.specs.Edits.{edited_document, set}
-use Rattle.keep_edit_spec.specs.Laws.{IsEditable}
+use Rattle.keep_edit_spec.specs.Laws.{IsEditable, IsLawfulEdit}
 use Rattle.keep_edit_spec.specs.Look.{enclosing, is_bracket_at}
 use Rattle.keep_edit_spec.specs.Refusals.{first_that_holds, has_value, is_too_deep, refusal, refusal_by}
 use Rattle.keep_edit_spec.specs.SetValues.{SetsValue}
@@ -104,23 +104,22 @@ module _ (profile : Profile) (limit : ℕ) (other : List Part) (more : Value) (m
 
 -- ---- after a set
 
+pub fact_stays : (profile : Profile) (limit : ℕ) (s : Document) (path : List Part) (value : Value) (q : List Part)
+    → IsLawfulEdit profile limit s (set path value) → strip path q ≡ None
+    → fact_at q (mentions_in (edited_document s (set path value))) ≡ fact_at q (mentions_in s)
+fact_stays profile limit s path value q law e =
+    law.tree q ∙ ap (fact_from (mentions_in s) (mentions_of_value value)) (by e)
+  where
+    by : strip path q ≡ None → source (mentions_in s) (set path value) q ≡ from q
+    by e = rw (e, source) refl
+
 pub set_allowed : (profile : Profile) (limit : ℕ) (s : Document) (path : List Part) (value : Value) (c : TextChange)
     (other : List Part) (more : Value) (d : TextChange)
     → IsEditable profile limit s → SetsValue profile limit s path value c → SetsValue profile limit s other more d
     → strip path other ≡ None → strip other path ≡ None
     → refusal profile limit (edited_document s (set path value)) (set other more) ≡ None
 set_allowed profile limit s path value c other more d editable h g clear apart =
-    facts_kept profile limit other more ms (mentions_in (edited_document s (set path value)))
-    (λ q rest is. fact_stays q (prefix_clear path other q rest clear is)) g.allowed
-  where
-    ms : List Mention
-    ms = mentions_in s
-
-    fact_stays : (q : List Part) → strip path q ≡ None
-        → fact_at q (mentions_in (edited_document s (set path value))) ≡ fact_at q ms
-    fact_stays q e =
-        (set_lawful profile limit s path value editable h.given h.allowed).tree q
-        ∙ ap (fact_from ms (mentions_of_value value)) (by e)
-      where
-        by : strip path q ≡ None → source ms (set path value) q ≡ from q
-        by e = rw (e, source) refl
+    facts_kept profile limit other more (mentions_in s) (mentions_in (edited_document s (set path value)))
+    (λ q rest is. fact_stays profile limit s path value q
+    (set_lawful profile limit s path value editable h.given h.allowed) (prefix_clear path other q rest clear is))
+    g.allowed

@@ -31,7 +31,7 @@ use Rattle.keep_edit_spec.proofs.Common.Marks.{rules_of_document}
 use Rattle.keep_edit_spec.proofs.Common.DoneAtValue.{EachOf}
 use Rattle.keep_edit_spec.proofs.Common.FoundValue.{IsFoundIn, Valid_document, found_nested}
 use Rattle.keep_edit_spec.proofs.Insert.FoundThere.{found_facts, found_kinds}
-use Rattle.keep_edit_spec.proofs.Lists.OneValue.{IsAtValue, MakeNothing, one_value_at}
+use Rattle.keep_edit_spec.proofs.Lists.OneValue.{IsAtValue, MakeNothing, makes_there, one_value_at}
 
 -- a part of a text, by its place
 part_is : (before part after bytes : List ℕ) (at size : ℕ) → bytes ≡ before ++ (part ++ after) → at ≡ length before
@@ -45,13 +45,13 @@ module _ (profile : Profile) (limit : ℕ) (s : Document) (path : List Part) (va
   lawful : IsLawfulEdit profile limit s (set path value)
   lawful = set_lawful profile limit s path value fine h.given h.allowed
 
-  abbrev its : Act → Option (Changed Document)
-  its act = nested act path s
+  abbrev its : Document → Act → Option (Changed Document)
+  its t act = nested act path t
 
-  pub there : IsAtValue (Valid_document s) its
+  pub there : IsAtValue (Valid_document s) its s
   there = by (one_value_at path s)
     where
-      by : MakeNothing its ⊎ IsAtValue (Valid_document s) its → IsAtValue (Valid_document s) its
+      by : MakeNothing its s ⊎ IsAtValue (Valid_document s) its s → IsAtValue (Valid_document s) its s
       by (inr k) = k
       by (inl nothing) =
           let none : None ≡ Some lawful.changed =
@@ -74,7 +74,7 @@ module _ (profile : Profile) (limit : ℕ) (s : Document) (path : List Part) (va
   })
 
   is : change s (set path value) ≡ Some made
-  is = there.makes (replacement value) (λ p ps v. refl) (λ v. tt)
+  is = makes_there there (replacement value) (λ p ps v. refl) (λ v. tt)
 
   pub edited_is : edited_document s (set path value) ≡ there.outer value
   edited_is = ap (λ (o : Option (Changed Document)). (changed_or_same s o).to) is
