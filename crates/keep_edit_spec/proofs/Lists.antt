@@ -86,7 +86,10 @@ pub mod InsertInPlace
 pub mod MadeChanges
 pub mod StillMakes
 pub mod PlacesKept
+pub mod PlacesBefore
 pub mod RunLaws
+pub mod ChangeOrder
+pub mod RunLists
 pub mod MoreItems
 pub mod NextChange
 pub mod AtHolder

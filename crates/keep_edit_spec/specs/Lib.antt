@@ -26,3 +26,4 @@ pub mod ClearedLines
 pub mod SaidLines
 pub mod RemovedSections
 pub mod EntryEdits
+pub mod RunLists

@@ -9,6 +9,7 @@ ghost use Rattle.keep_edit_spec.specs.Laws as spec;
 ghost use Rattle.keep_edit_spec.specs.RemovedLines as removed;
 ghost use Rattle.keep_edit_spec.specs.RemovedSections as sections;
 ghost use Rattle.keep_edit_spec.specs.RenamedKeys as keys;
+ghost use Rattle.keep_edit_spec.specs.RunLists as lists;
 ghost use Rattle.keep_edit_spec.specs.Runs as runs;
 ghost use Rattle.keep_edit_spec.specs.SetValues as values;
 ghost use Rattle.keep_edit_spec.specs.TouchedLines as touched;
@@ -135,6 +136,13 @@ pub fn runs_are_known()
     ensures still { runs.StillMakesChange }
     ensures none { runs.NoneIsRun }
     ensures run { runs.RunGoesOn }
+{}
+
+/// A list of such edits is a run, if each makes its change beside those before it, which leave it alone. If one of them
+/// sets a value, the run goes on by a set of that value, too: the later set takes the place of the earlier one.
+pub fn runs_go_on_again()
+    ensures known { lists.RunIsKnown }
+    ensures run { lists.RunGoesOnAgain }
 {}
 
 /// So is a run of inserts that each add the next item of one array.

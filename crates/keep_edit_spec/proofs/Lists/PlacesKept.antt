@@ -4,13 +4,13 @@
 -- what the last edit takes or writes ends elsewhere than where it comes (`apart_now`, `not_there`), or is a line in
 -- whose place it comes (`placed_now`, `line_comes`): then what is before that line is there still (`said_now`).
 --
--- Theorems: `placed_before`, `still_placed`.
+-- Theorem: `still_placed`.
 use Rattle.std.proofs.Common.{◌≡◌, ◌≢◌, ℕ, ◌+◌, ◌<◌, Bool, List, [], ◌∷◌, length, refl, sym, ap, subst, ◌∙◌, arith, All}
 use Rattle.std.proofs.Common.{inl, inr, true, false, not, ◌&&◌, ◌||◌, ◌≤◌, suc}
 use Rattle.std.specs.Prelude.{IsTrue, ◌==◌, ◌⊎◌}
 use Rattle.std.specs.List.{list_any}
 use Rattle.std.proofs.lemmas.Bool.{eq-eqb, lt-ltb, or_parts, eqb-true}
-use Rattle.std.proofs.lemmas.List.Elements.{All-head, All-tail, All-cons, All-nil, All-weaker}
+use Rattle.std.proofs.lemmas.List.Elements.{All-head, All-tail, All-cons, All-nil}
 use Rattle.keep_types.specs.declared.leaf.Profile.{Profile}
 use Rattle.keep_syntax.specs.Tree.{Document, Value, element, header, text}
 use Rattle.keep_path.specs.Path.{Part}
@@ -31,60 +31,6 @@ use Rattle.keep_edit_spec.proofs.Lists.TextChanges.{begins_apart, end_apart, non
 use Rattle.keep_edit_spec.proofs.Lists.TextChanges.{moved_next, one_of_all}
 use Rattle.keep_edit_spec.specs.SaidLines.{SaysBefore}
 use Rattle.keep_edit_spec.proofs.Lists.MadeChanges.{within_text, removes_there}
-
--- ---- what keeps its place after all keeps it after those before the last
-
-plain_before : (bytes : List ℕ) (changes : List TextChange) (c : TextChange) → ArePlain bytes (with_change changes c)
-    → ArePlain bytes changes
-plain_before bytes changes c (plain, new) = (plain, rest_of_all (λ x. IsPlain x.new) changes c new)
-
-clear_before : (bytes : List ℕ) (changes : List TextChange) (c d : TextChange)
-    → IsPlainBefore bytes (with_change changes c) d.at → IsPlainBefore bytes changes d.at
-clear_before bytes changes c d (plain, clear) =
-    (plain_before bytes changes c plain, (none_with (takes_up_to d.at) changes c clear).1)
-
-lets_before : (bytes : List ℕ) (changes : List TextChange) (c : TextChange) (at : ℕ)
-    → All (LetsCome bytes (with_change changes c) at) (with_change changes c) → All (LetsCome bytes changes at) changes
-lets_before bytes changes c at all =
-    All-weaker (LetsCome bytes (with_change changes c) at) (LetsCome bytes changes at) by changes
-    (rest_of_all (LetsCome bytes (with_change changes c) at) changes c all)
-  where
-    by : (x : TextChange) → LetsCome bytes (with_change changes c) at x → LetsCome bytes changes at x
-    by x (inl clear) = inl clear
-    by x (inr h) = inr (record {
-      takes = h.takes;
-      said = h.said;
-      stays =
-          rest_of_all (λ y. IsBeside y (change_at h.said.from (suc (length h.said.line)) [])) changes c h.stays;
-      alone = rest_of_all (λ y. y.at ≡ x.at → 0 < y.size) changes c h.alone;
-    })
-
-headers_before : (bytes : List ℕ) (e : Edit) (edits : List Edit) (at : ℕ) → IsBeforeHeaders bytes (e ∷ edits) at
-    → IsBeforeHeaders bytes edits at
-headers_before bytes e edits at (inl none) = inl (or_parts (is_header e) (list_any is_header edits) none).1
-headers_before bytes e edits at (inr before) = inr before
-
-pub placed_before : (bytes : List ℕ) (e : Edit) (edits : List Edit) (changes : List TextChange) (c : TextChange)
-    (f : Edit) (d : TextChange) → KeepsPlace bytes (e ∷ edits) (with_change changes c) f d
-    → KeepsPlace bytes edits changes f d
-placed_before bytes e edits changes c (insert path value) d h = elim h [
-  | inl all ↦ inl (All-tail (λ x. IsTrue (is_insert x)) e edits all)
-  | inr (plain, (lets, before)) ↦ inr (
-    plain_before bytes changes c plain,
-    (lets_before bytes changes c d.at lets, headers_before bytes e edits d.at before),
-  )
-]
-placed_before bytes e edits changes c (append_table keys) d h = elim h [
-  | inl all ↦ inl (All-tail (λ x. IsTrue (is_header x)) e edits all)
-  | inr plain ↦ inr (clear_before bytes changes c d plain)
-]
-placed_before bytes e edits changes c (append_element keys) d h = elim h [
-  | inl all ↦ inl (All-tail (λ x. IsTrue (is_header x)) e edits all)
-  | inr plain ↦ inr (clear_before bytes changes c d plain)
-]
-placed_before bytes e edits changes c (remove path) d h = tt
-placed_before bytes e edits changes c (set path value) d h = tt
-placed_before bytes e edits changes c (rename path name) d h = tt
 
 -- a change that takes bytes, but not the one before a place, ends elsewhere
 ends_elsewhere : (at : ℕ) (c : TextChange) → 0 < c.size → takes_up_to at c ≡ false → c.at + c.size ≢ at

@@ -4,10 +4,10 @@
 -- refused; by the law of its kind the document after it is editable, and its text has the change put in there
 -- (`text_with_one`). An edit that it leaves alone, and that makes a change beside it, makes it still (StillMakes),
 -- moved once more (`moved_with`). Bytes that no change touches move alike (`rest_stays`). A new line or header keeps
--- its place (PlacesKept).
+-- its place (PlacesKept), and kept it before that edit (PlacesBefore).
 --
 -- Theorems: `none_is_run`, `run_goes_on`.
-use Rattle.std.proofs.Common.{◌≡◌, ℕ, List, [], refl, sym, ap, subst, ◌∙◌, arith, All, take, drop, ap₂, ◌+◌}
+use Rattle.std.proofs.Common.{◌≡◌, ℕ, List, [], ◌∷◌, refl, sym, ap, subst, ◌∙◌, arith, All, take, drop, ap₂, ◌+◌}
 use Rattle.std.proofs.lemmas.List.Elements.{All-head, All-tail}
 use Rattle.keep_syntax.specs.Tree.{text}
 use Rattle.keep_edit_spec.specs.Changed.{put}
@@ -23,7 +23,8 @@ use Rattle.keep_edit_spec.proofs.Lists.WiderChanges.{rest_stays}
 use Rattle.keep_edit_spec.proofs.Lists.MadeChanges.{change_allowed, change_is_there, change_lawful, change_puts}
 use Rattle.keep_edit_spec.proofs.Lists.MadeChanges.{within_text}
 use Rattle.keep_edit_spec.proofs.Lists.StillMakes.{still_makes}
-use Rattle.keep_edit_spec.proofs.Lists.PlacesKept.{placed_before, still_placed}
+use Rattle.keep_edit_spec.proofs.Lists.PlacesBefore.{placed_before}
+use Rattle.keep_edit_spec.proofs.Lists.PlacesKept.{still_placed}
 
 -- ---- a run
 
@@ -83,7 +84,7 @@ run_goes_on profile limit s edits changes now e c r makes alone beside placed =
             (sym (moved_with changes c d r.follow beside others one))
             (still_makes profile limit now e (moved_past changes c) f (moved_past changes d) r.editable is_now
             (r.later f d makes' (All-tail (λ x. LeavesAlone x f) e edits alone') others
-            (placed_before (text s) e edits changes c f d placed'))
+            (placed_before (text s) (e ∷ edits) edits (λ P. All-tail P e edits) changes c f d placed'))
             (All-head (λ x. LeavesAlone x f) e edits alone')
             (beside_past changes c d r.follow beside others one)
             (still_placed profile limit s edits changes now r e c f d makes is_now beside others one fine text_is

@@ -1,0 +1,130 @@
+-- Changes in the order of their places: one put before another, or in the place of another, gives one list.
+--
+-- Two that begin at two places can be put in either order (`with_both`), by induction on the changes. A change goes
+-- right before those that begin later (`is_put`). So another one that begins there goes there, too. In a list in which
+-- each follows the one before, one that takes bytes at a place is the only one there (`one_there`).
+--
+-- Theorems: `with_both`, `beside_back`, `put_in_place`.
+use Rattle.std.proofs.Common.{◌≡◌, ◌≢◌, ℕ, ◌+◌, ◌<◌, ◌≤◌, List, [], ◌∷◌, ◌++◌, refl, sym, ap}
+use Rattle.std.proofs.Common.{◌∙◌, arith, inl, inr, subst}
+use Rattle.std.specs.Prelude.{◌⊎◌}
+use Rattle.std.proofs.lemmas.Bool.{cases_lt, le-ltb, lt-ltb}
+use Rattle.keep_edit_spec.specs.TextChanges.{Follow, IsBeside, TextChange, with_change}
+
+-- ---- two changes
+
+goes_before : (c : TextChange) (cs : List TextChange) (d : TextChange) → d.at < c.at
+    → with_change (c ∷ cs) d ≡ d ∷ c ∷ cs
+goes_before c cs d less = rw (lt-ltb d.at c.at less) refl
+
+goes_past : (c : TextChange) (cs : List TextChange) (d : TextChange) → c.at ≤ d.at
+    → with_change (c ∷ cs) d ≡ c ∷ with_change cs d
+goes_past c cs d low = rw (le-ltb d.at c.at low) refl
+
+-- one that begins before all of them comes first
+with_first : (c : TextChange) (cs : List TextChange) (a b : TextChange) → a.at < b.at → a.at < c.at
+    → with_change (with_change (c ∷ cs) b) a ≡ a ∷ with_change (c ∷ cs) b
+with_first c cs a b less low = by (cases_lt b.at c.at)
+  where
+    by : (b.at < c.at) ⊎ (c.at ≤ b.at) → with_change (with_change (c ∷ cs) b) a ≡ a ∷ with_change (c ∷ cs) b
+    by (inl up) = rw (goes_before c cs b up) (goes_before b (c ∷ cs) a less)
+    by (inr down) = rw (goes_past c cs b down) (goes_before c (with_change cs b) a low)
+
+with_less : (cs : List TextChange) (a b : TextChange) → a.at < b.at
+    → with_change (with_change cs a) b ≡ with_change (with_change cs b) a
+with_less [] a b less = goes_past a [] b (omega (arith, less)) ∙ sym (goes_before b [] a less)
+with_less (c ∷ cs) a b less = elim (cases_lt a.at c.at) [
+  | inl low ↦
+      ap (λ (l : List TextChange). with_change l b) (goes_before c cs a low)
+      ∙ goes_past a (c ∷ cs) b (omega (arith, less))
+      ∙ sym (with_first c cs a b less low)
+  | inr up ↦
+      ap (λ (l : List TextChange). with_change l b) (goes_past c cs a up)
+      ∙ goes_past c (with_change cs a) b (omega (arith, up, less))
+      ∙ ap (λ (l : List TextChange). c ∷ l) (with_less cs a b less)
+      ∙ sym (goes_past c (with_change cs b) a up)
+      ∙ sym (ap (λ (l : List TextChange). with_change l a) (goes_past c cs b (omega (arith, up, less))))
+]
+
+pub with_both : (cs : List TextChange) (a b : TextChange) → a.at ≢ b.at
+    → with_change (with_change cs a) b ≡ with_change (with_change cs b) a
+with_both cs a b differs = elim (cases_lt a.at b.at) [
+  | inl less ↦ with_less cs a b less
+  | inr up ↦ elim (cases_lt b.at a.at) [
+    | inl less ↦ sym (with_less cs b a less)
+    | inr down ↦ absurd (differs (omega (arith, up, down)))
+  ]
+]
+
+-- One that takes bytes is beside another, and begins elsewhere, if that is beside it.
+pub beside_back : (c d : TextChange) → 0 < c.size → IsBeside c d → IsBeside d c × (c.at ≢ d.at)
+beside_back c d some (inl ends) = (inr (omega (arith, some, ends), ends), λ same. omega (arith, some, ends, same))
+beside_back c d some (inr (less, ends)) = (inl ends, λ same. omega (arith, less, same))
+
+-- ---- one in the place of another
+
+-- where a change is put
+record IsPut (rest : List TextChange) (c : TextChange) : Type 0 where
+  before : List TextChange
+  after : List TextChange
+  is : (d : TextChange) → d.at ≡ c.at → with_change rest d ≡ before ++ d ∷ after
+
+is_put : (rest : List TextChange) (c : TextChange) → IsPut rest c
+is_put [] c = record { before = []; after = []; is = λ d same. refl }
+is_put (x ∷ rest) c = elim (cases_lt c.at x.at) [
+  | inl less ↦ record {
+    before = [];
+    after = x ∷ rest;
+    is = λ d same. goes_before x rest d (omega (arith, less, same));
+  }
+  | inr low ↦
+      let more : IsPut rest c = is_put rest c in
+      record {
+        before = x ∷ more.before;
+        after = more.after;
+        is = λ d same.
+            goes_past x rest d (omega (arith, low, same)) ∙ ap (λ (l : List TextChange). x ∷ l) (more.is d same);
+      }
+]
+
+-- each begins where those before it end, or later
+follow_low : (from : ℕ) (before after : List TextChange) (x : TextChange) → Follow from (before ++ x ∷ after)
+    → from ≤ x.at
+follow_low from [] after x follow = follow.0
+follow_low from (y ∷ before) after x follow =
+    let low : y.at + y.size ≤ x.at = follow_low (y.at + y.size) before after x follow.1 in
+    omega (arith, low, follow.0)
+
+-- Two at one place, which take bytes, are one.
+one_there : (from : ℕ) (before after left right : List TextChange) (x c d : TextChange) → x.at ≡ c.at → 0 < x.size
+    → 0 < c.size → Follow from (before ++ x ∷ after) → before ++ x ∷ after ≡ left ++ c ∷ right
+    → before ++ d ∷ after ≡ left ++ d ∷ right
+one_there from [] after [] right x c d at some has follow is =
+    let rest : after ≡ right = cc in ap (λ (l : List TextChange). d ∷ l) rest
+one_there from [] after (y ∷ left) right x c d at some has follow is =
+    let rest : after ≡ left ++ c ∷ right = cc in
+    let low : x.at + x.size ≤ c.at =
+    follow_low (x.at + x.size) left right c (subst (Follow (x.at + x.size)) rest follow.1) in
+    absurd (omega (arith, low, at, some))
+one_there from (y ∷ before) after [] right x c d at some has follow is =
+    let first : y ≡ c = cc in
+    let low : y.at + y.size ≤ x.at = follow_low (y.at + y.size) before after x follow.1 in
+    let there : c.at + c.size ≤ x.at = subst (λ (z : TextChange). z.at + z.size ≤ x.at) first low in
+    absurd (omega (arith, there, at, has))
+one_there from (y ∷ before) after (z ∷ left) right x c d at some has follow is =
+    let first : y ≡ z = cc in
+    let rest : before ++ x ∷ after ≡ left ++ c ∷ right = cc in
+    ap (λ (l : List TextChange). y ∷ l)
+    (one_there (y.at + y.size) before after left right x c d at some has follow.1 rest)
+    ∙ ap (λ (z : TextChange). z ∷ left ++ d ∷ right) first
+
+-- A change in a list at the place of c, with which the list is that of the others, is c: another in its place is put
+-- among the others.
+pub put_in_place : (before after rest : List TextChange) (x c d : TextChange) → x.at ≡ d.at → x.size ≡ d.size
+    → c.at ≡ d.at → c.size ≡ d.size → 0 < d.size → Follow 0 (before ++ x ∷ after)
+    → before ++ x ∷ after ≡ with_change rest c → before ++ d ∷ after ≡ with_change rest d
+put_in_place before after rest x c d at size there many some follow is =
+    let put : IsPut rest c = is_put rest c in
+    one_there 0 before after put.before put.after x c d (at ∙ sym there) (omega (arith, size, some))
+    (omega (arith, many, some)) follow (is ∙ put.is c refl)
+    ∙ sym (put.is d (sym there))

@@ -1,0 +1,76 @@
+-- A new line or header that keeps its place after some edits keeps it after fewer of them, without one of the changes.
+--
+-- What is asked is asked of each edit and of each change, so of fewer too.
+--
+-- Theorem: `placed_before`.
+use Rattle.std.proofs.Common.{◌≡◌, ℕ, ◌<◌, Bool, false, List, [], ◌∷◌, length, suc, All, inl, inr}
+use Rattle.std.specs.Prelude.{IsTrue}
+use Rattle.std.specs.List.{list_any}
+use Rattle.std.proofs.lemmas.Bool.{or_parts}
+use Rattle.std.proofs.lemmas.List.Elements.{All-cons, All-nil, All-weaker}
+use Rattle.std.proofs.lemmas.List.Folds.{list_any_none}
+use Rattle.keep_edit_spec.specs.Edits.{Edit, append_element, append_table, insert, remove, rename, set}
+use Rattle.keep_edit_spec.specs.Runs.{ArePlain, IsBeforeHeaders, IsPlain, IsPlainBefore, KeepsPlace, LetsCome}
+use Rattle.keep_edit_spec.specs.Runs.{is_header, is_insert, takes_up_to}
+use Rattle.keep_edit_spec.specs.TextChanges.{IsBeside, TextChange, change_at, with_change}
+use Rattle.keep_edit_spec.proofs.Lists.TextChanges.{none_with, rest_of_all}
+
+plain_before : (bytes : List ℕ) (changes : List TextChange) (c : TextChange) → ArePlain bytes (with_change changes c)
+    → ArePlain bytes changes
+plain_before bytes changes c (plain, new) = (plain, rest_of_all (λ x. IsPlain x.new) changes c new)
+
+clear_before : (bytes : List ℕ) (changes : List TextChange) (c d : TextChange)
+    → IsPlainBefore bytes (with_change changes c) d.at → IsPlainBefore bytes changes d.at
+clear_before bytes changes c d (plain, clear) =
+    (plain_before bytes changes c plain, (none_with (takes_up_to d.at) changes c clear).1)
+
+lets_before : (bytes : List ℕ) (changes : List TextChange) (c : TextChange) (at : ℕ)
+    → All (LetsCome bytes (with_change changes c) at) (with_change changes c) → All (LetsCome bytes changes at) changes
+lets_before bytes changes c at all =
+    All-weaker (LetsCome bytes (with_change changes c) at) (LetsCome bytes changes at) by changes
+    (rest_of_all (LetsCome bytes (with_change changes c) at) changes c all)
+  where
+    by : (x : TextChange) → LetsCome bytes (with_change changes c) at x → LetsCome bytes changes at x
+    by x (inl clear) = inl clear
+    by x (inr h) = inr (record {
+      takes = h.takes;
+      said = h.said;
+      stays =
+          rest_of_all (λ y. IsBeside y (change_at h.said.from (suc (length h.said.line)) [])) changes c h.stays;
+      alone = rest_of_all (λ y. y.at ≡ x.at → 0 < y.size) changes c h.alone;
+    })
+
+each_none : (test : Edit → Bool) (edits : List Edit) → list_any test edits ≡ false → All (λ e. test e ≡ false) edits
+each_none test [] none = All-nil (λ e. test e ≡ false)
+each_none test (e ∷ edits) none =
+    let parts = or_parts (test e) (list_any test edits) none in
+    All-cons (λ x. test x ≡ false) e edits parts.0 (each_none test edits parts.1)
+
+-- what holds of each of the edits holds of each of the fewer
+module _ (bytes : List ℕ) (edits fewer : List Edit) (are : (P : Edit → Type 0) → All P edits → All P fewer)
+    (changes : List TextChange) (c : TextChange) where
+  headers_before : (at : ℕ) → IsBeforeHeaders bytes edits at → IsBeforeHeaders bytes fewer at
+  headers_before at (inl none) =
+      inl (list_any_none is_header fewer (are (λ e. is_header e ≡ false) (each_none is_header edits none)))
+  headers_before at (inr before) = inr before
+
+  pub placed_before : (f : Edit) (d : TextChange) → KeepsPlace bytes edits (with_change changes c) f d
+      → KeepsPlace bytes fewer changes f d
+  placed_before (insert path value) d h = elim h [
+    | inl all ↦ inl (are (λ x. IsTrue (is_insert x)) all)
+    | inr (plain, (lets, before)) ↦ inr (
+      plain_before bytes changes c plain,
+      (lets_before bytes changes c d.at lets, headers_before d.at before),
+    )
+  ]
+  placed_before (append_table keys) d h = elim h [
+    | inl all ↦ inl (are (λ x. IsTrue (is_header x)) all)
+    | inr plain ↦ inr (clear_before bytes changes c d plain)
+  ]
+  placed_before (append_element keys) d h = elim h [
+    | inl all ↦ inl (are (λ x. IsTrue (is_header x)) all)
+    | inr plain ↦ inr (clear_before bytes changes c d plain)
+  ]
+  placed_before (remove path) d h = tt
+  placed_before (set path value) d h = tt
+  placed_before (rename path name) d h = tt

@@ -1,0 +1,8 @@
+use Rattle.keep_edit_spec.proofs.Lists.RunLists.{run_goes_on_again, run_is_known}
+use Rattle.keep_edit_spec.proofs.laws.runs_go_on_again.Goals as goal
+
+pub returns-clause-known : goal.returns-clause-known
+returns-clause-known c = run_is_known
+
+pub returns-clause-run : goal.returns-clause-run
+returns-clause-run c = run_goes_on_again
