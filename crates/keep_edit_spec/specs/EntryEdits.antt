@@ -56,15 +56,30 @@ pub record MakesSet (profile : Profile) (limit : ℕ) (s : Document) (e : Edit) 
   pub sets : SetsValue profile limit s holder value c
   pub same : edited_document s e ≡ edited_document s (set holder value)
 
--- So it does in another document, where that set replaces the same bytes.
+-- `path` is of an entry of the value at `holder`, and `more` of the same entry of the value at `other`: both go on by
+-- the same step.
+pub record AreSameEntry (holder path other more : List Part) : Type 0 where
+  pub part : Part
+  pub is : path ≡ holder ++ part ∷ []
+  pub there : more ≡ other ++ part ∷ []
+
+-- edits of the same entry of these two values: both insert the same value, or both remove
+abbrev pub AreOfSameEntry : List Part → Edit → List Part → Edit → Type 0
+AreOfSameEntry holder (insert path value) other (insert more new) =
+    AreSameEntry holder path other more × (new ≡ value) × AllByRecursion IsUtf8 (keys_in more)
+AreOfSameEntry holder (remove path) other (remove more) = AreSameEntry holder path other more
+AreOfSameEntry holder _ other _ = ⊥
+
+-- So does the edit of the same entry in another document, of a value with the same bytes, at whatever path it is there.
 abbrev pub StillMakesSet : Type 0
 StillMakesSet =
     (profile : Profile) (limit : ℕ) (s : Document) (e : Edit) (holder : List Part) (value : Value) (c : TextChange)
-    (now : Document) (d : TextChange)
+    (now : Document) (f : Edit) (other : List Part) (d : TextChange)
     → IsEditable profile limit s → IsEditable profile limit now → MakesSet profile limit s e holder value c
-    → SetsValue profile limit now holder value d
+    → SetsValue profile limit now other value d
     → take d.size (drop d.at (tree.text now)) ≡ take c.size (drop c.at (tree.text s))
-    → MakesSet profile limit now e holder value d
+    → AreOfSameEntry holder e other f
+    → MakesSet profile limit now f other value d
 
 -- ---- in a run
 

@@ -16,7 +16,7 @@ use Rattle.keep_edit_spec.specs.Runs.{IsRun, IsRunLonger}
 use Rattle.keep_edit_spec.specs.SetValues.{SetsValue}
 use Rattle.keep_edit_spec.specs.TextChanges.{TextChange, moved_past, with_change}
 use Rattle.keep_edit_spec.proofs.EditLaws.{insert_lawful, remove_lawful}
-use Rattle.keep_edit_spec.proofs.Lists.EntryEdits.{still_makes_set}
+use Rattle.keep_edit_spec.proofs.Lists.EntryEdits.{of_itself, still_makes_set}
 use Rattle.keep_edit_spec.proofs.Lists.MadeChanges.{within_text}
 use Rattle.keep_edit_spec.proofs.Lists.RunLaws.{run_goes_on}
 
@@ -38,8 +38,9 @@ run_goes_on_by_entry profile limit s edits changes now e a value c r h alone bes
     let longer : IsRunLonger profile limit s edits changes now (set a value) c =
     run_goes_on profile limit s edits changes now (set a value) c r h.sets alone beside tt in
     let still : MakesSet profile limit now e a value there =
-    still_makes_set profile limit s e a value c now there r.first r.editable h is_now
-    (r.kept c beside (within_text profile limit s (set a value) c r.first h.sets)) in
+    still_makes_set profile limit s e a value c now e a there r.first r.editable h is_now
+    (r.kept c beside (within_text profile limit s (set a value) c r.first h.sets))
+    (of_itself profile limit s e a value c h) in
     record {
       allowed = still.allowed;
       lawful = entry_lawful profile limit now e a value there r.editable still;

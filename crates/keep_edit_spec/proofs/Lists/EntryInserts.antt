@@ -1,8 +1,9 @@
--- An insert of an entry still makes what the set of the value makes, in a document where that value has the same text.
+-- An insert of an entry makes what the set of the value makes, also in a document where a value with the same text is,
+-- at the same path or at another.
 --
 -- It makes the same (EntryMade). Nor is it refused there: of an item, since the array has as many items; of a keyval,
--- since its path names no node there either, and the value is still an inline table. It is not too deep, since the set
--- is not, whose value is deeper than the entry by one (EntryDepth).
+-- since its path names no node there either, and the value is an inline table too. It is not too deep, since the set
+-- there is not, whose value is deeper than the entry by one (EntryDepth).
 --
 -- Theorems: `insert_allowed`, `insert_same`: of an item; `keyval_allowed`, `keyval_same`: of a keyval.
 use Rattle.std.proofs.Common.{◌≡◌, ℕ, suc, ◌+◌, ◌≤◌, Bool, true, false, not, ◌&&◌, List, [], ◌∷◌, ◌++◌, length}
@@ -105,8 +106,9 @@ inline_body body e = table_body body (ap is_table_fact e)
 -- ---- in another document
 
 module _ (profile : Profile) (limit : ℕ) (s : Document) (a : List Part) (value : Value) (c : TextChange)
-    (now : Document) (d : TextChange) (fine : IsEditable profile limit s) (fine_now : IsEditable profile limit now)
-    (h : SetsValue profile limit s a value c) (k : SetsValue profile limit now a value d)
+    (now : Document) (b : List Part) (d : TextChange) (fine : IsEditable profile limit s)
+    (fine_now : IsEditable profile limit now)
+    (h : SetsValue profile limit s a value c) (k : SetsValue profile limit now b value d)
     (same : take d.size (drop d.at (text now)) ≡ take c.size (drop c.at (text s))) where
   abbrev was : Value
   was = its profile limit s a value c fine h
@@ -123,19 +125,19 @@ module _ (profile : Profile) (limit : ℕ) (s : Document) (a : List Part) (value
       → EachTo (λ u. suc (value_depth new) ≤ value_depth u) (act [] was) → suc (value_depth new) ≤ value_depth value
   deeper act e new x sets deep =
       subst (λ (u : Value). suc (value_depth new) ≤ value_depth u)
-      (made_is profile limit s a value c now d fine fine_now h k same act e x sets)
+      (made_is profile limit s a value c now b d fine fine_now h k same act e x sets)
       (subst (EachTo (λ u. suc (value_depth new) ≤ value_depth u)) x.by deep)
 
   shallow : (p : Part) (new : Value) → suc (value_depth new) ≤ value_depth value
-      → is_too_deep limit (a ++ p ∷ []) new (mentions_in now) ≡ false
+      → is_too_deep limit (b ++ p ∷ []) new (mentions_in now) ≡ false
   shallow p new deep =
-      le-ltb limit (enclosing (a ++ p ∷ []) (mentions_in now) + value_depth new)
+      le-ltb limit (enclosing (b ++ p ∷ []) (mentions_in now) + value_depth new)
       (omega (
         arith,
         deep,
-        (settable profile limit a value (mentions_in now) k.allowed).shallow,
-        enclosing_entry a p (mentions_in now) (mentions_of_value (its profile limit now a value d fine_now k))
-            (facts profile limit now a value d fine_now k),
+        (settable profile limit b value (mentions_in now) k.allowed).shallow,
+        enclosing_entry b p (mentions_in now) (mentions_of_value (its profile limit now b value d fine_now k))
+            (facts profile limit now b value d fine_now k),
       ))
 
   -- ---- an item
@@ -146,47 +148,48 @@ module _ (profile : Profile) (limit : ℕ) (s : Document) (a : List Part) (value
     array_is : is_array_at a (mentions_in s) ≡ true
     array_is = rw (at, is_array_at) refl
 
-    at_now : fact_at a (mentions_in now) ≡ Some fact.array
-    at_now = same_fact profile limit s a value c now d fine fine_now h k same ∙ at
+    at_now : fact_at b (mentions_in now) ≡ Some fact.array
+    at_now = same_fact profile limit s a value c now b d fine fine_now h k same ∙ at
 
-    array_now : is_array_at a (mentions_in now) ≡ true
+    array_now : is_array_at b (mentions_in now) ≡ true
     array_now = rw (at_now, is_array_at) refl
 
     before : IsMadeThere (put_at new n) was (there profile limit s a value c fine h).outer
         (edited_document s (insert (item_path a n) new))
     before = insert_there profile limit s a value c fine h n new array_is
 
-    pub insert_same : edited_document now (insert (item_path a n) new) ≡ edited_document now (set a value)
+    pub insert_same : edited_document now (insert (item_path b n) new) ≡ edited_document now (set b value)
     insert_same =
-        still_same profile limit s a value c now d fine fine_now h k same (put_at new n) (insert (item_path a n) new)
-        before sets (insert_there profile limit now a value d fine_now k n new array_now)
+        still_same profile limit s a value c now b d fine fine_now h k same (put_at new n) (insert (item_path a n) new)
+        before sets (insert (item_path b n) new)
+        (insert_there profile limit now b value d fine_now k n new array_now)
 
     grant : IsGranted profile limit s (item_path a n) n new
     grant = granted profile limit s (item_path a n) n new (numbered a n (mentions_in s) array_is) allowed
 
-    enough : n ≤ item_count a (mentions_in now)
-    enough = elim (cases_lt (item_count a (mentions_in now)) n) [
+    enough : n ≤ item_count b (mentions_in now)
+    enough = elim (cases_lt (item_count b (mentions_in now)) n) [
       | inr many ↦ many
       | inl fewer ↦
-          let m : ℕ = item_count a (mentions_in now) in
+          let m : ℕ = item_count b (mentions_in now) in
           let many : n ≤ item_count a (mentions_in s) =
           omega (
             arith,
             grant.few,
-            ap (λ (b : List Part). item_count b (mentions_in s)) (without_last-snoc a (index n)),
+            ap (λ (p : List Part). item_count p (mentions_in s)) (without_last-snoc a (index n)),
           ) in
           let yes : has_value (item_path a m) (mentions_in s) ≡ true =
           (items_numbered profile s a fine.valid fine.obeys at).below_count m (omega (arith, fewer, many)) in
-          let no : has_value (item_path a m) (mentions_in now) ≡ false =
-          (items_numbered profile now a fine_now.valid fine_now.obeys at_now).from_count m (omega arith) in
+          let no : has_value (item_path b m) (mentions_in now) ≡ false =
+          (items_numbered profile now b fine_now.valid fine_now.obeys at_now).from_count m (omega arith) in
           let both : true ≡ false =
-          sym yes ∙ sym (same_valued profile limit s a value c now d fine fine_now h k same (index m)) ∙ no in
+          sym yes ∙ sym (same_valued profile limit s a value c now b d fine fine_now h k same (index m)) ∙ no in
           absurd cc
     ]
 
-    pub insert_allowed : refusal profile limit now (insert (item_path a n) new) ≡ None
+    pub insert_allowed : refusal profile limit now (insert (item_path b n) new) ≡ None
     insert_allowed =
-        unrefused profile limit a n new (mentions_in now) array_now enough
+        unrefused profile limit b n new (mentions_in now) array_now enough
         (shallow (index n) new (deeper (put_at new n) (insert (item_path a n) new) new before sets
         (put_deep new n was (array_body was.body (fact_was fact.array at)))))
         (ap not grant.suits)
@@ -199,30 +202,33 @@ module _ (profile : Profile) (limit : ℕ) (s : Document) (a : List Part) (value
     abbrev path : List Part
     path = a ++ key key_is ∷ []
 
-    inline_now : fact_at a (mentions_in now) ≡ Some fact.inline
-    inline_now = same_fact profile limit s a value c now d fine fine_now h k same ∙ at
+    abbrev path_now : List Part
+    path_now = b ++ key key_is ∷ []
+
+    inline_now : fact_at b (mentions_in now) ≡ Some fact.inline
+    inline_now = same_fact profile limit s a value c now b d fine fine_now h k same ∙ at
 
     free : list_any (is_at path) (mentions_in s) ≡ false
     free = unnamed profile limit a key_is new (mentions_in s) allowed
 
-    free_now : list_any (is_at path) (mentions_in now) ≡ false
-    free_now = same_node profile limit s a value c now d fine fine_now h k same (key key_is) ∙ free
+    free_now : list_any (is_at path_now) (mentions_in now) ≡ false
+    free_now = same_node profile limit s a value c now b d fine fine_now h k same (key key_is) ∙ free
 
     keyval_before : IsMadeThere (put_keyval_at new key_is) was (there profile limit s a value c fine h).outer
         (edited_document s (insert path new))
     keyval_before = insert_keyval_there profile limit s a value c fine h key_is new at free
 
-    pub keyval_same : edited_document now (insert path new) ≡ edited_document now (set a value)
+    pub keyval_same : edited_document now (insert path_now new) ≡ edited_document now (set b value)
     keyval_same =
-        still_same profile limit s a value c now d fine fine_now h k same (put_keyval_at new key_is) (insert path new)
-        keyval_before sets
-        (insert_keyval_there profile limit now a value d fine_now k key_is new inline_now free_now)
+        still_same profile limit s a value c now b d fine fine_now h k same (put_keyval_at new key_is)
+        (insert path new) keyval_before sets (insert path_now new)
+        (insert_keyval_there profile limit now b value d fine_now k key_is new inline_now free_now)
 
-    pub keyval_allowed : refusal profile limit now (insert path new) ≡ None
+    pub keyval_allowed : refusal profile limit now (insert path_now new) ≡ None
     keyval_allowed =
-        keyval_unrefused profile limit a key_is new (mentions_in now)
-        (node_alone a (mentions_in now) (alone_of_fact a (mentions_in now) fact.inline inline_now refl))
-        (inline_table a (mentions_in now) (rules_of_document now fine_now.obeys) inline_now) free_now
+        keyval_unrefused profile limit b key_is new (mentions_in now)
+        (node_alone b (mentions_in now) (alone_of_fact b (mentions_in now) fact.inline inline_now refl))
+        (inline_table b (mentions_in now) (rules_of_document now fine_now.obeys) inline_now) free_now
         (shallow (key key_is) new (deeper (put_keyval_at new key_is) (insert path new) new keyval_before sets
         (put_keyval_deep new key_is was (inline_body was.body (fact_was fact.inline at)))))
         (ap not (suits_there profile limit s path new (keyval_number a key_is (mentions_in s)) allowed))

@@ -1,8 +1,9 @@
--- An edit of an entry makes the same of two documents in which the value that holds the entry has the same text.
+-- An edit of an entry makes the same of two documents in which the value that holds the entry has the same text, also
+-- where the value has another path in the other one.
 --
 -- It is done at that value (EntryActs, ValueSet), which is the same in both documents, since a text is that of one
--- value. So if it makes of the value in one what the set of the value makes there, it does in the other (`still_same`).
--- The same is said at the path of the value and below it (`same_fact`, `same_node`).
+-- value. So if it makes of the value in one what the set of the value makes there, the edit of the entry in the other
+-- does (`still_same`). The same is said at the path of the value and below it (`same_fact`, `same_node`).
 --
 -- Theorems: `insert_there`, `insert_keyval_there`, `remove_there`: it is done at the value; `still_same`; `made_is`,
 -- `facts`, `same_fact`, `same_node`.
@@ -119,42 +120,43 @@ mentioned_by q (m ∷ ms) = by (is_at q m) refl (mentioned_by q ms)
 -- ---- in another document
 
 module _ (profile : Profile) (limit : ℕ) (s : Document) (a : List Part) (value : Value) (c : TextChange)
-    (now : Document) (d : TextChange) (fine : IsEditable profile limit s) (fine_now : IsEditable profile limit now)
-    (h : SetsValue profile limit s a value c) (k : SetsValue profile limit now a value d)
+    (now : Document) (b : List Part) (d : TextChange) (fine : IsEditable profile limit s)
+    (fine_now : IsEditable profile limit now)
+    (h : SetsValue profile limit s a value c) (k : SetsValue profile limit now b value d)
     (same : take d.size (drop d.at (text now)) ≡ take c.size (drop c.at (text s))) where
   abbrev was : Value
   was = its profile limit s a value c fine h
 
   abbrev is_now : Value
-  is_now = its profile limit now a value d fine_now k
+  is_now = its profile limit now b value d fine_now k
 
   same_values : is_now ≡ was
   same_values =
-      one_value profile is_now was (value_set.old_valid profile limit now a value d fine_now k)
+      one_value profile is_now was (value_set.old_valid profile limit now b value d fine_now k)
       (value_set.old_valid profile limit s a value c fine h)
-      (sym (value_set.bytes profile limit now a value d fine_now k) ∙ same
+      (sym (value_set.bytes profile limit now b value d fine_now k) ∙ same
       ∙ value_set.bytes profile limit s a value c fine h)
 
-  same_below : (q : List Part) → fact_at (a ++ q) (mentions_in now) ≡ fact_at (a ++ q) (mentions_in s)
+  same_below : (q : List Part) → fact_at (b ++ q) (mentions_in now) ≡ fact_at (a ++ q) (mentions_in s)
   same_below q =
-      facts profile limit now a value d fine_now k q
+      facts profile limit now b value d fine_now k q
       ∙ ap (λ (v : Value). fact_at q (mentions_of_value v)) same_values ∙ sym (facts profile limit s a value c fine h q)
 
-  pub same_fact : fact_at a (mentions_in now) ≡ fact_at a (mentions_in s)
+  pub same_fact : fact_at b (mentions_in now) ≡ fact_at a (mentions_in s)
   same_fact =
-      ap (λ (p : List Part). fact_at p (mentions_in now)) (sym (append-nil a)) ∙ same_below []
+      ap (λ (p : List Part). fact_at p (mentions_in now)) (sym (append-nil b)) ∙ same_below []
       ∙ ap (λ (p : List Part). fact_at p (mentions_in s)) (append-nil a)
 
   pub same_valued : (p : Part)
-      → has_value (a ++ p ∷ []) (mentions_in now) ≡ has_value (a ++ p ∷ []) (mentions_in s)
+      → has_value (b ++ p ∷ []) (mentions_in now) ≡ has_value (a ++ p ∷ []) (mentions_in s)
   same_valued p = ap value_of (same_below (p ∷ []))
 
   pub same_node : (p : Part)
-      → list_any (is_at (a ++ p ∷ [])) (mentions_in now) ≡ list_any (is_at (a ++ p ∷ [])) (mentions_in s)
+      → list_any (is_at (b ++ p ∷ [])) (mentions_in now) ≡ list_any (is_at (a ++ p ∷ [])) (mentions_in s)
   same_node p =
-      mentioned_by (a ++ p ∷ []) (mentions_in now)
+      mentioned_by (b ++ p ∷ []) (mentions_in now)
       ∙ ap (λ (l : List MentionKind). list_any (λ x. true) l)
-      (kinds profile limit now a value d fine_now k p []
+      (kinds profile limit now b value d fine_now k p []
       ∙ ap (λ (v : Value). kinds_at (p ∷ []) (mentions_of_value v)) same_values
       ∙ sym (kinds profile limit s a value c fine h p []))
       ∙ sym (mentioned_by (a ++ p ∷ []) (mentions_in s))
@@ -168,11 +170,12 @@ module _ (profile : Profile) (limit : ℕ) (s : Document) (a : List Part) (value
         (there profile limit s a value c fine h).one x.made.to value
         (sym x.to_is ∙ sets ∙ value_set.edited_is profile limit s a value c fine h)
 
-    pub still_same : IsMadeThere act is_now (there profile limit now a value d fine_now k).outer (edited_document now e)
-        → edited_document now e ≡ edited_document now (set a value)
-    still_same y =
+    pub still_same : (f : Edit)
+        → IsMadeThere act is_now (there profile limit now b value d fine_now k).outer (edited_document now f)
+        → edited_document now f ≡ edited_document now (set b value)
+    still_same f y =
         let both : Some y.made ≡ Some x.made = sym y.by ∙ ap (act []) same_values ∙ x.by in
         let alike : y.made ≡ x.made = cc in
         y.to_is
-        ∙ ap (there profile limit now a value d fine_now k).outer (ap (λ (m : Changed Value). m.to) alike ∙ made_is)
-        ∙ sym (value_set.edited_is profile limit now a value d fine_now k)
+        ∙ ap (there profile limit now b value d fine_now k).outer (ap (λ (m : Changed Value). m.to) alike ∙ made_is)
+        ∙ sym (value_set.edited_is profile limit now b value d fine_now k)
