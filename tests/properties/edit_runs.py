@@ -8,8 +8,8 @@ to 1,000, by the document before all of them. So each list (of 80 edits, one in 
 given) is given to the program as one script, and then in scripts of 10, or of 2 where tables are removed, each on what the
 one before gave, where every edit is made by itself. Texts, faults and the number of the refused edit have to be the same.
 Most lists are of edits of one kind, a quarter of them of edits of all kinds in turn. A fifth of the lines that are changed have
-a comment. Among the edits are some that end such a row: one that is refused, one of a path that was there before or is in
-another's.
+a comment. Values are set again, which goes on in the row. Among the edits are some that end it: one that is refused, any
+other of a path that was there before, one that is in another's.
 """
 import sys
 from pathlib import Path
@@ -135,8 +135,11 @@ class Run:
         return edits
 
     def sets(self):
-        """Values that are there, now and then one that was set before, or is in another; often with fewer or more bytes."""
+        """Values that are there, in half of the lists few of them again and again, now and then one that is in another; often with
+        fewer or more bytes."""
         random, paths = self.random, self.with_lines()
+        if random.random() < 0.5:
+            paths = [random.choice(paths[: len(paths) // 5]) for _ in paths]
         paths += self.some_of(b"table", b"tables") + random.sample(paths, random.choice((0, 0, 2)))
         random.shuffle(paths)
         return [edit_of(b"set", it, value_of(random)) for it in paths]
@@ -220,11 +223,13 @@ class Run:
             self.text = self.text.replace(b"\n", b"\r\n", random.choice((1, 3, -1)))
             if self.ran([b"check"], self.text).returncode:
                 self.text = self.text.replace(b"\r\n", b"\n")
-        edits = []
+        edits, are_set = [], []
         for number, path in enumerate(paths):
             kind = random.choice((b"insert", b"insert", b"remove", b"remove", b"set", b"rename", b"table", b"element"))
             if holders and random.random() < 0.3:
                 edits.append(self.part(*holders.pop()))
+            elif are_set and random.random() < 0.2:
+                edits.append(edit_of(b"set", random.choice(are_set), value_of(random)))
             elif kind == b"table":
                 edits.append(edit_of(kind, b"tables_%d" % number))
             elif kind == b"element":
@@ -233,8 +238,11 @@ class Run:
                 edits.append(edit_of(kind, path, key=random.choice(KEYS) + b"_new_%d" % number))
             elif kind == b"insert":
                 edits.append(edit_of(kind, new(path, number), value_of(random)))
+            elif kind == b"set":
+                edits.append(edit_of(kind, path, value_of(random)))
+                are_set.append(path)
             else:
-                edits.append(edit_of(kind, path, value_of(random) if kind == b"set" else None))
+                edits.append(edit_of(kind, path))
         return edits
 
     def in_short_lists(self):

@@ -2,23 +2,25 @@
 --
 -- The holder's path is that of the entry without its last step.
 --
--- Theorems: `by_itself`, `by_set`.
+-- Theorems: `by_itself`, `by_set`; `again`: a set of a value that is set already.
 use Rattle.std.proofs.Common.{◌≡◌, ◌∷◌, ◌++◌, [], List, refl, sym, ap, subst, ◌∙◌, inl, inr, Option, Some, None}
 use Rattle.std.proofs.Common.{false, true, string_bytes}
 use Rattle.std.specs.Prelude.{IfSome}
-use Rattle.keep_syntax.specs.Tree.{Document}
+use Rattle.keep_syntax.specs.Tree.{Document, Value}
 use Rattle.keep_path.specs.Path.{Part, without_last}
 use Rattle.keep_edit_spec.specs.Edits as law
 use Rattle.keep_edit_spec.specs.EntryEdits.{IsOfEntry}
 use Rattle.keep_edit_spec.proofs.Shared.{without_last-snoc}
 use Rattle.keep_edit_plan.specs.Headers.{key_texts}
-use Rattle.keep_edit_plan.specs.TextEdits.{MakesChangeHere, MakesSetHere}
+use Rattle.keep_edit_spec.specs.Runs.{MakesChange}
+use Rattle.keep_edit_plan.specs.TextEdits.{MakesChangeHere, MakesSetHere, change_of}
 use Rattle.keep_edit_plan.specs.declared.edit.Edit.{Edit}
 use Rattle.keep_edit_plan.specs.declared.edit.Edit.TheVariants as edit
 use Rattle.keep_edit_plan.specs.declared.text_edit.TextEdit.{TextEdit}
 use Rattle.keep_edit.specs.Lists.{IsEdit}
-use Rattle.keep_edit.specs.Reading.{ProfiledText}
-use Rattle.keep_edit.specs.Runs.{MakesInRunHere, no_value, outline, plain}
+use Rattle.keep_edit.specs.Reading.{ProfiledText, limit}
+use Rattle.keep_edit.specs.Runs.{IsSetBy, MakesInRunHere, SetsAgainHere, no_value, outline, plain}
+use Rattle.keep_edit.specs.declared.outline.Outline.{Outline}
 
 plain_as : (e a : law.Edit) → e ≡ a → plain e ≡ plain a
 plain_as e a is = ap plain is
@@ -79,3 +81,19 @@ by_set now x (Some t) h = record {
   makes = λ s read. inr (h.holder, h.value, refl, h.makes s read);
   within = h.within;
 }
+
+-- a set of a value that an edit with one of these outlines sets
+pub again : (now : ProfiledText) (outlines : List Outline) (x : Edit) (path : List Part) (r : Option TextEdit)
+    → ((e : law.Edit) → IsEdit x e → (v : Value) × (e ≡ law.set path v)) → IsSetBy outlines path
+    → IfSome r (MakesChangeHere now x) → IfSome r (SetsAgainHere now x outlines)
+again now outlines x path None sets already h = tt
+again now outlines x path (Some t) sets already h =
+    let (v, is) = sets h.edit h.is in
+    record {
+      path = path;
+      value = v;
+      is = subst (IsEdit x) is h.is;
+      already = already;
+      sets = λ s read. subst (λ (e : law.Edit). MakesChange now.profile limit s e (change_of t)) is (h.makes s read);
+      within = h.within;
+    }

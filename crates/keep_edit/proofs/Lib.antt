@@ -18,5 +18,6 @@ mod SeenPathLaws
 mod KindLaws
 mod InRuns
 mod RunSteps
+mod SetAgainSteps
 mod ItemSteps
 mod SectionSteps

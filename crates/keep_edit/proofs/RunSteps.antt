@@ -2,16 +2,18 @@
 --
 -- By the law of runs one more such edit is not refused after those before it, and its change is put in where they move
 -- it. An edit of an entry does so as the set of its holder, which stands for it in the run. So the edits up to it are
--- made, and the text is that with one change more, which is in UTF-8 as all of its parts are.
+-- made, and the text is that with one change more, which is in UTF-8 as all of its parts are. A set of a value that one
+-- of them sets is not refused either, and its change comes in the place of that one's (SetAgainSteps).
 --
 -- Theorems: `no_changes`, `more_changes`: before the first edit, and with one more; `all_made`: so all are made;
--- `text_utf8`: the text with the changes; `unadded`, `added`, `is_pushed`: what is added to lists.
-use Rattle.std.proofs.Common.{◌≡◌, ◌≢◌, ◌<◌, ◌≤◌, ◌+◌, ◌∷◌, ◌++◌, [], ℕ, suc, List, length, take, drop, get_or}
-use Rattle.std.proofs.Common.{refl, sym, ap, subst, ◌∙◌, arith, All, IsUtf8, IsCharBoundary, inl, inr}
-use Rattle.std.specs.Prelude.{◌⊎◌, Bool, Err, IfOk, IsTrue, None, Ok, OnErr, Result, false, if◌then◌else◌, not, true}
+-- `text_utf8`: the text with the changes; `tree_of_run`: the document after a run; `run_so_far`: the run of the edits
+-- so far; `unadded`, `added`: what is added to a list.
+use Rattle.std.proofs.Common.{◌≡◌, ◌≢◌, ◌<◌, ◌≤◌, ◌+◌, ◌∷◌, ◌++◌, [], ℕ, zero, suc, List, length, take, drop}
+use Rattle.std.proofs.Common.{get_or, refl, sym, ap, subst, subst₂, ◌∙◌, arith, All, IsUtf8, IsCharBoundary, inl, inr}
+use Rattle.std.specs.Prelude.{◌⊎◌, Any, Bool, Err, IfOk, IsTrue, None, Ok, OnErr, Result, false, if◌then◌else◌}
+use Rattle.std.specs.Prelude.{true}
 use Rattle.std.specs.Bool.{Decides}
-use Rattle.std.specs.List.{list_any}
-use Rattle.std.proofs.lemmas.Bool.{or_from}
+use Rattle.std.proofs.lemmas.List.Folds.{list_any_none}
 use Rattle.std.specs.Result.{result_unwrap_or}
 use Rattle.std.specs.declared.alloc.AllocError.{AllocError}
 use Rattle.std.proofs.lemmas.List.{get_or-take, length-take-le}
@@ -28,26 +30,27 @@ use Rattle.keep_edit_spec.specs.EntryEdits.{IsRunLongerByEntry, MakesSet}
 use Rattle.keep_edit_spec.specs.Laws.{IsLawfulEdit}
 use Rattle.keep_edit_spec.specs.Refusals.{refusal}
 use Rattle.keep_edit_spec.specs.Runs as runs
+use Rattle.keep_edit_spec.specs.RunLists.{AreAtOnce, IsSetIn, MadeEdit, changes_of, document_after, edits_of}
 use Rattle.keep_edit_spec.specs.Runs.{ArePlain, IsBeforeHeaders, IsPlainBefore, IsRun, IsRunLonger, KeepsPlace}
 use Rattle.keep_edit_spec.specs.Runs.{LetsCome, MakesChange}
 use Rattle.keep_edit_spec.specs.TextChanges.{Follow, IsBeside, TextChange, moved_past, text_with, with_change}
-use Rattle.keep_edit_spec.proofs.Shared.{all_with, change_lawful, change_put, length_with, none_is_run, run_goes_on}
-use Rattle.keep_edit_spec.proofs.Shared.{run_goes_on_by_entry}
-use Rattle.keep_edit_plan.proofs.Shared.{change_in, editable}
+use Rattle.keep_edit_spec.proofs.Shared.{all_with, change_lawful, change_put, run_goes_on}
+use Rattle.keep_edit_spec.proofs.Shared.{run_goes_on_by_entry, run_is_known}
+use Rattle.keep_edit_plan.proofs.Shared.{change_in, editable, one_tree}
 use Rattle.keep_edit_plan.specs.TextEdits.{IsChangeIn, change_of}
 use Rattle.keep_edit_plan.specs.declared.edit.Edit.{Edit}
 use Rattle.keep_edit_plan.specs.declared.text_edit.TextEdit.{TextEdit}
 use Rattle.keep_edit.specs.Lists.{IsEdit, AreMade}
 use Rattle.keep_edit.specs.Reading.{limit, IsTextOfTree, ProfiledText}
 use Rattle.keep_edit.specs.Runs.{IsRunTo, LeavesAlone, MakeChanges, MakesInRun, MakesInRunHere, changed_text}
-use Rattle.keep_edit.specs.Runs.{outlined, plain}
+use Rattle.keep_edit.specs.Runs.{IsSetBy, no_value, outlined, plain}
 use Rattle.keep_edit.specs.declared.outline.Outline.{Outline}
-use Rattle.keep_edit.proofs.MadeMore.{more_made, tree_after}
+use Rattle.keep_edit.proofs.MadeMore.{more_made}
 
 -- ---- edits without their values
 
 -- What an edit leaves alone does not hang on values.
-plain_alone : (e f : law.Edit) → runs.LeavesAlone (plain e) (plain f) → runs.LeavesAlone e f
+pub plain_alone : (e f : law.Edit) → runs.LeavesAlone (plain e) (plain f) → runs.LeavesAlone e f
 plain_alone (law.set p v) (law.set q w) h = h
 plain_alone (law.set p v) (law.insert q w) h = h
 plain_alone (law.set p v) (law.rename q text) h = h
@@ -141,6 +144,35 @@ pub text_utf8 : (bytes : List ℕ) (cs : List TextChange) → IsUtf8 bytes → F
     → All (IsChangeIn bytes) cs → IsUtf8 (text_with 0 bytes cs)
 text_utf8 bytes cs utf8 = text_utf8_from 0 bytes cs utf8 (IsCharBoundary-start bytes utf8)
 
+-- ---- the document after a run
+
+module _ (s : Document) (edits : List Edit) (n : ℕ) (old now : ProfiledText) (before : Document)
+    (outlines : List Outline) (changes : List TextChange) (read : IsTextOfTree now before)
+    (h : IsRunTo s edits n old now before outlines changes) where
+  pub run_so_far : IsRun now.profile limit before (edits_of h.ms) changes h.made.tree
+  run_so_far =
+      subst (IsRun now.profile limit before (edits_of h.ms) changes) h.tree_is
+      (subst (λ (cs : List TextChange). IsRun now.profile limit before (edits_of h.ms) cs (document_after before h.ms))
+      h.changes_are
+      (run_is_known now.profile limit before h.ms (editable now before read) h.at_once))
+
+-- the document after edits that are made at once is that of the text with their changes
+pub tree_of_run : (now : ProfiledText) (before : Document) (ms : List MadeEdit) (changes : List TextChange)
+    (u : Document)
+    → IsTextOfTree now before → AreAtOnce now.profile limit before ms → changes_of ms ≡ changes
+    → IsTextOfTree (changed_text now changes) u → document_after before ms ≡ u
+tree_of_run now before ms changes u read at_once same made =
+    let r : IsRun now.profile limit before (edits_of ms) (changes_of ms) (document_after before ms) =
+    run_is_known now.profile limit before ms (editable now before read) at_once in
+    let spelled : text_with 0 now.text changes ≡ text (document_after before ms) =
+    ap (λ (bytes : List ℕ). text_with 0 bytes changes) read.reads.spelled
+    ∙ ap (λ (cs : List TextChange). text_with 0 (text before) cs) (sym same) ∙ sym r.text in
+    one_tree (changed_text now changes) (document_after before ms) u (record {
+      utf8 = made.utf8;
+      reads = record { valid = r.editable.valid; spelled = spelled; shallow = r.editable.shallow };
+      obeys = r.editable.obeys;
+    }) made
+
 -- ---- one more
 
 -- what holds of all of a list holds of all before its last one, and of that
@@ -150,9 +182,31 @@ parts P (y ∷ xs) x h =
     let (others, here) = parts P xs x (All-tail P y (xs ++ x ∷ []) h) in
     (All-cons P y xs (All-head P y (xs ++ x ∷ []) h) others, here)
 
+-- what holds of one of a list holds of one before its last, or of that
+one_or_more : (P : Outline → Type 0) (xs : List Outline) (x : Outline) → Any P (xs ++ x ∷ []) → Any P xs ⊎ P x
+one_or_more P [] x (zero, y, less, is, holds) = inr (subst P (sym is) holds)
+one_or_more P [] x (suc k, y, less, is, holds) = absurd (omega (arith, less))
+one_or_more P (z ∷ xs) x (zero, y, less, is, holds) = inl (0, y, omega arith, is, holds)
+one_or_more P (z ∷ xs) x (suc k, y, less, is, holds) =
+    elim (one_or_more P xs x (k, y, omega (arith, less), is, holds)) [
+      | inl (n, w, low, same, one) ↦ inl (suc n, w, omega (arith, low), same, one)
+      | inr its ↦ inr its
+    ]
+
+-- an edit that is a set but for its value
+set_of : (e : law.Edit) (path : List Part) → plain e ≡ law.set path no_value
+    → (value : Value) × (e ≡ law.set path value)
+set_of (law.set p v) path is = (v, ap (λ (q : List Part). law.set q v) cc)
+set_of (law.insert p v) path is = absurd cc
+set_of (law.rename p name) path is = absurd cc
+set_of (law.remove p) path is = absurd cc
+set_of (law.append_table ks) path is = absurd cc
+set_of (law.append_element ks) path is = absurd cc
+
 -- one edit more, for which another stands in the run
 record IsLonger (profile : Profile) (s : Document) (es : List law.Edit) (changes : List TextChange) (now : Document)
     (e a : law.Edit) (c : TextChange) : Type 0 where
+  makes : MakesChange profile limit s a c
   allowed : refusal profile limit now e ≡ None
   lawful : IsLawfulEdit profile limit now e
   run : IsRun profile limit s (a ∷ es) (with_change changes c) (edited_document now e)
@@ -168,6 +222,7 @@ module _ (profile : Profile) (s : Document) (es : List law.Edit) (changes : List
       let longer : IsRunLonger profile limit s es changes now a c =
       run_goes_on profile limit s es changes now a c r makes alone beside keeps in
       subst (λ (f : law.Edit). IsLonger profile s es changes now f a c) is (record {
+        makes = makes;
         allowed = longer.allowed;
         lawful = change_lawful profile limit now a (moved_past changes c) r.editable
             (r.later a c makes alone beside keeps);
@@ -181,7 +236,7 @@ module _ (profile : Profile) (s : Document) (es : List law.Edit) (changes : List
       run_goes_on_by_entry profile limit s es changes now e holder value c r h
       (subst (λ (g : law.Edit). All (λ f. runs.LeavesAlone f g) es) is alone) beside in
       subst (λ (g : law.Edit). IsLonger profile s es changes now e g c) (sym is)
-      (record { allowed = longer.allowed; lawful = longer.lawful; run = longer.run })
+      (record { makes = h.sets; allowed = longer.allowed; lawful = longer.lawful; run = longer.run })
 
   goes_on_by : MakesInRun profile s e a c → IsLonger profile s es changes now e a c
   goes_on_by (inl (is, h)) = longer_by_itself is h
@@ -198,7 +253,13 @@ module _ (s : Document) (edits : List Edit) (n : ℕ) (old now : ProfiledText) (
   abbrev t : Document
   t = h.made.tree
 
-  others : All (λ f. runs.LeavesAlone f a) h.es
+  abbrev es : List law.Edit
+  es = edits_of h.ms
+
+  so_far : IsRun now.profile limit before es changes t
+  so_far = run_so_far s edits n old now before outlines changes read h
+
+  others : All (λ f. runs.LeavesAlone f a) es
   others =
       h.alone a
       (subst (λ (g : law.Edit). All (λ y. runs.LeavesAlone (outlined y) g) outlines) (sym plain_is) others_alone)
@@ -206,34 +267,34 @@ module _ (s : Document) (edits : List Edit) (n : ℕ) (old now : ProfiledText) (
   plain_before : IsPlainBefore now.text changes c.at → IsPlainBefore (text before) changes c.at
   plain_before = subst (λ (bytes : List ℕ). IsPlainBefore bytes changes c.at) read.reads.spelled
 
-  keeps : KeepsPlace (text before) h.es changes a c
+  keeps : KeepsPlace (text before) es changes a c
   keeps = by a (ap runs.is_insert (sym plain_is) ∙ plain_insert a) (ap runs.is_header (sym plain_is) ∙ plain_header a)
     where
       all_inserts : (All (λ y. runs.is_insert (outlined y) ≡ true) outlines
           ⊎ (ArePlain now.text changes × (All (LetsCome now.text changes c.at) changes
           × (All (λ y. runs.is_header (outlined y) ≡ false) outlines ⊎ (c.at ≢ length now.text)))))
-          → All (λ f. IsTrue (runs.is_insert f)) h.es
+          → All (λ f. IsTrue (runs.is_insert f)) es
           ⊎ (ArePlain (text before) changes × (All (LetsCome (text before) changes c.at) changes
-          × IsBeforeHeaders (text before) h.es c.at))
+          × IsBeforeHeaders (text before) es c.at))
       all_inserts (inl all) = inl (h.inserts all)
       all_inserts (inr (plain, (come, ends))) =
-          subst (λ (bytes : List ℕ). All (λ f. IsTrue (runs.is_insert f)) h.es
+          subst (λ (bytes : List ℕ). All (λ f. IsTrue (runs.is_insert f)) es
           ⊎ (ArePlain bytes changes × (All (LetsCome bytes changes c.at) changes
-          × IsBeforeHeaders bytes h.es c.at)))
+          × IsBeforeHeaders bytes es c.at)))
           read.reads.spelled (inr (plain, (come, before_headers ends)))
         where
           before_headers : (All (λ y. runs.is_header (outlined y) ≡ false) outlines ⊎ (c.at ≢ length now.text))
-              → IsBeforeHeaders now.text h.es c.at
-          before_headers (inl none) = inl (h.headless none)
+              → IsBeforeHeaders now.text es c.at
+          before_headers (inl none) = inl (list_any_none runs.is_header es (h.headless none))
           before_headers (inr other) = inr other
 
       all_headers : (All (λ y. runs.is_header (outlined y) ≡ true) outlines ⊎ IsPlainBefore now.text changes c.at)
-          → All (λ f. IsTrue (runs.is_header f)) h.es ⊎ IsPlainBefore (text before) changes c.at
+          → All (λ f. IsTrue (runs.is_header f)) es ⊎ IsPlainBefore (text before) changes c.at
       all_headers (inl all) = inl (h.headers all)
       all_headers (inr plain) = inr (plain_before plain)
 
       by : (f : law.Edit) → runs.is_insert (outlined o) ≡ runs.is_insert f
-          → runs.is_header (outlined o) ≡ runs.is_header f → KeepsPlace (text before) h.es changes f c
+          → runs.is_header (outlined o) ≡ runs.is_header f → KeepsPlace (text before) es changes f c
       by (law.insert p v) insert header = all_inserts (placed.insert insert)
       by (law.remove p) insert header = tt
       by (law.set p v) insert header = tt
@@ -241,8 +302,8 @@ module _ (s : Document) (edits : List Edit) (n : ℕ) (old now : ProfiledText) (
       by (law.append_table ks) insert header = all_headers (placed.header header)
       by (law.append_element ks) insert header = all_headers (placed.header header)
 
-  longer : IsLonger now.profile before h.es changes t e a c
-  longer = goes_on_by now.profile before h.es changes t e a c h.run others beside keeps makes
+  longer : IsLonger now.profile before es changes t e a c
+  longer = goes_on_by now.profile before es changes t e a c so_far others beside keeps makes
 
   abbrev next : List ℕ
   next = text_with 0 now.text (with_change changes c)
@@ -256,36 +317,60 @@ module _ (s : Document) (edits : List Edit) (n : ℕ) (old now : ProfiledText) (
       ap (λ (b : List ℕ). text_with 0 b (with_change changes c)) read.reads.spelled
       ∙ sym longer.run.text ∙ change_put t e
       ∙ ap (λ (b : List ℕ). put b (place t e))
-      (h.run.text ∙ ap (λ (b : List ℕ). text_with 0 b changes) (sym read.reads.spelled))
+      (so_far.text ∙ ap (λ (b : List ℕ). text_with 0 b changes) (sym read.reads.spelled))
 
   made : AreMade s (take (suc n) edits) old (changed_text now (with_change changes c))
   made = more_made (changed_text now changes) t e h.made.read longer.lawful next next_utf8 next_is s edits n old d x lt
       here given h.made refl longer.allowed
 
+  -- with it in front
+  abbrev ms : List MadeEdit
+  ms = record { edit = a; change = c } ∷ h.ms
+
+  at_once : AreAtOnce now.profile limit before ms
+  at_once = (
+    longer.makes,
+    (
+      others,
+      (
+        subst (All (λ b. IsBeside b c)) (sym h.changes_are) beside,
+        (subst (λ (cs : List TextChange). KeepsPlace (text before) es cs a c) (sym h.changes_are) keeps, h.at_once),
+      ),
+    ),
+  )
+
+  set_in : (path : List Part) → IsSetBy (outlines ++ o ∷ []) path → IsSetIn path ms
+  set_in path any = elim (one_or_more (λ y. outlined y ≡ law.set path no_value) outlines o any) [
+    | inl earlier ↦ inr (h.sets path earlier)
+    | inr its ↦ inl (set_of a path (plain_is ∙ its))
+  ]
+
   pub one_made_more : IsRunTo s edits (suc n) old now before (outlines ++ o ∷ []) (with_change changes c)
   one_made_more = record {
     made = made;
-    es = a ∷ h.es;
+    ms = ms;
     alone = λ f all.
         let (all_before, its) = parts (λ y. runs.LeavesAlone (outlined y) (plain f)) outlines o all in
-        All-cons (λ g. runs.LeavesAlone g f) a h.es
+        All-cons (λ g. runs.LeavesAlone g f) a es
         (plain_alone a f (subst (λ (g : law.Edit). runs.LeavesAlone g (plain f)) (sym plain_is) its))
         (h.alone f all_before);
     inserts = λ all.
         let (all_before, its) = parts (λ y. runs.is_insert (outlined y) ≡ true) outlines o all in
-        All-cons (λ g. IsTrue (runs.is_insert g)) a h.es
+        All-cons (λ g. IsTrue (runs.is_insert g)) a es
         (sym (plain_insert a) ∙ ap runs.is_insert plain_is ∙ its) (h.inserts all_before);
     headers = λ all.
         let (all_before, its) = parts (λ y. runs.is_header (outlined y) ≡ true) outlines o all in
-        All-cons (λ g. IsTrue (runs.is_header g)) a h.es
+        All-cons (λ g. IsTrue (runs.is_header g)) a es
         (sym (plain_header a) ∙ ap runs.is_header plain_is ∙ its) (h.headers all_before);
     headless = λ all.
         let (all_before, its) = parts (λ y. runs.is_header (outlined y) ≡ false) outlines o all in
-        or_from (runs.is_header a) (list_any runs.is_header h.es)
+        All-cons (λ g. runs.is_header g ≡ false) a es
         (sym (plain_header a) ∙ ap runs.is_header plain_is ∙ its) (h.headless all_before);
-    run = subst (IsRun now.profile limit before (a ∷ h.es) (with_change changes c))
-        (tree_after (changed_text now changes) t e h.made.read longer.lawful next next_utf8 next_is made.tree made.read)
-        longer.run;
+    sets = set_in;
+    at_once = at_once;
+    changes_are = ap (λ (cs : List TextChange). with_change cs c) h.changes_are;
+    tree_is = tree_of_run now before ms (with_change changes c) made.tree read at_once
+        (ap (λ (cs : List TextChange). with_change cs c) h.changes_are) made.read;
   }
 
 -- ---- as the code goes
@@ -293,7 +378,6 @@ module _ (s : Document) (edits : List Edit) (n : ℕ) (old now : ProfiledText) (
 -- So far these changes are made, and the edits up to number `end` are made by them, which have these outlines.
 pub record AreMadeTo (edits : List Edit) (first end : ℕ) (now : ProfiledText) (outlines : List Outline)
     (changes : List TextChange) : Type 0 where
-  pub many : first + length changes ≡ end
   pub made : (s : Document) (old : ProfiledText) → (h : AreMade s (take first edits) old now)
       → IsRunTo s edits end old now h.tree outlines changes
   pub within : All (IsChangeIn now.text) changes
@@ -301,15 +385,17 @@ pub record AreMadeTo (edits : List Edit) (first end : ℕ) (now : ProfiledText) 
 
 pub no_changes : (edits : List Edit) (first : ℕ) (now : ProfiledText) → AreMadeTo edits first first now [] []
 no_changes edits first now = record {
-  many = omega arith;
   made = λ s old h. record {
     made = h;
-    es = [];
+    ms = [];
     alone = λ f all. All-nil (λ e. runs.LeavesAlone e f);
     inserts = λ all. All-nil (λ e. IsTrue (runs.is_insert e));
     headers = λ all. All-nil (λ e. IsTrue (runs.is_header e));
-    headless = λ all. refl;
-    run = none_is_run now.profile limit h.tree (editable now h.tree h.read);
+    headless = λ all. All-nil (λ e. runs.is_header e ≡ false);
+    sets = λ path (k, x, less, is, holds). absurd (omega (arith, less));
+    at_once = tt;
+    changes_are = refl;
+    tree_is = refl;
   };
   within = All-nil (IsChangeIn now.text);
   utf8 = All-nil (λ c. IsUtf8 c.new);
@@ -326,7 +412,6 @@ more_changes edits first end now outlines changes d x o t so_far lt here makes a
     let utf8 = all_with (λ b. IsUtf8 b.new) changes c so_far.utf8 (IsUtf8-string_bytes t.new) in
     let within = all_with (IsChangeIn now.text) changes c so_far.within (change_in now.text t makes.within) in
     record {
-      many = omega (arith, so_far.many, length_with changes c);
       made = λ s old h. one_made_more s edits end old now h.tree outlines changes h.read (so_far.made s old h) d x lt
           here o makes.edit makes.in_run makes.is (makes.outline_is h.tree h.read) c (makes.makes h.tree h.read) alone
           beside placed utf8 within;
@@ -335,11 +420,12 @@ more_changes edits first end now outlines changes d x o t so_far lt here makes a
     }
 
 -- So all edits that the changes are of are made by them.
-pub all_made : (edits : List Edit) (first end : ℕ) (now : ProfiledText) (outlines : List Outline)
-    (changes : List TextChange) → AreMadeTo edits first end now outlines changes
-    → MakeChanges edits first (first + length changes) now changes
-all_made edits first end now outlines changes so_far s old h =
-    subst (λ (n : ℕ). AreMade s (take n edits) old (changed_text now changes)) (sym so_far.many)
+pub all_made : (edits : List Edit) (first : ℕ) (now : ProfiledText) (outlines : List Outline)
+    (changes : List TextChange) → {end to : ℕ} {its : List TextChange}
+    → AreMadeTo edits first end now outlines changes → its ≡ changes → to ≡ end
+    → MakeChanges edits first to now its
+all_made edits first now outlines changes so_far same there s old h =
+    subst₂ (λ (n : ℕ) (cs : List TextChange). AreMade s (take n edits) old (changed_text now cs)) (sym there) (sym same)
     (so_far.made s old h).made
 
 -- A change that is not added leaves the list as it is.
@@ -357,9 +443,3 @@ pub added : (r : Result Bool AllocError) (old with_it now : List TextChange) (Q 
 added (Ok true) old with_it now Q decides is e = (decides.0 refl, is)
 added (Ok false) old with_it now Q decides is e = absurd cc
 added (Err f) old with_it now Q decides is e = absurd cc
-
--- An outline that is pushed comes last.
-pub is_pushed : (old new : List Outline) (o : Outline) (ok err : Bool) → new ≡ (if ok then old ++ o ∷ [] else old)
-    → ok ≡ not err → err ≡ false → new ≡ old ++ o ∷ []
-is_pushed old new o true err is negation none = is
-is_pushed old new o false err is negation none = let e : false ≡ true = negation ∙ ap not none in absurd cc

@@ -1,6 +1,6 @@
 -- Edits of a list that are made at once: each makes its change of the document before all of them.
 use Rattle.std.specs.Prelude.{◌≡◌, ◌≢◌, ◌⊎◌, ℕ, ◌+◌, Bool, true, false, if◌then◌else◌, ◌||◌, IsTrue, List, [], All}
-use Rattle.std.specs.Prelude.{Option, drop, length, map, take, String, string_bytes}
+use Rattle.std.specs.Prelude.{Any, Option, drop, length, map, take, String, string_bytes}
 use Rattle.std.specs.Global.{Global}
 use Rattle.std.specs.List.{list_any}
 use Rattle.keep_types.specs.declared.leaf.Profile.{Profile}
@@ -12,7 +12,9 @@ use Rattle.keep_edit_spec.specs.EntryEdits.{MakesSet}
 use Rattle.keep_edit_spec.specs.Look.{keys_in}
 use Rattle.keep_edit_spec.specs.RemovedSections.{IsSectionRun, RemovesSection}
 use Rattle.keep_edit_spec.specs.Runs as runs
-use Rattle.keep_edit_spec.specs.Runs.{IsRun, LetsCome, MakesChange, takes_up_to}
+use Rattle.keep_edit_spec.specs.RunLists.{AreAtOnce, IsSetIn, MadeEdit, changes_of, document_after, edits_of}
+use Rattle.keep_edit_spec.specs.Runs.{LetsCome, MakesChange, takes_up_to}
+use Rattle.keep_edit_spec.specs.SetValues.{SetsValue}
 use Rattle.keep_edit_spec.specs.TextChanges.{TextChange, text_with}
 use Rattle.keep_edit_plan.specs.Headers.{key_texts}
 use Rattle.keep_edit_plan.specs.TextEdits.{change_of}
@@ -106,18 +108,38 @@ pub record MakesInRunHere (now : ProfiledText) (x : Edit) (outline : law.Edit) (
   pub makes : (s : Document) → IsTextOfTree now s → MakesInRun now.profile s edit in_run (change_of t)
   pub within : IsSpanOf now.text t.place
 
+-- One of the edits with these outlines sets the value at that path.
+abbrev pub IsSetBy : List Outline → List Part → Type 0
+IsSetBy outlines path = Any (λ o. outlined o ≡ law.set path no_value) outlines
+
+-- The edit sets a value in the document of this text, by this change, which an edit with one of these outlines sets
+-- too.
+pub record SetsAgainHere (now : ProfiledText) (x : Edit) (outlines : List Outline) (t : TextEdit) : Type 0 where
+  pub path : List Part
+  pub value : Value
+  pub is : IsEdit x (law.set path value)
+  pub already : IsSetBy outlines path
+  pub sets : (s : Document) → IsTextOfTree now s → SetsValue now.profile limit s path value (change_of t)
+  pub within : IsSpanOf now.text t.place
+
 -- With the edits up to number `end` made, this is the text with the changes. It is known of the document that it is
--- after a run of edits, which leave alone what each of these outlines does.
+-- after a list of edits that are made at once, which leave alone what each of these outlines does.
 pub record IsRunTo (s : Document) (edits : List Edit) (end : ℕ) (old now : ProfiledText) (before : Document)
     (outlines : List Outline) (changes : List TextChange) : Type 0 where
   pub made : AreMade s (take end edits) old (changed_text now changes)
-  pub es : List law.Edit
+  pub ms : List MadeEdit
   pub alone : (f : law.Edit) → All (λ x. runs.LeavesAlone (outlined x) (plain f)) outlines
-      → All (λ e. runs.LeavesAlone e f) es
-  pub inserts : All (λ x. runs.is_insert (outlined x) ≡ true) outlines → All (λ e. IsTrue (runs.is_insert e)) es
-  pub headers : All (λ x. runs.is_header (outlined x) ≡ true) outlines → All (λ e. IsTrue (runs.is_header e)) es
-  pub headless : All (λ x. runs.is_header (outlined x) ≡ false) outlines → list_any runs.is_header es ≡ false
-  pub run : IsRun now.profile limit before es changes made.tree
+      → All (λ e. runs.LeavesAlone e f) (edits_of ms)
+  pub inserts : All (λ x. runs.is_insert (outlined x) ≡ true) outlines
+      → All (λ e. IsTrue (runs.is_insert e)) (edits_of ms)
+  pub headers : All (λ x. runs.is_header (outlined x) ≡ true) outlines
+      → All (λ e. IsTrue (runs.is_header e)) (edits_of ms)
+  pub headless : All (λ x. runs.is_header (outlined x) ≡ false) outlines
+      → All (λ e. runs.is_header e ≡ false) (edits_of ms)
+  pub sets : (path : List Part) → IsSetBy outlines path → IsSetIn path ms
+  pub at_once : AreAtOnce now.profile limit before ms
+  pub changes_are : changes_of ms ≡ changes
+  pub tree_is : document_after before ms ≡ made.tree
 
 -- ---- items
 

@@ -42,6 +42,7 @@
 #![tactic(auto)]
 
 mod alike;
+mod at_once;
 mod changes;
 mod document;
 mod edits;

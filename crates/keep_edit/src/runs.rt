@@ -1,19 +1,19 @@
 //! Edits of a list in their order. Where many come in a row that each make their change elsewhere, and leave one
 //! another alone, they are made at once: each is known by the document before all of them.
 ghost use Rattle.std.specs.Prelude.{◌≡◌, ◌+◌, ◌<◌, ◌≤◌, ◌↔◌, ℕ, All, IfErr, IfOk, IfSome, IsTrue, List, MatchResult};
-ghost use Rattle.std.specs.Prelude.{Some, length, slice_get, take};
+ghost use Rattle.std.specs.Prelude.{Some, length, slice_get, take, true};
 ghost use Rattle.std.specs.Bool.{Decides};
 ghost use Rattle.keep_syntax.specs.Tree as tree;
 ghost use Rattle.keep_edit.specs.Lists.{AreMade, StopsAt};
 ghost use Rattle.keep_edit.specs.Reading.{ProfiledText};
 ghost use Rattle.keep_edit.specs.Runs.{AddsItemHere, IsPlaceKept, MakeChanges, MakesInRunHere};
-ghost use Rattle.keep_edit.specs.Runs.{RemovesSectionHere, changed_text, outline};
+ghost use Rattle.keep_edit.specs.Runs.{RemovesSectionHere, SetsAgainHere, changed_text, outline};
 ghost use Rattle.keep_edit_plan.specs.TextEdits.{IsChangeIn};
 ghost use Rattle.keep_edit_spec.specs.AddedItems.{item_path};
-ghost use Rattle.keep_edit_spec.specs.Runs.{IsPlain};
 ghost use Rattle.keep_path.specs.Path.{Part, index};
 
 use crate::alike::{agree, is_same, leave_alone_within};
+use crate::at_once::{AtOnce, Run, is_plain};
 use crate::document::Document;
 use crate::outline::{Outline, Steps};
 use crate::seen::SeenKeys;
@@ -21,7 +21,6 @@ use crate::seen_paths::SeenPaths;
 use keep_edit_plan::{Edit, TextEdit, TextEdits};
 use keep_edit_spec::EditFault;
 use keep_rules::{Origin, Path, Step};
-use memchr::memchr;
 
 /// No more edits than these are made at once.
 const MOST_AT_ONCE: usize = 1000;
@@ -30,13 +29,6 @@ const MOST_AT_ONCE: usize = 1000;
 const PAIRS: usize = 5000;
 /// What it takes to read a text anew, in parts of it.
 const READING: usize = 1000;
-
-/// Whether a text has no carriage return.
-fn is_plain(text: &str) -> bool
-    ensures { Decides result (IsPlain text.now) }
-{
-    memchr(b'\r', text.as_bytes()).is_none()
-}
 
 /// Whether the second edit is there, and both are inserts or removes whose paths differ in their last step alone. Of
 /// entries, they are of one value.
@@ -96,8 +88,7 @@ impl Document {
         ensures next { IfOk result (λ next. (first < next) × (next ≤ length edits.now)) }
         ensures number { IfErr result (λ stop. stop.0 < length edits.now) }
     {
-        let changes = self.changes_at_once(edits, first);
-        let end = first + changes.len();
+        let Run { changes, end } = self.changes_at_once(edits, first);
         if end > first && self.is_worth_reading(&edits[first..end]) {
             if let Some(document) = self.with_changes(&changes) {
                 *self = document;
@@ -118,8 +109,7 @@ impl Document {
         if !self.is_worth_reading(edits) {
             return None;
         }
-        let changes = self.changes_at_once(edits, 0);
-        let end = changes.len();
+        let Run { changes, end } = self.changes_at_once(edits, 0);
         if !self.is_worth_reading(&edits[..end]) {
             return None;
         }
@@ -196,56 +186,61 @@ impl Document {
 
     /// What the edits from number `first` on change in the text, as far as they can be made at once: inserts of the
     /// next items of one array, or edits of one kind, or of several where those are few.
-    fn changes_at_once(&self, edits: &[Edit], first: usize) -> TextEdits
+    fn changes_at_once(&self, edits: &[Edit], first: usize) -> Run
         requires { first < length edits.now }
-        ensures few { first + length result ≤ length edits.now }
-        ensures made { MakeChanges edits.now first (first + length result) self.now result }
-        ensures within { All (IsChangeIn self.now.text) result }
+        ensures few { (first ≤ result.end) × (result.end ≤ length edits.now) }
+        ensures made { MakeChanges edits.now first result.end self.now result.changes }
+        ensures within { All (IsChangeIn self.now.text) result.changes }
     {
         let items = self.items_by(edits, first);
         if items.len() > 1 {
-            return items;
+            return Run {
+                end: first + items.len(),
+                changes: items,
+            };
         }
-        let changes = self.changes_by(edits, first);
-        let end = first + changes.len();
-        if end > first
-            && (self.is_worth_reading(&edits[first..end])
-                || !self.is_other_kind(&edits[first], edits.get(end)))
+        let run = self.changes_by(edits, first);
+        if run.end > first
+            && (self.is_worth_reading(&edits[first..run.end])
+                || !self.is_other_kind(&edits[first], edits.get(run.end)))
         {
-            return changes;
+            return run;
         }
-        let others = self.others_by(edits, first, end > first);
-        if others.len() > changes.len() {
+        let others = self.others_by(edits, first, run.end > first);
+        if others.end > run.end {
             return others;
         }
-        changes
+        run
     }
 
     /// The same as far as they are of several kinds, if the first is known to leave others alone; else as far as they
     /// remove tables with their headers.
-    fn others_by(&self, edits: &[Edit], first: usize, is_known: bool) -> TextEdits
+    fn others_by(&self, edits: &[Edit], first: usize, is_known: bool) -> Run
         requires { first < length edits.now }
-        ensures few { first + length result ≤ length edits.now }
-        ensures made { MakeChanges edits.now first (first + length result) self.now result }
-        ensures within { All (IsChangeIn self.now.text) result }
+        ensures few { (first ≤ result.end) × (result.end ≤ length edits.now) }
+        ensures made { MakeChanges edits.now first result.end self.now result.changes }
+        ensures within { All (IsChangeIn self.now.text) result.changes }
     {
         if is_known {
             self.changes_of_kinds(edits, first)
         } else {
-            self.sections_by(edits, first)
+            let sections = self.sections_by(edits, first);
+            Run {
+                end: first + sections.len(),
+                changes: sections,
+            }
         }
     }
 
     /// What the edits from number `first` on change in the text, as far as all are of one kind and each makes its
-    /// change beside those before it. Where memory is refused, there are fewer.
-    fn changes_by(&self, edits: &[Edit], first: usize) -> TextEdits
+    /// change beside those before it, or sets a value again. Where memory is refused, there are fewer.
+    fn changes_by(&self, edits: &[Edit], first: usize) -> Run
         requires { first < length edits.now }
-        ensures few { first + length result ≤ length edits.now }
-        ensures made { MakeChanges edits.now first (first + length result) self.now result }
-        ensures within { All (IsChangeIn self.now.text) result }
+        ensures few { (first ≤ result.end) × (result.end ≤ length edits.now) }
+        ensures made { MakeChanges edits.now first result.end self.now result.changes }
+        ensures within { All (IsChangeIn self.now.text) result.changes }
     {
-        let mut changes = TextEdits::new(self.alloc());
-        let mut outlines = Vec::new(self.alloc());
+        let mut so_far = AtOnce::new(self.alloc());
         let mut keys = SeenKeys::new(self.alloc(), self.outline_of(&edits[first]));
         let mut left = self.most_pairs();
         let end = edits.len().min(first.saturating_add(MOST_AT_ONCE));
@@ -253,68 +248,91 @@ impl Document {
             let edit = &edits[number];
             let is_entry = self.is_entry(edit);
             let outline = Outline::of(edit, is_entry);
+            if let Some(change) = self.change_again(&so_far, edit) {
+                if !so_far.overwrite(change) {
+                    return so_far.up_to(number);
+                }
+                continue;
+            }
             if outline.has_long_path()
                 || !(keys.leaves_alone(&outline)
-                    || leave_alone_within(&mut left, outlines.as_slice(), &outline))
+                    || leave_alone_within(&mut left, so_far.outlines.as_slice(), &outline))
                 || !keys.add(&outline).unwrap_or(false)
             {
-                return changes;
+                return so_far.up_to(number);
             }
             let Some(change) = self.change_in_run(edit, edits.get(number + 1), is_entry) else {
-                return changes;
+                return so_far.up_to(number);
             };
-            if outlines.push(outline).is_err() || !changes.add(change).unwrap_or(false) {
-                return changes;
+            if !so_far.add(outline, change) {
+                return so_far.up_to(number);
             }
         }
-        changes
+        so_far.up_to(end)
     }
 
     /// What the edits from number `first` on change in the text, as far as they leave one another alone, of whatever
-    /// kinds, and each makes its change beside those before it. Where memory is refused, there are fewer.
-    fn changes_of_kinds(&self, edits: &[Edit], first: usize) -> TextEdits
+    /// kinds, and each makes its change beside those before it, or sets a value again. Where memory is refused, there
+    /// are fewer.
+    fn changes_of_kinds(&self, edits: &[Edit], first: usize) -> Run
         requires { first < length edits.now }
-        ensures few { first + length result ≤ length edits.now }
-        ensures made { MakeChanges edits.now first (first + length result) self.now result }
-        ensures within { All (IsChangeIn self.now.text) result }
+        ensures few { (first ≤ result.end) × (result.end ≤ length edits.now) }
+        ensures made { MakeChanges edits.now first result.end self.now result.changes }
+        ensures within { All (IsChangeIn self.now.text) result.changes }
     {
-        let mut changes = TextEdits::new(self.alloc());
-        let mut outlines = Vec::new(self.alloc());
+        let mut so_far = AtOnce::new(self.alloc());
         let mut paths = SeenPaths::new(self.alloc());
         let mut left = self.most_pairs();
         let mut is_text_plain = false;
-        let mut are_plain = true;
         let end = edits.len().min(first.saturating_add(MOST_AT_ONCE));
         for number in first..end {
             let edit = &edits[number];
             let is_entry = self.is_entry(edit);
             let outline = Outline::of(edit, is_entry);
+            if let Some(change) = self.change_again(&so_far, edit) {
+                if !so_far.overwrite(change) {
+                    return so_far.up_to(number);
+                }
+                continue;
+            }
             if outline.has_long_path_among_all()
                 || !(paths.leave_alone(&outline)
-                    || leave_alone_within(&mut left, outlines.as_slice(), &outline))
+                    || leave_alone_within(&mut left, so_far.outlines.as_slice(), &outline))
                 || !paths.add(&outline).unwrap_or(false)
             {
-                return changes;
+                return so_far.up_to(number);
             }
             let Some(change) = self.change_in_run(edit, edits.get(number + 1), is_entry) else {
-                return changes;
+                return so_far.up_to(number);
             };
-            let at = change.place.start;
-            are_plain = are_plain && is_plain(change.new.as_str());
             if outline.writes_anew() {
                 is_text_plain = is_text_plain || is_plain(self.text.as_str());
-                if !is_text_plain
-                    || !are_plain
-                    || !self.keeps_place(&changes, &outline, at, paths.has_header())
-                {
-                    return changes;
+                let at = change.place.start;
+                if !is_text_plain || !self.keeps_place(&so_far, &outline, at, paths.has_header()) {
+                    return so_far.up_to(number);
                 }
             }
-            if outlines.push(outline).is_err() || !changes.add(change).unwrap_or(false) {
-                return changes;
+            if !so_far.add(outline, change) {
+                return so_far.up_to(number);
             }
         }
-        changes
+        so_far.up_to(end)
+    }
+
+    /// What an edit changes of the text, if it sets a value that these edits are known to set: that comes in the place
+    /// of what they change there.
+    fn change_again(&self, so_far: &AtOnce, edit: &Edit) -> Option<TextEdit>
+        ensures { IfSome result (SetsAgainHere self.now edit.now so_far.now.outlines.items) }
+    {
+        let Edit::Set(path, _) = edit else {
+            return None;
+        };
+        let id = self.index.find(path)?;
+        let start = self.index.value_span(id, &self.syntax)?.start;
+        if !so_far.set(&Steps::of(path), start) {
+            return None;
+        }
+        self.as_ref().change_by(self.alloc(), edit)
     }
 
     /// Whether an edit is the insert or the remove of an entry of a value.
@@ -359,25 +377,23 @@ impl Document {
         self.as_ref().change_of_holder(self.alloc(), edit)
     }
 
-    /// Whether an edit that writes a line or a header at a byte can do so after these changes as before them. A header
-    /// can if none of them takes the byte before it. So can a line, or it comes in the place of one that is taken; and
-    /// not at the end, if a header was written.
-    fn keeps_place(
-        &self,
-        changes: &TextEdits,
-        outline: &Outline,
-        at: usize,
-        has_header: bool,
-    ) -> bool
-        requires { All (IsChangeIn self.now.text) changes.now }
-        ensures { IsTrue result → IsPlaceKept self.now.text changes.now outline.now at has_header }
+    /// Whether an edit that writes a line or a header at a byte can do so after these changes as before them. They
+    /// write no carriage return. A header can if none of them takes the byte before it. So can a line, or it comes in
+    /// the place of one that is taken; and not at the end, if a header was written.
+    fn keeps_place(&self, so_far: &AtOnce, outline: &Outline, at: usize, has_header: bool) -> bool
+        requires { All (IsChangeIn self.now.text) so_far.now.changes }
+        ensures plain { IsTrue result → so_far.now.are_plain ≡ true }
+        ensures kept { IsTrue result → IsPlaceKept self.now.text so_far.now.changes outline.now at has_header }
     {
+        if !so_far.are_plain {
+            return false;
+        }
         match outline {
             Outline::Insert(_) => {
                 let text = self.text.as_str();
-                !(has_header && at == text.len()) && changes.allows_line_at(text, at)
+                !(has_header && at == text.len()) && so_far.changes.allows_line_at(text, at)
             }
-            Outline::Table(_) | Outline::Element(_) => !changes.take_up_to(at),
+            Outline::Table(_) | Outline::Element(_) => !so_far.changes.take_up_to(at),
             _ => true,
         }
     }

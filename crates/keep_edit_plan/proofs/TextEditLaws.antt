@@ -8,9 +8,10 @@
 -- `right_of_beside`, `room_beside`: the two leave room exactly if none overlaps; `all_insert`, `insert_change`: the
 -- list with one edit more; `none_written`, `next_change`, `one_written`: what is written before the first edit and with
 -- one more; `one_takes`: an edit that replaces the byte before a place; `no_taker`: one that does not; `all_further`,
--- `all_changes`, `change_at_edit`: what holds of each edit.
+-- `all_changes`, `change_at_edit`: what holds of each edit; `set_in_place`, `follow_replaced`: one in the place of
+-- another.
 use Rattle.std.proofs.Common.{◌≡◌, ℕ, zero, suc, ◌+◌, ◌-◌, ◌<◌, ◌≤◌, true, false, List, [], ◌∷◌, ◌++◌, length}
-use Rattle.std.proofs.Common.{get_or, take, drop, insert, map, slice_range, string_bytes, All, leb}
+use Rattle.std.proofs.Common.{get_or, take, drop, insert, set, map, slice_range, string_bytes, All, leb}
 use Rattle.std.proofs.Common.{IsUtf8, IsCharBoundary, refl, sym, ap, ◌∙◌, subst, append_assoc, drop-cons, add-one}
 use Rattle.std.proofs.Common.{◌==◌, ◌≢◌, nat_lt, arith, leb-true, leb-false, lt-ltb, le-ltb, ◌⊎◌, inl, inr}
 use Rattle.std.proofs.lemmas.List.{drop-take, get_or-map, length-map, take_more}
@@ -24,7 +25,7 @@ use Rattle.std.specs.List.Sorted.{IsNonDecreasingBy, IsPartitionPoint}
 use Rattle.keep_edit_spec.specs.Runs.{takes_up_to}
 use Rattle.keep_edit_spec.specs.TextChanges.{Follow, IsBeside, TextChange, text_with, with_change}
 use Rattle.keep_edit_plan.specs.declared.text_edit.TextEdit.{TextEdit}
-use Rattle.keep_edit_plan.specs.TextEdits.{IsChangeIn, IsOrdered, change_of}
+use Rattle.keep_edit_plan.specs.TextEdits.{IsChangeIn, IsOrdered, IsReplaced, change_of}
 
 -- ---- the order
 
@@ -272,3 +273,37 @@ all_changes P ts n changes all is h =
     let each : All (λ t. P (change_of t)) ts =
     subst (All (λ t. P (change_of t))) (ap (λ m. take m ts) all ∙ take-length ts) h in
     subst (All P) is (All-map P change_of ts each)
+
+-- ---- one edit in the place of another
+
+pub set_in_place : (ts : List TextEdit) (i : ℕ) (d e : TextEdit) → i < length ts
+    → (change_of (get_or ts i d)).at ≡ (change_of e).at → (change_of (get_or ts i d)).size ≡ (change_of e).size
+    → IsReplaced (map change_of ts) (change_of e) (map change_of (set ts i e))
+set_in_place [] i d e less at size = absurd (omega (arith, less))
+set_in_place (t ∷ ts) zero d e less at size = record {
+  before = [];
+  gone = change_of t;
+  after = map change_of ts;
+  was = refl;
+  is = refl;
+  at = at;
+  size = size;
+}
+set_in_place (t ∷ ts) (suc i) d e less at size =
+    let r = set_in_place ts i d e (omega (arith, less)) at size in
+    record {
+      before = change_of t ∷ r.before;
+      gone = r.gone;
+      after = r.after;
+      was = ap (λ (cs : List TextChange). change_of t ∷ cs) r.was;
+      is = ap (λ (cs : List TextChange). change_of t ∷ cs) r.is;
+      at = r.at;
+      size = r.size;
+    }
+
+pub follow_replaced : (from : ℕ) (before after : List TextChange) (x c : TextChange) → x.at ≡ c.at → x.size ≡ c.size
+    → Follow from (before ++ x ∷ after) → Follow from (before ++ c ∷ after)
+follow_replaced from [] after x c at size (low, rest) =
+    (omega (arith, low, at), subst (λ (n : ℕ). Follow n after) (omega (arith, at, size)) rest)
+follow_replaced from (b ∷ before) after x c at size (low, rest) =
+    (low, follow_replaced (b.at + b.size) before after x c at size rest)

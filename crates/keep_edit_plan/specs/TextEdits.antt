@@ -29,6 +29,16 @@ pub record IsChangeIn (bytes : List ℕ) (c : TextChange) : Type 0 where
   pub starts : IsCharBoundary bytes c.at
   pub ends : IsCharBoundary bytes (c.at + c.size)
 
+-- the change comes in the place of one that takes the same bytes
+pub record IsReplaced (old : List TextChange) (d : TextChange) (new : List TextChange) : Type 0 where
+  pub before : List TextChange
+  pub gone : TextChange
+  pub after : List TextChange
+  pub was : old ≡ before ++ gone ∷ after
+  pub is : new ≡ before ++ d ∷ after
+  pub at : gone.at ≡ d.at
+  pub size : gone.size ≡ d.size
+
 -- The edit makes this change of the document of this text, as it does in a run.
 pub record MakesChangeHere (now : ProfiledText) (x : Edit) (t : TextEdit) : Type 0 where
   pub edit : law.Edit

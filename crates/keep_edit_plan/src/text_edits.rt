@@ -1,12 +1,12 @@
 //! Edits of one text.
-ghost use Rattle.std.specs.Prelude.{◌≡◌, ◌<◌, ◌≤◌, [], All, IfOk, IsTrue, OnErr, if◌then◌else◌, length, map};
-ghost use Rattle.std.specs.Prelude.{string_bytes};
+ghost use Rattle.std.specs.Prelude.{◌≡◌, ◌<◌, ◌≤◌, [], All, IfOk, IsTrue, OnErr, false, if◌then◌else◌};
+ghost use Rattle.std.specs.Prelude.{length, map, string_bytes};
 ghost use Rattle.std.specs.Bool.{Decides};
 ghost use Rattle.std.specs.List.{list_any};
 ghost use Rattle.keep_edit_spec.specs.Runs.{LeavesPlace, LetsCome, takes_up_to};
 ghost use Rattle.keep_edit_spec.specs.TextChanges.{IsBeside, text_with, with_change};
 ghost use Rattle.keep_edit_plan.specs.SaidSpans.{Leaves};
-ghost use Rattle.keep_edit_plan.specs.TextEdits.{IsChangeIn, IsOrdered, change_of};
+ghost use Rattle.keep_edit_plan.specs.TextEdits.{IsChangeIn, IsOrdered, IsReplaced, change_of};
 
 use crate::said::said_line;
 use crate::text_edit::TextEdit;
@@ -77,6 +77,23 @@ impl TextEdits {
             Ok(()) => Ok(true),
             Err(_) => Err(AllocError),
         }
+    }
+
+    /// Puts an edit in the place of one that replaces the same bytes, some at least. Returns whether there is one; if
+    /// not, nothing has changed.
+    pub fn overwrite(&mut self, edit: TextEdit) -> bool
+        ensures replaced { IsTrue result → IsReplaced self.old (change_of edit) self.new }
+        ensures other { result ≡ false → self.new ≡ self.old }
+    {
+        let start = edit.place.start;
+        let number = self
+            .edits
+            .partition_point(|earlier| earlier.place.start <= start);
+        if number == 0 || start >= edit.place.end || self.edits[number - 1].place != edit.place {
+            return false;
+        }
+        self.edits[number - 1] = edit;
+        true
     }
 
     /// Whether one of the edits replaces the byte before this place.

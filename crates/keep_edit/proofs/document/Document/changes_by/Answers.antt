@@ -1,55 +1,71 @@
-use Rattle.std.proofs.Common.{◌≡◌, ◌+◌, ◌<◌, ◌∷◌, ◌++◌, [], ℕ, All, suc, length, sym, subst, ◌∙◌, arith}
+use Rattle.std.proofs.Common.{◌≡◌, ◌+◌, ◌<◌, ℕ, All, List, suc, length, refl, sym, subst}
+use Rattle.std.proofs.Common.{subst₂, ◌∙◌, arith}
 use Rattle.std.proofs.lemmas.List.Elements.{All-nil, All-weaker}
+use Rattle.keep_edit_spec.specs.TextChanges.{TextChange}
 use Rattle.keep_edit_plan.specs.TextEdits.{change_of}
-use Rattle.keep_edit.specs.Runs.{LeavesAlone, MakeChanges, MakesInRunHere}
+use Rattle.keep_edit.specs.Runs.{LeavesAlone, MakesInRunHere}
 use Rattle.keep_edit.specs.Seen.{IsSeen}
+use Rattle.keep_edit.specs.declared.outline.Outline.{Outline}
 use Rattle.keep_edit.proofs.KindLaws.{placed_of_kind}
-use Rattle.keep_edit.proofs.RunSteps.{AreMadeTo, added, all_made, is_pushed, more_changes, no_changes, unadded}
+use Rattle.keep_edit.proofs.RunSteps.{AreMadeTo, all_made, more_changes, no_changes}
 use Rattle.keep_edit.proofs.SeenLaws.{more_seen, was_added}
+use Rattle.keep_edit.proofs.SetAgainSteps.{changes_again}
 use Rattle.keep_edit.proofs.document.Document.changes_by.Goals as goal
-use Rattle.keep_edit.proofs.document.Document.changes_by.Goals.{
-  else-leaves_alone,
-  then-is_err-via-else-is_err+then-not-unwrap_or-2,
-  then-is_err-via-then-is_err,
-  then-leaves_alone,
-}
+use Rattle.keep_edit.proofs.document.Document.changes_by.Goals.{else-leaves_alone, then-leaves_alone}
 
 pub loop-number-init : goal.loop-number-init
 loop-number-init c =
     let edits = c.args.edits.now in
     let first = c.args.first in
-    let now = c.args.self.now in (
-      subst (λ os. AreMadeTo edits first first now os c.new-changes.result) (sym c.new-outlines.ensures.items)
-          (subst (AreMadeTo edits first first now []) (sym c.new-changes.ensures) (no_changes edits first now)),
-      subst (All (IsSeen c.new-keys.result)) (sym c.new-outlines.ensures.items) (All-nil (IsSeen c.new-keys.result)),
+    let now = c.args.self.now in
+    let (no_outlines, none) = c.new-so_far.ensures in (
+      subst₂ (λ os cs. AreMadeTo edits first first now os cs) (sym no_outlines) (sym none) (no_changes edits first now),
+      subst (All (IsSeen c.new-keys.result)) (sym no_outlines) (All-nil (IsSeen c.new-keys.result)),
     )
 
 pub returns-clause-made : goal.returns-clause-made
-returns-clause-made c = all_made c.args.edits.now c.args.first _ c.args.self.now _ _ c.loop-number.invariant.0
+returns-clause-made c =
+    all_made c.args.edits.now c.args.first c.args.self.now _ _ c.loop-number.invariant.0 c.up_to-2.ensures.0
+    (c.up_to-2.ensures.1 ∙ omega (arith, c.loop-number-test.false, c.loop-number.auto.number-end))
 
 pub returns-then-has_long_path-clause-made : goal.returns-then-has_long_path-clause-made
 returns-then-has_long_path-clause-made c =
-    all_made c.args.edits.now c.args.first _ c.args.self.now _ _ c.loop-number.invariant.0
+    all_made c.args.edits.now c.args.first c.args.self.now _ _ c.loop-number.invariant.0
+    c.up_to-then-has_long_path.ensures.0 c.up_to-then-has_long_path.ensures.1
 
-pub returns-in_default-clause-made : goal.returns-in_default-clause-made
-returns-in_default-clause-made c =
-    all_made c.args.edits.now c.args.first _ c.args.self.now _ _ c.loop-number.invariant.0
+pub returns-in_default-change_in_run-clause-made :
+    goal.returns-in_default-change_in_run-clause-made
+returns-in_default-change_in_run-clause-made c =
+    all_made c.args.edits.now c.args.first c.args.self.now _ _ c.loop-number.invariant.0
+    c.up_to-in_default-change_in_run.ensures.0 c.up_to-in_default-change_in_run.ensures.1
 
-pub returns-then-is_err-clause-made : goal.returns-then-is_err-clause-made
-returns-then-is_err-clause-made c =
+pub returns-then-not-overwrite-clause-made : goal.returns-then-not-overwrite-clause-made
+returns-then-not-overwrite-clause-made c =
+    all_made c.args.edits.now c.args.first c.args.self.now _ _ c.loop-number.invariant.0
+    (c.up_to.ensures.0 ∙ c.if-not-overwrite.ensures.refused refl) c.up_to.ensures.1
+
+pub returns-then-not-add-clause-made : goal.returns-then-not-add-clause-made
+returns-then-not-add-clause-made c =
+    all_made c.args.edits.now c.args.first c.args.self.now _ _ c.loop-number.invariant.0
+    (c.up_to-then-not-add.ensures.0 ∙ c.if-not-add.ensures.refused refl) c.up_to-then-not-add.ensures.1
+
+pub loop-number-preserved-in-Some : goal.loop-number-preserved-in-Some
+loop-number-preserved-in-Some c =
     let edits = c.args.edits.now in
     let first = c.args.first in
     let now = c.args.self.now in
-    let so_far = all_made edits first _ now _ _ c.loop-number.invariant.0 in
-    elim c.then-is_err.branch [
-      | then-is_err-via-then-is_err w ↦
-          subst (λ cs. MakeChanges edits first (first + length cs) now cs) (sym w.changes-is) so_far
-      | then-is_err-via-else-is_err+then-not-unwrap_or-2 w ↦
-          subst (λ cs. MakeChanges edits first (first + length cs) now cs) (sym w.changes-is)
-          (unadded (λ cs. MakeChanges edits first (first + length cs) now cs) w.add-else-is_err.result
-          c.loop-number.changes _ w.add-else-is_err.new.self w.add-else-is_err.ensures.added
-          w.add-else-is_err.ensures.refused (sym w.unwrap_or-else-is_err.ensures ∙ w.if-not-unwrap_or-2.true) so_far)
-    ]
+    let number = c.loop-number.number in
+    let x = c.index-edits-number.result in
+    let (so_far, seen) = c.loop-number.invariant in
+    let low : number < length edits = omega (arith, c.loop-number-test.true, c.min-end.ensures) in
+    let one : suc number ≡ number + 1 = omega arith in
+    let same = c.overwrite.ensures.outlines in (
+      subst₂ (λ (n : ℕ) (os : List Outline). AreMadeTo edits first n now os c.overwrite.new.self.changes) one (sym same)
+          (changes_again edits first number now c.loop-number.so_far.outlines.items c.loop-number.so_far.changes
+          c.overwrite.new.self.changes x x c.in-Some.change so_far low (sym c.index-edits-number.is) c.in-Some.ensures
+          (c.overwrite.ensures.changes c.if-not-overwrite.false)),
+      subst (All (IsSeen c.loop-number.keys)) (sym same) seen,
+    )
 
 pub loop-number-preserved : goal.loop-number-preserved
 loop-number-preserved c =
@@ -59,7 +75,9 @@ loop-number-preserved c =
     let number = c.loop-number.number in
     let x = c.index-edits-number.result in
     let o = c.of-outline.result in
-    let outlines = c.loop-number.outlines.items in
+    let outlines = c.loop-number.so_far.outlines.items in
+    let changes = c.loop-number.so_far.changes in
+    let change = c.in-Some-change_in_run.change in
     let (so_far, seen) = c.loop-number.invariant in
     let low : number < length edits = omega (arith, c.loop-number-test.true, c.min-end.ensures) in
     let one : suc number ≡ number + 1 = omega arith in
@@ -74,21 +92,16 @@ loop-number-preserved c =
     let here : IsSeen c.add.new.self o =
     was_added (IsSeen c.add.new.self o) c.add.result c.add.ensures.seen
     (sym c.unwrap_or.ensures ∙ c.if-not-unwrap_or.false) in
-    let is = added c.add-else-is_err.result c.loop-number.changes _ c.add-else-is_err.new.self _
-    c.add-else-is_err.ensures.beside c.add-else-is_err.ensures.added
-    (sym c.unwrap_or-else-is_err.ensures ∙ c.if-not-unwrap_or-2.false) in
-    let pushed : c.push.new.self.items ≡ outlines ++ o ∷ [] =
-    is_pushed outlines c.push.new.self.items o _ c.is_err.result c.push.ensures.items c.is_err.ensures.negation
-    c.if-is_err.false in
-    subst (λ (n : ℕ). AreMadeTo edits first n now c.push.new.self.items c.add-else-is_err.new.self
-    × All (IsSeen c.add.new.self) c.push.new.self.items)
-    one (
-      subst (λ os. AreMadeTo edits first (suc number) now os c.add-else-is_err.new.self) (sym pushed)
-          (subst (AreMadeTo edits first (suc number) now (outlines ++ o ∷ [])) (sym is.1)
-          (more_changes edits first number now outlines c.loop-number.changes x x o c.in-Some.change so_far low
-          (sym c.index-edits-number.is)
-          (subst (λ a. MakesInRunHere now x a c.in-Some.change) (sym c.of-outline.ensures) c.in-Some.ensures) alone is.0
-          (placed_of_kind c.add.new.self outlines now.text c.loop-number.changes o (change_of c.in-Some.change).at
+    let (beside, with_it) = c.add-in-loop-number.ensures.changes c.if-not-add.false in
+    let pushed = c.add-in-loop-number.ensures.outlines c.if-not-add.false in (
+      subst (λ (n : ℕ). AreMadeTo edits first n now c.add-in-loop-number.new.self.outlines.items
+          c.add-in-loop-number.new.self.changes) one
+          (subst₂ (λ (os : List Outline) (cs : List TextChange). AreMadeTo edits first (suc number) now os cs)
+          (sym pushed) (sym with_it)
+          (more_changes edits first number now outlines changes x x o change so_far low (sym c.index-edits-number.is)
+          (subst (λ a. MakesInRunHere now x a change) (sym c.of-outline.ensures) c.in-Some-change_in_run.ensures) alone
+          beside
+          (placed_of_kind c.add.new.self outlines now.text changes o (change_of change).at
           (All-weaker (IsSeen c.loop-number.keys) (IsSeen c.add.new.self) c.add.ensures.others outlines seen) here))),
       subst (All (IsSeen c.add.new.self)) (sym pushed)
           (more_seen (IsSeen c.loop-number.keys) (IsSeen c.add.new.self) outlines o c.add.ensures.others here seen),

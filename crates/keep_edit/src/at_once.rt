@@ -1,0 +1,114 @@
+//! Edits of a list that are made at once, as far as they are gone through.
+ghost use Rattle.std.specs.Prelude.{◌≡◌, ◌++◌, ◌∷◌, [], All, IsTrue, false, string_bytes, true};
+ghost use Rattle.std.specs.Bool.{Decides};
+ghost use Rattle.keep_edit_spec.specs.Runs.{IsPlain};
+ghost use Rattle.keep_edit_spec.specs.TextChanges.{IsBeside, with_change};
+ghost use Rattle.keep_edit_plan.specs.TextEdits.{IsOrdered, IsReplaced, change_of};
+ghost use Rattle.keep_edit.specs.Runs.{IsSetBy};
+
+use crate::alike::is_same;
+use crate::outline::{Outline, Steps};
+use keep_edit_plan::{TextEdit, TextEdits};
+use memchr::memchr;
+use std::alloc::Global;
+use std::collections::HashMap;
+
+/// Edits in a row that are made at once: what they change in the text, and the number of the first edit after them.
+#[derive(Drop)]
+pub struct Run {
+    pub changes: TextEdits,
+    pub end: usize,
+}
+
+/// Edits that are made at once: what each does, and what they change in the text. One that sets a value again has no
+/// outline of its own here, and its change comes in the place of the earlier one.
+#[derive(Drop)]
+pub struct AtOnce<'a> {
+    pub outlines: Vec<Outline<'a>>,
+    pub changes: TextEdits,
+    /// Whether what they write has no carriage return, as far as is known.
+    pub are_plain: bool,
+    /// The number of the outline whose change begins at a byte. It only tells where to look.
+    numbers: HashMap<usize, usize>,
+}
+
+/// Whether a text has no carriage return.
+pub fn is_plain(text: &str) -> bool
+    ensures { Decides result (IsPlain text.now) }
+{
+    memchr(b'\r', text.as_bytes()).is_none()
+}
+
+impl<'a> AtOnce<'a> {
+    /// No edits yet. It takes no memory.
+    pub fn new(alloc: Global) -> AtOnce<'a>
+        ensures { (result.outlines.items ≡ []) × (result.changes ≡ []) }
+    {
+        AtOnce {
+            outlines: Vec::new(alloc),
+            changes: TextEdits::new(alloc),
+            are_plain: true,
+            numbers: HashMap::new(alloc),
+        }
+    }
+
+    /// What they change, and the number of the first edit after them.
+    pub fn up_to(self, end: usize) -> Run
+        ensures { (result.changes ≡ self.entry.changes) × (result.end ≡ end) }
+    {
+        Run {
+            changes: self.changes,
+            end,
+        }
+    }
+
+    /// Whether one of these edits is known to set the value at a path, which begins at this byte.
+    pub fn set(&self, path: &Steps, start: usize) -> bool
+        ensures { IsTrue result → IsSetBy self.now.outlines.items path.now }
+    {
+        let Some(number) = self.numbers.get(&start) else {
+            return false;
+        };
+        match self.outlines.get(*number) {
+            Some(Outline::Set(other)) => is_same(other, path),
+            _ => false,
+        }
+    }
+
+    /// Puts a change in the place of one that replaces the same bytes. Returns whether there is one; if not, nothing
+    /// has changed.
+    pub fn overwrite(&mut self, change: TextEdit) -> bool
+        ensures changes { IsTrue result → IsReplaced self.old.changes (change_of change) self.new.changes }
+        ensures outlines { self.new.outlines.items ≡ self.old.outlines.items }
+        ensures plain { self.new.are_plain ≡ true
+            → (self.old.are_plain ≡ true) × (IsTrue result → IsPlain (string_bytes change.new)) }
+        ensures refused { result ≡ false → self.new.changes ≡ self.old.changes }
+    {
+        let is_plain = is_plain(change.new.as_str());
+        if !self.changes.overwrite(change) {
+            return false;
+        }
+        self.are_plain = self.are_plain && is_plain;
+        true
+    }
+
+    /// Adds an edit. Returns whether it was added: one whose change overlaps another is not, nor is any where memory is
+    /// refused. Then no change was added.
+    pub fn add(&mut self, outline: Outline<'a>, change: TextEdit) -> bool
+        requires { IsOrdered change }
+        ensures changes { IsTrue result → All (λ c. IsBeside c (change_of change)) self.old.changes
+            × (self.new.changes ≡ with_change self.old.changes (change_of change)) }
+        ensures outlines { IsTrue result → self.new.outlines.items ≡ self.old.outlines.items ++ outline.entry ∷ [] }
+        ensures plain { IsTrue result → self.new.are_plain ≡ true
+            → (self.old.are_plain ≡ true) × IsPlain (string_bytes change.new) }
+        ensures refused { result ≡ false → self.new.changes ≡ self.old.changes }
+    {
+        let start = change.place.start;
+        let number = self.outlines.len();
+        if self.numbers.insert(start, number).is_err() || self.outlines.push(outline).is_err() {
+            return false;
+        }
+        self.are_plain = self.are_plain && is_plain(change.new.as_str());
+        self.changes.add(change).unwrap_or(false)
+    }
+}
