@@ -1,7 +1,7 @@
 -- Where an edit that is made at once with others writes a line or a header: either they are all of its kind, or each
 -- newline is alike and its place is kept.
 --
--- Keys are added only for edits of the kind of the first one (`of_kind`).
+-- Paths are added only for edits of the kind of the first one (`of_kind`).
 --
 -- Theorems: `placed_of_kind`, `placed_plain`.
 use Rattle.std.proofs.Common.{◌≡◌, ◌≢◌, ℕ, Bool, true, false, List, length, All, refl, sym, ◌∙◌, inl, inr}
@@ -14,7 +14,7 @@ use Rattle.keep_edit_spec.specs.TextChanges.{TextChange}
 use Rattle.keep_edit.specs.declared.outline.Outline.{Outline}
 use Rattle.keep_edit.specs.declared.outline.Outline.TheVariants.{Element, Insert, Remove, Rename, Set, Table}
 use Rattle.keep_edit.specs.Runs.{IsPlaceKept, outlined, writes_anew}
-use Rattle.keep_edit.specs.Seen.{HasKeysOf, IsSeen}
+use Rattle.keep_edit.specs.Seen.{HasPathsOf, IsSeen}
 use Rattle.keep_edit.specs.declared.seen.SeenKeys.{SeenKeys}
 use Rattle.keep_edit.proofs.RunSteps.{IsPlaced}
 
@@ -23,7 +23,7 @@ abbrev IsOfKind : Outline → Outline → Type 0
 IsOfKind x f = (runs.is_insert (outlined x) ≡ runs.is_insert (outlined f))
     × (runs.is_header (outlined x) ≡ runs.is_header (outlined f))
 
-of_kind : (seen : SeenKeys) (f x : Outline) → HasKeysOf seen f x → IsOfKind x f
+of_kind : (seen : SeenKeys) (f x : Outline) → HasPathsOf seen f x → IsOfKind x f
 of_kind seen (Insert f) (Insert p) h = (refl, refl)
 of_kind seen (Insert f) (Remove p) h = absurd h
 of_kind seen (Insert f) (Set p) h = absurd h

@@ -1,32 +1,34 @@
--- The keys of edits that are made at once: with one more, and of an edit that leaves alone those whose keys they are.
+-- The paths of edits that are made at once, by numbers that stand for them: with one more, and of an edit that leaves
+-- alone those whose paths they are.
 --
--- A key that is added is one of them, and so are all that were before. Each path or header whose keys they are ends in
--- one of them. So an insert or a header that ends in none of them is another. A rename of a path with no step that is
--- one of them is at none of those paths and below none; and if its new key is none of them, it makes another path than
--- those do.
+-- Each path has one number, so a path whose number is none of them is none of those paths. A rename of a path whose
+-- number is none of them, nor that of any path above it, is at none of those paths and below none; and if the number of
+-- its new path is none of them, it makes another path than those do.
 --
--- Theorems: `text_added`, `texts_stay`, `key_added`: one more key; `goes_on`: after it; `seen_as`: an edit that is seen
--- so; `not_below`: a path that has no such step; `insert_alone`, `rename_alone`, `table_alone`, `alone_as`: one that
--- leaves alone those seen; `was_added`, `more_seen`: the edits of a list that are seen.
-use Rattle.std.proofs.Common.{◌≡◌, ◌-◌, ◌∷◌, ◌++◌, [], ℕ, All, Bool, Bor, Global, List, None, Some}
-use Rattle.std.proofs.Common.{BuildHasherDefault, FoldHasher, String, cond, false, length, take}
-use Rattle.std.proofs.Common.{refl, true, slice_get, sym, subst, ◌∙◌, arith}
+-- Theorems: `text_added`: one more key; `step_more`, `step_past`, `key_more`, `all_keys`, `hashed_beside`: a hasher
+-- that is given steps; `number_added`: one more path; `none_above`: a path that does not begin with another;
+-- `rename_alone`, `alone_as`: an edit that leaves alone those seen; `was_added`, `more_seen`: the edits of a list that
+-- are seen.
+use Rattle.std.proofs.Common.{◌≡◌, ◌≤◌, ◌<◌, ◌+◌, ◌-◌, ◌==◌, ◌∷◌, ◌++◌, ◌∙◌, [], ℕ, zero, suc, All, Bool, Bor, List}
+use Rattle.std.proofs.Common.{BuildHasherDefault, FoldHasher, Global, None, Some, String, ap, arith, cond, false, fold}
+use Rattle.std.proofs.Common.{get_or, length, map, option_map, refl, slice_get, string_bytes, subst, sym, take, true}
 use Rattle.std.specs.Prelude.{Err, IfOk, IsTrue, Ok, Result, bytes_eq}
+use Rattle.std.specs.Hash.FoldHasher.{initial}
 use Rattle.std.specs.HashSet.{HashSet, Updates, contains_by}
-use Rattle.std.specs.List.{list_any}
 use Rattle.std.specs.Result.{result_unwrap_or}
 use Rattle.std.specs.declared.alloc.AllocError.{AllocError}
-use Rattle.std.proofs.lemmas.List.{take_all}
+use Rattle.std.proofs.lemmas.List.{length-map, take_all}
 use Rattle.std.proofs.lemmas.List.Elements.{All-push, All-weaker}
-use Rattle.keep_path.specs.Path.{Part, key, strip}
-use Rattle.keep_edit_spec.specs.Runs.{IsNoStep}
+use Rattle.std.proofs.lemmas.Option.{slice_get-map}
+use Rattle.std.proofs.lemmas.List.Sums.{fold_push}
+use Rattle.keep_path.specs.Path.{Part, beside, key, strip, without_last}
 use Rattle.keep_edit_plan.specs.Headers.{key_texts}
 use Rattle.keep_edit.specs.declared.outline.Outline.{Outline}
 use Rattle.keep_edit.specs.declared.outline.Outline.TheVariants.{Element, Insert, Remove, Rename, Set, Table}
 use Rattle.keep_edit.specs.Runs.{LeavesAlone}
-use Rattle.keep_edit.specs.Seen.{EndsIn, GoesOn, HasKey, HasKeysOf, IsSeen}
+use Rattle.keep_edit.specs.Seen.{HasPath, HasPathsOf, IsSeen}
 use Rattle.keep_edit.specs.declared.seen.SeenKeys.{SeenKeys}
-use Rattle.keep_edit.proofs.AlikeLaws.{begins_with, none_unless, renamed_parts, same_steps}
+use Rattle.keep_edit.proofs.AlikeLaws.{before_last, begins_with, none_unless, read_key}
 
 -- ---- one more key
 
@@ -50,83 +52,98 @@ text_added old new k updates = (
       kept_key (bytes_eq k.now text) _ _ (updates.0 q) had,
 )
 
-pub texts_stay : (old new : Texts) → new.keys ≡ old.keys → (text : List ℕ) → HasText old text → HasText new text
-texts_stay old new same text =
-    subst (λ (keys : List (Bor (List ℕ))). IsTrue (list_any (λ k. bytes_eq text k.now) keys)) (sym same)
+-- ---- the number of a path
 
-pub key_added : (seen : SeenKeys) (keys : Texts) (k : Bor (List ℕ))
-    → Updates (λ x y. bytes_eq x.now y.now) seen.keys keys k true
-    → HasKey (record seen { keys = keys }) k.now × GoesOn seen (record seen { keys = keys })
-key_added seen keys k updates =
-    let (here, on) = text_added seen.keys keys k updates in (here, (refl, on))
+next_step : (f : FoldHasher → Part → FoldHasher) (h : FoldHasher) (path : List Part) (n : ℕ) (p : Part)
+    → slice_get path n ≡ Some p → fold f h (take (suc n) path) ≡ f (fold f h (take n path)) p
+next_step f h [] n p is = absurd cc
+next_step f h (q ∷ path) zero p is = let same : q ≡ p = cc in ap (f h) same
+next_step f h (q ∷ path) (suc n) p is = next_step f (f h q) path n p is
 
-pub seen_as : (old new : SeenKeys) (f x y : Outline) → GoesOn old new → old.first ≡ f → x ≡ y → HasKeysOf new f y
-    → IsSeen new x
-seen_as old new f x y on first is h =
-    subst (λ e. HasKeysOf new e x) (sym first ∙ sym on.0)
-    (subst (HasKeysOf new f) (sym is) h)
+-- one step more
+pub step_more : (f : FoldHasher → Part → FoldHasher) (path : List Part) (n : ℕ) (p : Part) (h : FoldHasher)
+    → slice_get path n ≡ Some p → h ≡ fold f initial (take n path) → f h p ≡ fold f initial (take (n + 1) path)
+step_more f path n p h is before =
+    let more : suc n ≡ n + 1 = omega arith in
+    ap (λ (g : FoldHasher). f g p) before ∙ sym (next_step f initial path n p is)
+    ∙ ap (λ (k : ℕ). fold f initial (take k path)) more
 
-pub goes_on : (a b c : SeenKeys) → GoesOn a b → GoesOn b c → GoesOn a c
-goes_on a b c on more = (more.0 ∙ on.0, λ text has. more.1 text (on.1 text has))
+-- and none
+pub step_past : (f : FoldHasher → Part → FoldHasher) (path : List Part) (n : ℕ) (h : FoldHasher)
+    → slice_get path n ≡ None → h ≡ fold f initial (take n path) → h ≡ fold f initial (take (n + 1) path)
+step_past f path n h is before =
+    let many = past path n is in
+    before ∙ ap (fold f initial) (take_all n path many ∙ sym (take_all (n + 1) path (omega (arith, many))))
+  where
+    past : (xs : List Part) (k : ℕ) → slice_get xs k ≡ None → length xs ≤ k
+    past [] k e = omega arith
+    past (q ∷ xs) zero e = absurd cc
+    past (q ∷ xs) (suc k) e = omega (arith, past xs k e)
+
+-- one key of a header more
+pub key_more : (f : FoldHasher → Part → FoldHasher) (keys : List (String Global)) (n : ℕ) (own : String Global)
+    (text : List ℕ) (h : FoldHasher) → n < length keys → own ≡ get_or keys n own → text ≡ string_bytes own
+    → h ≡ fold f initial (take n (map key (key_texts keys)))
+    → f h (key text) ≡ fold f initial (take (n + 1) (map key (key_texts keys)))
+key_more f keys n own text h lt is same before =
+    step_more f (map key (key_texts keys)) n (key text) h
+    (slice_get-map key (key_texts keys) n ∙ ap (option_map key) (read_key keys n own lt is)
+    ∙ ap (λ (t : List ℕ). Some (key t)) (sym same)) before
+
+-- and all
+pub all_keys : (keys : List (String Global)) (n : ℕ) → length keys ≤ n
+    → take n (map key (key_texts keys)) ≡ map key (key_texts keys)
+all_keys keys n many =
+    take_all n (map key (key_texts keys))
+    (omega (arith, many, length-map (key_texts keys) key, length-map keys string_bytes))
+
+-- another key in place of the last step
+pub hashed_beside : (f : FoldHasher → Part → FoldHasher) (path : List Part) (name : List ℕ) (h : FoldHasher)
+    → h ≡ fold f initial (take (length path - 1) path) → f h (key name) ≡ fold f initial (beside path name)
+hashed_beside f path name h is =
+    ap (λ (g : FoldHasher). f g (key name)) (is ∙ ap (fold f initial) (sym (before_last path)))
+    ∙ sym (fold_push f initial (without_last path) (key name))
+
+-- ---- one more path
+
+-- numbers that are kept, and whether one is among them
+abbrev pub Numbers : Type 0
+Numbers = HashSet ℕ (BuildHasherDefault FoldHasher)
+
+abbrev pub HasNumber : Numbers → ℕ → Type 0
+HasNumber numbers n = IsTrue (contains_by (λ k. n == k) numbers)
+
+pub number_added : (old new : Numbers) (n : ℕ) → Updates ◌==◌ old new n true
+    → HasNumber new n × ((k : ℕ) → HasNumber old k → HasNumber new k)
+number_added old new n updates = (updates.1, λ k had. kept_key (n == k) _ _ (updates.0 k) had)
 
 -- ---- edits that leave one another alone
 
--- the last step of a path that another begins with is a step of that
-last_step : (p path : List Part) → take (length p) path ≡ p → (x : Part) → EndsIn p x
-    → slice_get path (length p - 1) ≡ Some x
-last_step [] path begins x ends = absurd cc
-last_step (q ∷ p) path begins x ends =
-    same_steps (length (q ∷ p)) path (q ∷ p) (begins ∙ sym (take_all (length (q ∷ p)) (q ∷ p) (omega arith)))
-    (length (q ∷ p) - 1) (omega arith) (omega arith) ∙ ends
-
--- A path is not at another or below it if the last key of that is no step of it.
-pub not_below : (p path : List Part) (last : List ℕ) → EndsIn p (key last) → IsNoStep last path → strip p path ≡ None
-not_below p path last ends lacks =
-    none_unless (strip p path) (λ h. lacks (length p - 1) (last_step p path (begins_with p path h).1 (key last) ends))
+-- A path is not at another or below it if it does not begin with that.
+pub none_above : (P : List Part → Type 0) (p path : List Part) → P p
+    → ((n : ℕ) → n ≡ length p → n ≤ length path → ¬ P (take n path)) → strip p path ≡ None
+none_above P p path has lacks =
+    none_unless (strip p path) (λ h.
+    let (many, begins) = begins_with p path h in lacks (length p) refl many (subst P (sym begins) has))
 
 pub alone_as : (seen : SeenKeys) (f x y : Outline) → seen.first ≡ f → x ≡ y
-    → ((e : Outline) → HasKeysOf seen f e → LeavesAlone e y) → (e : Outline) → IsSeen seen e → LeavesAlone e x
+    → ((e : Outline) → HasPathsOf seen f e → LeavesAlone e y) → (e : Outline) → IsSeen seen e → LeavesAlone e x
 alone_as seen f x y first is all e h =
-    subst (LeavesAlone e) (sym is) (all e (subst (λ g. HasKeysOf seen g e) first h))
+    subst (LeavesAlone e) (sym is) (all e (subst (λ g. HasPathsOf seen g e) first h))
 
 module _ (seen : SeenKeys) where
-  pub insert_alone : (f path : List Part)
-      → ((text : List ℕ) → EndsIn path (key text) → ¬ HasKey seen text)
-      → (e : Outline) → HasKeysOf seen (Insert f) e → LeavesAlone e (Insert path)
-  insert_alone f path lacks (Insert p) (text, ends, has) =
-      λ same. lacks text (subst (λ (l : List Part). EndsIn l (key text)) same ends) has
-  insert_alone f path lacks (Remove p) h = absurd h
-  insert_alone f path lacks (Set p) h = absurd h
-  insert_alone f path lacks (Rename p w) h = absurd h
-  insert_alone f path lacks (Table ks) h = absurd h
-  insert_alone f path lacks (Element ks) h = absurd h
-
   pub rename_alone : (f path : List Part) (v name : Bor (List ℕ))
-      → ((n : ℕ) (text : List ℕ) → slice_get path n ≡ Some (key text) → ¬ HasKey seen text)
-      → ¬ HasKey seen name.now
-      → (e : Outline) → HasKeysOf seen (Rename f v) e → LeavesAlone e (Rename path name)
+      → ((n : ℕ) → n ≤ length path → ¬ HasPath seen (take n path)) → ¬ HasPath seen (beside path name.now)
+      → (e : Outline) → HasPathsOf seen (Rename f v) e → LeavesAlone e (Rename path name)
   rename_alone f path v name lacks new (Insert p) h = absurd h
   rename_alone f path v name lacks new (Remove p) h = absurd h
   rename_alone f path v name lacks new (Set p) h = absurd h
-  rename_alone f path v name lacks new (Rename p w) (text, ends, has, its) = record {
-    below = not_below p path text ends (λ n is. lacks n text is has);
-    new = λ same.
-        let parts = renamed_parts (length p - 1) p path w.now name.now refl same in
-        new (subst (HasKey seen) parts.0 its);
+  rename_alone f path v name lacks new (Rename p w) (has, its) = record {
+    below = none_above (HasPath seen) p path has (λ n is many. lacks n many);
+    new = λ same. new (subst (HasPath seen) same its);
   }
   rename_alone f path v name lacks new (Table ks) h = absurd h
   rename_alone f path v name lacks new (Element ks) h = absurd h
-
-  pub table_alone : (f more : Bor (List (String Global)))
-      → ((text : List ℕ) → EndsIn (key_texts more.now) text → ¬ HasKey seen text)
-      → (e : Outline) → HasKeysOf seen (Table f) e → LeavesAlone e (Table more)
-  table_alone f more lacks (Insert p) h = absurd h
-  table_alone f more lacks (Remove p) h = absurd h
-  table_alone f more lacks (Set p) h = absurd h
-  table_alone f more lacks (Rename p w) h = absurd h
-  table_alone f more lacks (Table ks) (text, ends, has) =
-      λ same. lacks text (subst (λ (l : List (List ℕ)). EndsIn l text) same ends) has
-  table_alone f more lacks (Element ks) h = absurd h
 
 -- ---- the edits of a list that were seen
 

@@ -1,216 +1,220 @@
--- The keys of edits of any kinds that are made at once, and an edit that each of those leaves alone by its keys.
+-- The paths of edits of any kinds that are made at once, by numbers that stand for their keys, and an edit that each of
+-- those leaves alone by its paths.
 --
--- A path that is at another or below it has the last key of that as a step. So two paths are apart if neither's last
--- key is a step of the other: the last key of the later is none of all keys that were seen, and none of its keys is one
--- of the last. A header goes to the table of a path or below it only if the path's last key is one of its own. The new
--- key of a rename counts as a last one, also of the path that the rename makes.
+-- Paths with the same keys have one number. So two paths are apart if the number of neither is that of what the other
+-- begins with. The same of the keys of headers and of the paths that renames make. A header goes to the table of a path
+-- or below it only if its keys begin with those of the path.
 --
--- Theorems: `all_before`: one step or key more; `insert_alone`, `remove_alone`, `set_alone`, `rename_alone`,
--- `table_alone`, `element_alone`, `alone_as`: an edit that all of those leave alone; `headless`: where there is no
--- header.
-use Rattle.std.proofs.Common.{◌≡◌, ◌-◌, ◌<◌, ◌∷◌, ◌++◌, [], ℕ, zero, suc, Bor, Global, List, Some, String}
-use Rattle.std.proofs.Common.{false, inl, inr, length, map, option_map, refl, slice_get, subst, sym}
-use Rattle.std.proofs.Common.{◌+◌, ◌∙◌, ap, arith}
+-- Theorems: `numbers_kept`, `goes_on`, `all_before`, `no_key_more`: one more; `first_key`: of a header; `insert_alone`,
+-- `remove_alone`, `set_alone`, `rename_alone`, `table_alone`, `element_alone`, `alone_as`: an edit that all of those
+-- leave alone; `headless`: where there is no header.
+use Rattle.std.proofs.Common.{◌≡◌, ◌≢◌, ◌+◌, ◌-◌, ◌<◌, ◌==◌, ◌∷◌, ◌++◌, ◌∙◌, [], ℕ, Bor, FoldHasher, Global, List}
+use Rattle.std.proofs.Common.{None, Option, Some, String, ap, arith, false, fold, inl, inr, length, map, refl}
+use Rattle.std.proofs.Common.{slice_get, string_bytes, subst, sym, take, true}
+use Rattle.std.specs.Hash.FoldHasher.{finish, initial, write}
+use Rattle.std.specs.HashSet.{Updates}
 use Rattle.std.proofs.lemmas.Bool.{cases_lt}
-use Rattle.std.proofs.lemmas.List.{length-map}
-use Rattle.std.proofs.lemmas.Option.{slice_get-map}
+use Rattle.std.proofs.lemmas.List.{take_all}
+use Rattle.std.proofs.lemmas.Option.{slice_get_within}
 use Rattle.keep_path.specs.Path.{Part, beside, index, key, without_last}
 use Rattle.keep_edit_spec.specs.Look.{keys_in}
 use Rattle.keep_edit_spec.specs.Runs as runs
-use Rattle.keep_edit_spec.specs.Runs.{AreApart, IsNoStep, PassesBy}
+use Rattle.keep_edit_spec.specs.Runs.{AreApart, PassesBy}
 use Rattle.keep_edit_plan.specs.Headers.{key_texts}
 use Rattle.keep_edit.specs.declared.outline.Outline.{Outline}
 use Rattle.keep_edit.specs.declared.outline.Outline.TheVariants.{Element, Insert, Remove, Rename, Set, Table}
 use Rattle.keep_edit.specs.Runs.{LeavesAlone, outlined}
-use Rattle.keep_edit.specs.Seen.{EndsIn}
-use Rattle.keep_edit.specs.SeenPaths.{HasEnd, HasNames, HasPath, HasStep, IsSeen, MissesNames, MissesPath}
+use Rattle.keep_edit.specs.SeenPaths.{BeginsInKey, GoesOn, HasBeginning, HasEnd, HasKey, HasPath, IsSeen}
+use Rattle.keep_edit.specs.SeenPaths.{MissesNames, MissesPath, keys_hashed, keys_number, path_to, with_key}
 use Rattle.keep_edit.specs.declared.seen_paths.SeenPaths.{SeenPaths}
-use Rattle.keep_edit.proofs.AlikeLaws.{renamed_parts}
-use Rattle.keep_edit.proofs.SeenLaws.{not_below}
+use Rattle.keep_edit.proofs.SeenLaws.{HasNumber, Numbers, none_above, number_added, step_more, step_past}
 
--- ---- one step or key more
+-- ---- one more
 
-pub all_before : {A : Type 0} (of : List ℕ → A) (P : List ℕ → Type 0) (xs : List A) (n : ℕ)
-    → ((text : List ℕ) → slice_get xs n ≡ Some (of text) → P text)
-    → ((k : ℕ) (text : List ℕ) → k < n → slice_get xs k ≡ Some (of text) → P text)
-    → (k : ℕ) (text : List ℕ) → k < n + 1 → slice_get xs k ≡ Some (of text) → P text
-all_before of P xs n here before k text lt is = elim (cases_lt k n) [
-  | inl low ↦ before k text low is
+pub numbers_kept : (old new : Numbers) (n : ℕ) → Updates ◌==◌ old new n true
+    → (path : List Part) → HasNumber old (keys_number path) → HasNumber new (keys_number path)
+numbers_kept old new n updates path = (number_added old new n updates).1 (keys_number path)
+
+pub goes_on : (a b c : SeenPaths) → GoesOn a b → GoesOn b c → GoesOn a c
+goes_on a b c on more = record {
+  ends = λ path has. more.ends path (on.ends path has);
+  beginnings = λ path has. more.beginnings path (on.beginnings path has);
+  keys = λ text has. more.keys text (on.keys text has);
+  names = λ text has. more.names text (on.names text has);
+  header = λ has. more.header (on.header has);
+}
+
+pub all_before : (P : ℕ → Type 0) (n : ℕ) → P n → ((k : ℕ) → k < n → P k) → (k : ℕ) → k < n + 1 → P k
+all_before P n here before k lt = elim (cases_lt k n) [
+  | inl low ↦ before k low
   | inr past ↦
       let same : n ≡ k = omega (arith, lt, past) in
-      here text (ap (slice_get xs) same ∙ is)
+      subst P same here
 ]
 
--- ---- last keys
+-- a step that is no key, or none
+pub no_key_more : (path : List Part) (n : ℕ) (h : FoldHasher) → ((text : List ℕ) → slice_get path n ≢ Some (key text))
+    → h ≡ keys_hashed (take n path) → h ≡ keys_hashed (take (n + 1) path)
+no_key_more path n h other before = by (slice_get path n) refl
+  where
+    by : (o : Option Part) → slice_get path n ≡ o → h ≡ keys_hashed (take (n + 1) path)
+    by None is = step_past with_key path n h is before
+    by (Some (key text)) is = absurd (other text is)
+    by (Some (index m)) is = step_more with_key path n (index m) h is before
 
--- one step more in front
-one_more : (p r : Part) (path : List Part)
-    → slice_get (p ∷ r ∷ path) (length (p ∷ r ∷ path) - 1) ≡ slice_get (r ∷ path) (length (r ∷ path) - 1)
-one_more p r path =
-    let far : length (p ∷ r ∷ path) - 1 ≡ suc (length (r ∷ path) - 1) = omega arith in
-    ap (slice_get (p ∷ r ∷ path)) far
+pub first_key : (keys : List (String Global)) → 0 < length keys → BeginsInKey (map key (key_texts keys))
+first_key [] some = absurd (omega (arith, some))
+first_key (own ∷ keys) some = (string_bytes own, refl)
 
-in_front : (p : Part) (path : List Part) (q : Part) → EndsIn path q → EndsIn (p ∷ path) q
-in_front p [] q ends = absurd cc
-in_front p (r ∷ path) q ends = one_more p r path ∙ ends
+-- ---- keys of paths
 
-pushed : (path : List Part) (q : Part) → EndsIn (path ++ q ∷ []) q
-pushed [] q = refl
-pushed (p ∷ path) q = in_front p (path ++ q ∷ []) q (pushed path q)
+keys_hashed_alike : (h : FoldHasher) (path : List Part)
+    → fold with_key h (map key (keys_in path)) ≡ fold with_key h path
+keys_hashed_alike h [] = refl
+keys_hashed_alike h (key text ∷ path) = keys_hashed_alike (write h text) path
+keys_hashed_alike h (index n ∷ path) = keys_hashed_alike h path
 
--- the last key of a path is the last of its keys
-keys_end : (path : List Part) (last : List ℕ) → EndsIn path (key last) → EndsIn (map key (keys_in path)) (key last)
-keys_end [] last ends = ends
-keys_end (key text ∷ []) last ends = ends
-keys_end (index n ∷ []) last ends = absurd cc
-keys_end (key text ∷ q ∷ path) last ends =
-    in_front (key text) (map key (keys_in (q ∷ path))) (key last)
-    (keys_end (q ∷ path) last (sym (one_more (key text) q path) ∙ ends))
-keys_end (index n ∷ q ∷ path) last ends = keys_end (q ∷ path) last (sym (one_more (index n) q path) ∙ ends)
+-- the path of the keys alone has the same number
+keys_alike : (path : List Part) → keys_number (map key (keys_in path)) ≡ keys_number path
+keys_alike path = ap finish (keys_hashed_alike initial path)
 
--- keys that lack the last one of a path pass by it
-passes : (keys : List (List ℕ)) (path : List Part) (last : List ℕ) → EndsIn path (key last)
-    → IsNoStep last (map key keys) → PassesBy keys path
-passes keys path last ends = not_below (map key (keys_in path)) (map key keys) last (keys_end path last ends)
+abbrev HasSomeKey : List Part → Type 0
+HasSomeKey path = 0 < length (map key (keys_in path))
 
--- the same of the path that a rename makes
-passes_new : (keys : List (List ℕ)) (path : List Part) (name : List ℕ) → IsNoStep name (map key keys)
-    → PassesBy keys (beside path name)
-passes_new keys path name = passes keys (beside path name) name (pushed (without_last path) (key name))
+some_key : (path : List Part) → BeginsInKey path → HasSomeKey path
+some_key [] (text, is) = absurd cc
+some_key (key own ∷ path) (text, is) = omega arith
+some_key (index n ∷ path) (text, is) = absurd cc
 
--- the keys of a header as a path
-names_end : (keys : List (List ℕ)) (last : List ℕ) → EndsIn keys last → EndsIn (map key keys) (key last)
-names_end keys last ends =
-    ap (λ (n : ℕ). slice_get (map key keys) (n - 1)) (length-map keys key)
-    ∙ slice_get-map key keys (length keys - 1) ∙ ap (option_map key) ends
-
-name_of : (keys : List (List ℕ)) (n : ℕ) (text : List ℕ) → slice_get (map key keys) n ≡ Some (key text)
-    → slice_get keys n ≡ Some text
-name_of [] n text is = absurd cc
-name_of (k ∷ keys) zero text is = cc
-name_of (k ∷ keys) (suc n) text is = name_of keys n text is
+some_pushed : (path : List Part) (name : List ℕ) → HasSomeKey (path ++ key name ∷ [])
+some_pushed [] name = omega arith
+some_pushed (key own ∷ path) name = omega arith
+some_pushed (index n ∷ path) name = some_pushed path name
 
 -- ---- edits that leave one another alone
 
 module _ (seen : SeenPaths) where
-  named : (keys : List (List ℕ)) → HasNames seen keys → HasPath seen (map key keys)
-  named keys h = record {
-    last = h.last;
-    ends = names_end keys h.last h.ends;
-    has = h.has;
-    all = λ n text is. h.all n text (name_of keys n text is);
-  }
-
-  missed : (keys : List (List ℕ)) → MissesNames seen keys → MissesPath seen (map key keys)
-  missed keys m = record {
-    last = m.last;
-    ends = names_end keys m.last m.ends;
-    lacks = m.lacks;
-    all = λ n text is. m.all n text (name_of keys n text is);
-  }
-
-  -- no key of the later is the last of the earlier, nor the other way round
+  -- neither begins with the other
   apart : (p path : List Part) → HasPath seen p → MissesPath seen path → AreApart p path
-  apart p path h m = (
-    not_below p path h.last h.ends (λ n is. m.all n h.last is h.has),
-    not_below path p m.last m.ends (λ n is. m.lacks (h.all n m.last is)),
-  )
+  apart p path h m =
+      let own = slice_get_within p 0 (key h.first.0) h.first.1 in
+      let other = slice_get_within path 0 (key m.first.0) m.first.1 in (
+        none_above (HasEnd seen) p path h.whole (λ n is many.
+            let more : n ≡ (n - 1) + 1 = omega (arith, is, own) in
+            λ has. m.all (n - 1) (omega (arith, is, own, many))
+            (subst (λ (k : ℕ). HasEnd seen (take k path)) more has)),
+        none_above (λ l. ¬ HasBeginning seen l) path p m.lacks (λ n is many.
+            let more : (n - 1) + 1 ≡ n = omega (arith, is, other) in
+            λ lacks. lacks (subst (λ (k : ℕ). HasBeginning seen (take k p)) more
+            (h.all (n - 1) (omega (arith, is, other, many))))),
+      )
 
-  names_apart : (keys more : List (List ℕ)) → HasNames seen keys → MissesNames seen more
-      → AreApart (map key keys) (map key more)
-  names_apart keys more h m = apart (map key keys) (map key more) (named keys h) (missed more m)
+  -- a path begins with all of itself
+  whole : (p : List Part) → HasPath seen p → HasBeginning seen p
+  whole p h =
+      let own = slice_get_within p 0 (key h.first.0) h.first.1 in
+      let more : (length p - 1) + 1 ≡ length p = omega (arith, own) in
+      subst (HasBeginning seen) (ap (λ (k : ℕ). take k p) more ∙ take_all (length p) p (omega arith))
+      (h.all (length p - 1) (omega (arith, own)))
 
   -- a header before a path, and one after it
-  passes_later : (keys : List (List ℕ)) (path : List Part) → HasNames seen keys → MissesPath seen path
-      → PassesBy keys path
-  passes_later keys path h m =
-      passes keys path m.last m.ends (λ n is. m.lacks (h.all n m.last (name_of keys n m.last is)))
+  passes_later : (keys : List (List ℕ)) (path : List Part) → HasPath seen (map key keys) → HasSomeKey path
+      → ¬ HasBeginning seen path → PassesBy keys path
+  passes_later keys path h some lacks =
+      none_above (λ l. ¬ HasBeginning seen l) (map key (keys_in path)) (map key keys)
+      (subst (λ (k : ℕ). ¬ HasNumber seen.beginnings k) (sym (keys_alike path)) lacks) (λ n is many.
+      let more : (n - 1) + 1 ≡ n = omega (arith, is, some) in
+      λ none. none (subst (λ (k : ℕ). HasBeginning seen (take k (map key keys))) more
+      (h.all (n - 1) (omega (arith, is, some, many)))))
 
-  passes_earlier : (keys : List (List ℕ)) (p : List Part) → MissesNames seen keys → HasPath seen p → PassesBy keys p
-  passes_earlier keys p m h =
-      passes keys p h.last h.ends (λ n is. m.all n h.last (name_of keys n h.last is) h.has)
+  passes_earlier : (keys : List (List ℕ)) (p : List Part) → MissesPath seen (map key keys) → HasSomeKey p
+      → HasEnd seen p → PassesBy keys p
+  passes_earlier keys p m some has =
+      none_above (HasEnd seen) (map key (keys_in p)) (map key keys)
+      (subst (HasNumber seen.ends) (sym (keys_alike p)) has) (λ n is many.
+      let more : n ≡ (n - 1) + 1 = omega (arith, is, some) in
+      λ end. m.all (n - 1) (omega (arith, is, some, many))
+      (subst (λ (k : ℕ). HasEnd seen (take k (map key keys))) more end))
+
+  -- a path after a header, and one before it
+  later : (keys : List (List ℕ)) (path : List Part) → HasPath seen (map key keys) → MissesPath seen path
+      → PassesBy keys path
+  later keys path h m = passes_later keys path h (some_key path m.first) m.lacks
+
+  earlier : (keys : List (List ℕ)) (p : List Part) → MissesPath seen (map key keys) → HasPath seen p → PassesBy keys p
+  earlier keys p m h = passes_earlier keys p m (some_key p h.first) h.whole
 
   -- a rename after a header, and one before it
-  later_name : (keys : List (List ℕ)) (path : List Part) (name : List ℕ) → HasNames seen keys → MissesPath seen path
-      → ¬ HasStep seen name → PassesBy keys path × PassesBy keys (beside path name)
-  later_name keys path name h m new = (
-    passes_later keys path h m,
-    passes_new keys path name (λ n is. new (h.all n name (name_of keys n name is))),
-  )
+  later_name : (keys : List (List ℕ)) (path : List Part) (name : List ℕ) → HasPath seen (map key keys)
+      → MissesPath seen path → ¬ HasBeginning seen (beside path name)
+      → PassesBy keys path × PassesBy keys (beside path name)
+  later_name keys path name h m new =
+      (later keys path h m, passes_later keys (beside path name) h (some_pushed (without_last path) name) new)
 
-  earlier_name : (keys : List (List ℕ)) (p : List Part) (name : List ℕ) → MissesNames seen keys → HasPath seen p
-      → HasEnd seen name → PassesBy keys p × PassesBy keys (beside p name)
-  earlier_name keys p name m h end = (
-    passes_earlier keys p m h,
-    passes_new keys p name (λ n is. m.all n name (name_of keys n name is) end),
-  )
+  earlier_name : (keys : List (List ℕ)) (p : List Part) (name : List ℕ) → MissesPath seen (map key keys)
+      → HasPath seen p → HasEnd seen (beside p name) → PassesBy keys p × PassesBy keys (beside p name)
+  earlier_name keys p name m h end =
+      (earlier keys p m h, passes_earlier keys (beside p name) m (some_pushed (without_last p) name) end)
 
-  pub insert_alone : (path : List Part) → MissesPath seen path
+  pub insert_alone : (path : List Part) → MissesPath seen path → MissesNames seen path
       → (e : Outline) → IsSeen seen e → LeavesAlone e (Insert path)
-  insert_alone path m (Insert p) h =
-      λ same. m.lacks (h.all (length path - 1) m.last
-      (subst (λ (l : List Part). slice_get l (length path - 1) ≡ Some (key m.last)) (sym same) m.ends))
-  insert_alone path m (Remove p) h = apart p path h m
-  insert_alone path m (Set p) h = apart p path h m
-  insert_alone path m (Rename p w) (h, end, step) = (apart p path h m, λ n is. m.all n w.now is end)
-  insert_alone path m (Table ks) (h, header) = passes_later (key_texts ks.now) path h m
-  insert_alone path m (Element ks) (h, header) = passes_later (key_texts ks.now) path h m
+  insert_alone path m names (Insert p) (h, keys) =
+      λ same. m.lacks (subst (HasBeginning seen) same (whole p h))
+  insert_alone path m names (Remove p) (h, keys) = apart p path h m
+  insert_alone path m names (Set p) (h, keys) = apart p path h m
+  insert_alone path m names (Rename p w) (h, new) = (apart p path h m, λ n is. names n w.now is new.2)
+  insert_alone path m names (Table ks) (h, header) = later (key_texts ks.now) path h m
+  insert_alone path m names (Element ks) (h, header) = later (key_texts ks.now) path h m
 
-  pub remove_alone : (path : List Part) → MissesPath seen path
+  pub remove_alone : (path : List Part) → MissesPath seen path → MissesNames seen path
       → (e : Outline) → IsSeen seen e → LeavesAlone e (Remove path)
-  remove_alone path m (Insert p) h = apart p path h m
-  remove_alone path m (Remove p) h = tt
-  remove_alone path m (Set p) h = apart p path h m
-  remove_alone path m (Rename p w) (h, end, step) = (apart p path h m, λ n is. m.all n w.now is end)
-  remove_alone path m (Table ks) (h, header) = passes_later (key_texts ks.now) path h m
-  remove_alone path m (Element ks) (h, header) = passes_later (key_texts ks.now) path h m
+  remove_alone path m names (Insert p) (h, keys) = apart p path h m
+  remove_alone path m names (Remove p) (h, keys) = tt
+  remove_alone path m names (Set p) (h, keys) = apart p path h m
+  remove_alone path m names (Rename p w) (h, new) = (apart p path h m, λ n is. names n w.now is new.2)
+  remove_alone path m names (Table ks) (h, header) = later (key_texts ks.now) path h m
+  remove_alone path m names (Element ks) (h, header) = later (key_texts ks.now) path h m
 
-  pub set_alone : (path : List Part) → MissesPath seen path
+  pub set_alone : (path : List Part) → MissesPath seen path → MissesNames seen path
       → (e : Outline) → IsSeen seen e → LeavesAlone e (Set path)
-  set_alone path m (Insert p) h = apart p path h m
-  set_alone path m (Remove p) h = apart p path h m
-  set_alone path m (Set p) h = tt
-  set_alone path m (Rename p w) (h, end, step) = (apart p path h m, λ n is. m.all n w.now is end)
-  set_alone path m (Table ks) (h, header) = passes_later (key_texts ks.now) path h m
-  set_alone path m (Element ks) (h, header) = passes_later (key_texts ks.now) path h m
+  set_alone path m names (Insert p) (h, keys) = apart p path h m
+  set_alone path m names (Remove p) (h, keys) = apart p path h m
+  set_alone path m names (Set p) (h, keys) = tt
+  set_alone path m names (Rename p w) (h, new) = (apart p path h m, λ n is. names n w.now is new.2)
+  set_alone path m names (Table ks) (h, header) = later (key_texts ks.now) path h m
+  set_alone path m names (Element ks) (h, header) = later (key_texts ks.now) path h m
 
   pub rename_alone : (path : List Part) (name : Bor (List ℕ)) → MissesPath seen path
-      → ¬ HasEnd seen name.now × ¬ HasStep seen name.now
+      → ¬ HasBeginning seen (beside path name.now) → ¬ HasKey seen name.now
       → (e : Outline) → IsSeen seen e → LeavesAlone e (Rename path name)
-  rename_alone path name m new (Insert p) h =
-      (apart p path h m, λ n is. new.1 (h.all n name.now is))
-  rename_alone path name m new (Remove p) h = (apart p path h m, λ n is. new.1 (h.all n name.now is))
-  rename_alone path name m new (Set p) h = (apart p path h m, λ n is. new.1 (h.all n name.now is))
-  rename_alone path name m new (Rename p w) (h, end, step) = record {
+  rename_alone path name m new lacks (Insert p) (h, keys) = (apart p path h m, λ n is. lacks (keys n name.now is))
+  rename_alone path name m new lacks (Remove p) (h, keys) = (apart p path h m, λ n is. lacks (keys n name.now is))
+  rename_alone path name m new lacks (Set p) (h, keys) = (apart p path h m, λ n is. lacks (keys n name.now is))
+  rename_alone path name m new lacks (Rename p w) (h, its) = record {
     below = (apart p path h m).0;
-    new = λ same.
-        let parts = renamed_parts (length p - 1) p path w.now name.now refl same in
-        new.0 (subst (HasEnd seen) parts.0 end);
+    new = λ same. new (subst (HasBeginning seen) same its.1);
   }
-  rename_alone path name m new (Table ks) (h, header) =
-      later_name (key_texts ks.now) path name.now h m new.1
-  rename_alone path name m new (Element ks) (h, header) =
-      later_name (key_texts ks.now) path name.now h m new.1
+  rename_alone path name m new lacks (Table ks) (h, header) = later_name (key_texts ks.now) path name.now h m new
+  rename_alone path name m new lacks (Element ks) (h, header) = later_name (key_texts ks.now) path name.now h m new
 
-  pub table_alone : (more : Bor (List (String Global))) → MissesNames seen (key_texts more.now)
+  pub table_alone : (more : Bor (List (String Global))) → MissesPath seen (path_to more)
       → (e : Outline) → IsSeen seen e → LeavesAlone e (Table more)
-  table_alone more m (Insert p) h = passes_earlier (key_texts more.now) p m h
-  table_alone more m (Remove p) h = passes_earlier (key_texts more.now) p m h
-  table_alone more m (Set p) h = passes_earlier (key_texts more.now) p m h
-  table_alone more m (Rename p w) (h, end, step) = earlier_name (key_texts more.now) p w.now m h end
+  table_alone more m (Insert p) (h, keys) = earlier (key_texts more.now) p m h
+  table_alone more m (Remove p) (h, keys) = earlier (key_texts more.now) p m h
+  table_alone more m (Set p) (h, keys) = earlier (key_texts more.now) p m h
+  table_alone more m (Rename p w) (h, new) = earlier_name (key_texts more.now) p w.now m h new.0
   table_alone more m (Table ks) (h, header) =
-      λ same. m.lacks (h.all (length (key_texts more.now) - 1) m.last
-      (subst (λ (l : List (List ℕ)). slice_get l (length (key_texts more.now) - 1) ≡ Some m.last) (sym same) m.ends))
-  table_alone more m (Element ks) (h, header) = names_apart (key_texts ks.now) (key_texts more.now) h m
+      λ same. m.lacks (subst (λ (l : List (List ℕ)). HasBeginning seen (map key l)) same (whole (path_to ks) h))
+  table_alone more m (Element ks) (h, header) = apart (path_to ks) (path_to more) h m
 
-  pub element_alone : (more : Bor (List (String Global))) → MissesNames seen (key_texts more.now)
+  pub element_alone : (more : Bor (List (String Global))) → MissesPath seen (path_to more)
       → (e : Outline) → IsSeen seen e → LeavesAlone e (Element more)
-  element_alone more m (Insert p) h = passes_earlier (key_texts more.now) p m h
-  element_alone more m (Remove p) h = passes_earlier (key_texts more.now) p m h
-  element_alone more m (Set p) h = passes_earlier (key_texts more.now) p m h
-  element_alone more m (Rename p w) (h, end, step) = earlier_name (key_texts more.now) p w.now m h end
-  element_alone more m (Table ks) (h, header) = names_apart (key_texts ks.now) (key_texts more.now) h m
-  element_alone more m (Element ks) (h, header) = inr (names_apart (key_texts ks.now) (key_texts more.now) h m)
+  element_alone more m (Insert p) (h, keys) = earlier (key_texts more.now) p m h
+  element_alone more m (Remove p) (h, keys) = earlier (key_texts more.now) p m h
+  element_alone more m (Set p) (h, keys) = earlier (key_texts more.now) p m h
+  element_alone more m (Rename p w) (h, new) = earlier_name (key_texts more.now) p w.now m h new.0
+  element_alone more m (Table ks) (h, header) = apart (path_to ks) (path_to more) h m
+  element_alone more m (Element ks) (h, header) = inr (apart (path_to ks) (path_to more) h m)
 
   -- no header was seen
   pub headless : seen.has_header ≡ false → (e : Outline) → IsSeen seen e → runs.is_header (outlined e) ≡ false

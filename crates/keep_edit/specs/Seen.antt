@@ -1,35 +1,50 @@
--- Keys of edits that are made at once, by which most are known to leave alone those before them.
-use Rattle.std.specs.Prelude.{◌≡◌, ⊤, ℕ, ◌-◌, IsTrue, List, Some, bytes_eq, length, slice_get}
+-- Paths of edits that are made at once, by which most are known to leave alone those before them.
+use Rattle.std.specs.Prelude.{◌≡◌, ⊤, ℕ, ◌==◌, IsTrue, List, fold, map}
+use Rattle.std.specs.Hash as fed
+use Rattle.std.specs.Hash.FoldHasher as folding
+use Rattle.std.specs.declared.hash.FoldHasher.{FoldHasher}
 use Rattle.std.specs.HashSet.{contains_by}
-use Rattle.keep_path.specs.Path.{key}
+use Rattle.keep_path.specs.Path.{Part, beside, index, key}
 use Rattle.keep_edit_plan.specs.Headers.{key_texts}
 use Rattle.keep_edit.specs.declared.outline.Outline.{Outline}
 use Rattle.keep_edit.specs.declared.outline.Outline.TheVariants.{Element, Insert, Remove, Rename, Set, Table}
 use Rattle.keep_edit.specs.declared.seen.SeenKeys.{SeenKeys}
 
--- the last of these
-abbrev pub EndsIn : {A : Type 0} → List A → A → Type 0
-EndsIn xs x = slice_get xs (length xs - 1) ≡ Some x
+-- ---- the number of a path
 
--- the key is one of those
-abbrev pub HasKey : SeenKeys → List ℕ → Type 0
-HasKey seen text = IsTrue (contains_by (λ k. bytes_eq text k.now) seen.keys)
+-- a hasher that is given one more step
+abbrev pub with_step : FoldHasher → Part → FoldHasher
+with_step h (key text) = folding.write h text
+with_step h (index n) = fold folding.write h (fed.usize n)
 
--- The edit is of the kind of the first one, and its keys are among those: the last one of its path or header, and the
--- new one of a rename.
-abbrev pub HasKeysOf : SeenKeys → Outline → Outline → Type 0
-HasKeysOf seen (Insert first) (Insert path) = (text : List ℕ) × EndsIn path (key text) × HasKey seen text
-HasKeysOf seen (Rename first new) (Rename path name) =
-    (text : List ℕ) × EndsIn path (key text) × HasKey seen text × HasKey seen name.now
-HasKeysOf seen (Table first) (Table keys) = (text : List ℕ) × EndsIn (key_texts keys.now) text × HasKey seen text
-HasKeysOf seen (Remove first) (Remove path) = ⊤
-HasKeysOf seen (Set first) (Set path) = ⊤
-HasKeysOf seen (Element first) (Element keys) = ⊤
-HasKeysOf seen first edit = ⊥
+-- one that was given all steps of a path
+abbrev pub hashed : List Part → FoldHasher
+hashed path = fold with_step folding.initial path
+
+-- a path with another number is another path
+abbrev pub number_of : List Part → ℕ
+number_of path = folding.finish (hashed path)
+
+-- ---- what was added
+
+-- the number of the path is one of those
+abbrev pub HasPath : SeenKeys → List Part → Type 0
+HasPath seen path = IsTrue (contains_by (λ n. number_of path == n) seen.paths)
+
+-- The edit is of the kind of the first one, and its paths are among those: that of an insert, of a rename or of a
+-- header, and the new one of a rename.
+abbrev pub HasPathsOf : SeenKeys → Outline → Outline → Type 0
+HasPathsOf seen (Insert first) (Insert path) = HasPath seen path
+HasPathsOf seen (Rename first new) (Rename path name) = HasPath seen path × HasPath seen (beside path name.now)
+HasPathsOf seen (Table first) (Table keys) = HasPath seen (map key (key_texts keys.now))
+HasPathsOf seen (Remove first) (Remove path) = ⊤
+HasPathsOf seen (Set first) (Set path) = ⊤
+HasPathsOf seen (Element first) (Element keys) = ⊤
+HasPathsOf seen first edit = ⊥
 
 abbrev pub IsSeen : SeenKeys → Outline → Type 0
-IsSeen seen edit = HasKeysOf seen seen.first edit
+IsSeen seen edit = HasPathsOf seen seen.first edit
 
--- the new ones are for edits of the same kind, with all keys of the old ones
+-- the new ones are for edits of the same kind, with all paths of the old ones
 abbrev pub GoesOn : SeenKeys → SeenKeys → Type 0
-GoesOn old new = (new.first ≡ old.first) × ((text : List ℕ) → HasKey old text → HasKey new text)
+GoesOn old new = (new.first ≡ old.first) × ((path : List Part) → HasPath old path → HasPath new path)

@@ -1,66 +1,101 @@
-//! The keys of edits of one kind that are made at once, by which most are known to leave alone those before them.
-ghost use Rattle.std.specs.Prelude.{◌≡◌, ◌↔◌, ℕ, IfOk, IsTrue, List, Some, option_copied, slice_get};
+//! The paths of edits of one kind that are made at once, by which most are known to leave alone those before them.
+ghost use Rattle.std.specs.Prelude.{◌≡◌, ◌+◌, ◌≤◌, ℕ, IfOk, IsTrue, List, OnOk, length, map, take};
 ghost use Rattle.keep_edit.specs.declared.outline.Outline.{Outline};
 ghost use Rattle.keep_edit.specs.Runs.{LeavesAlone};
-ghost use Rattle.keep_edit.specs.Seen.{EndsIn, GoesOn, HasKey, IsSeen};
+ghost use Rattle.keep_edit.specs.Seen.{GoesOn, HasPath, IsSeen, hashed, number_of};
 ghost use Rattle.keep_edit_plan.specs.Headers.{key_texts};
-ghost use Rattle.keep_path.specs.Path.{key};
+ghost use Rattle.keep_path.specs.Path.{Part, beside, key};
 
 use crate::outline::{Outline, Steps};
 use keep_rules::Step;
 use std::alloc::{AllocError, Global};
 use std::collections::HashSet;
+use std::hash::{FoldHasher, Hasher};
 
-/// The last step of a path, if it is a key.
-pub fn last_key<'a>(path: &Steps<'a>) -> Option<&'a str>
-    ensures { (text : List ℕ) → (option_copied result ≡ Some text) ↔ EndsIn path.now (key text) }
+/// Gives a hasher the step of a path with that number, after those before it.
+fn write_step(hasher: &mut FoldHasher, path: &Steps, number: usize)
+    requires { hasher.old ≡ hashed (take number path.now) }
+    ensures { hasher.new ≡ hashed (take (number + 1) path.now) }
 {
-    match path.step(path.len().saturating_sub(1))? {
-        Step::Key(key) => Some(key.as_str()),
-        Step::Index(_) => None,
+    match path.step(number) {
+        Some(Step::Key(key)) => hasher.write(key.as_bytes()),
+        Some(Step::Index(index)) => hasher.write_usize(*index),
+        None => {}
     }
 }
 
-/// The last key of a header.
-pub fn last_name(keys: &[String]) -> Option<&str>
-    ensures { (text : List ℕ) → (option_copied result ≡ Some text) ↔ EndsIn (key_texts keys.now) text }
+/// A hasher that was given the first steps of a path.
+fn hashed(path: &Steps, count: usize) -> FoldHasher
+    ensures { result ≡ hashed (take count path.now) }
 {
-    Some(keys.last()?.as_str())
+    let mut hasher = FoldHasher::default();
+    for number in 0..count {
+        write_step(&mut hasher, path, number);
+    }
+    hasher
 }
 
-/// The keys that tell apart edits of one kind: the last one of each path or header, and the new one of each rename.
-/// There are at most 2,000, so that keys made to collide take little time.
+/// The number that stands for a path.
+fn number_of(path: &Steps) -> u64
+    ensures { result ≡ number_of path.now }
+{
+    hashed(path, path.len()).finish()
+}
+
+/// That of the path with another key in place of its last step.
+fn number_beside(path: &Steps, key: &str) -> u64
+    ensures { result ≡ number_of (beside path.now key.now) }
+{
+    let mut hasher = hashed(path, path.len().saturating_sub(1));
+    hasher.write(key.as_bytes());
+    hasher.finish()
+}
+
+/// That of the keys of a header.
+fn number_of_keys(keys: &[String]) -> u64
+    ensures { result ≡ number_of (map key (key_texts keys.now)) }
+{
+    let mut hasher = FoldHasher::default();
+    for key in keys {
+        hasher.write(key.as_bytes());
+    }
+    hasher.finish()
+}
+
+/// The paths that tell apart edits of one kind, each by a number that stands for it: those of inserts, renames and
+/// headers, and the new ones of renames. Paths with other numbers are other paths. There are at most 2,000, so that
+/// paths made to collide take little time.
 #[derive(Drop)]
 pub struct SeenKeys<'a> {
     first: Outline<'a>,
-    keys: HashSet<&'a str>,
+    paths: HashSet<u64>,
 }
 
 impl<'a> SeenKeys<'a> {
-    /// No keys yet, for edits of the kind of this one.
+    /// No paths yet, for edits of the kind of this one.
     pub fn new(alloc: Global, first: Outline<'a>) -> SeenKeys<'a> {
         SeenKeys {
             first,
-            keys: HashSet::new(alloc),
+            paths: HashSet::new(alloc),
         }
     }
 
-    /// Adds the keys of an edit. Returns whether they could be added: those of an edit of another kind are not, nor
-    /// those of an edit whose path or header ends in no key.
+    /// Adds the paths of an edit. Returns whether they could be added: those of an edit of another kind are not.
     ///
     /// # Errors
     ///
     /// Out of memory.
-    pub fn add(&mut self, outline: &Outline<'a>) -> Result<bool, AllocError>
+    pub fn add(&mut self, outline: &Outline) -> Result<bool, AllocError>
         ensures seen { IfOk result (λ added. IsTrue added → IsSeen self.new outline.now) }
         ensures others { (other : Outline) → IsSeen self.old other → IsSeen self.new other }
     {
         match (&self.first, outline) {
-            (Outline::Insert(_), Outline::Insert(path)) => self.add_key(last_key(path)),
+            (Outline::Insert(_), Outline::Insert(path)) => self.add_number(number_of(path)),
             (Outline::Rename(_, _), Outline::Rename(path, key)) => {
-                Ok(self.add_key(last_key(path))? && self.add_key(Some(key))?)
+                self.add_number(number_of(path))?;
+                self.add_number(number_beside(path, key))
             }
-            (Outline::Table(_), Outline::Table(keys)) => self.add_key(last_name(keys)),
+            (Outline::Table(_), Outline::Table(keys)) => self.add_number(number_of_keys(keys)),
             (Outline::Remove(_), Outline::Remove(_))
             | (Outline::Set(_), Outline::Set(_))
             | (Outline::Element(_), Outline::Element(_)) => Ok(true),
@@ -68,60 +103,52 @@ impl<'a> SeenKeys<'a> {
         }
     }
 
-    /// Adds a key. Returns whether there is one.
+    /// Adds the number of a path.
     ///
     /// # Errors
     ///
     /// Out of memory.
-    fn add_key(&mut self, key: Option<&'a str>) -> Result<bool, AllocError>
-        ensures added { IfOk result (λ added. IsTrue added
-            → (text : List ℕ) × (option_copied key.entry ≡ Some text) × HasKey self.new text) }
+    fn add_number(&mut self, number: u64) -> Result<bool, AllocError>
+        ensures added { OnOk result ((path : List Part) → number ≡ number_of path → HasPath self.new path) }
         ensures others { GoesOn self.old self.new }
     {
-        let Some(key) = key else {
-            return Ok(false);
-        };
-        self.keys.insert(key)?;
+        self.paths.insert(number)?;
         Ok(true)
     }
 
-    /// Whether an edit is known by its keys to leave alone each one whose keys were added.
+    /// Whether an edit is known by its paths to leave alone each one whose paths were added.
     pub fn leaves_alone(&self, outline: &Outline) -> bool
         ensures { IsTrue result → (other : Outline) → IsSeen self.now other → LeavesAlone other outline.now }
     {
         match (&self.first, outline) {
-            (Outline::Insert(_), Outline::Insert(path)) => self.lacks(last_key(path)),
+            (Outline::Insert(_), Outline::Insert(path)) => self.lacks(number_of(path)),
             (Outline::Rename(_, _), Outline::Rename(path, key)) => {
-                self.lacks(Some(key)) && self.lacks_steps(path)
+                self.lacks(number_beside(path, key)) && self.lacks_all_above(path)
             }
-            (Outline::Table(_), Outline::Table(keys)) => self.lacks(last_name(keys)),
+            (Outline::Table(_), Outline::Table(keys)) => self.lacks(number_of_keys(keys)),
             (Outline::Remove(_), Outline::Remove(_)) | (Outline::Set(_), Outline::Set(_)) => true,
             _ => false,
         }
     }
 
-    /// Whether a key is none of these.
-    fn lacks(&self, key: Option<&str>) -> bool
-        ensures { IsTrue result → (text : List ℕ) → option_copied key.entry ≡ Some text → ¬ HasKey self.now text }
+    /// Whether the path of a number is none of these.
+    fn lacks(&self, number: u64) -> bool
+        ensures { IsTrue result → (path : List Part) → number ≡ number_of path → ¬ HasPath self.now path }
     {
-        match key {
-            Some(key) => !self.keys.contains(key),
-            None => true,
-        }
+        !self.paths.contains(&number)
     }
 
-    /// Whether no step of a path is one of these.
-    fn lacks_steps(&self, path: &Steps) -> bool
-        ensures { IsTrue result → (n : ℕ) (text : List ℕ) → slice_get path.now n ≡ Some (key text)
-            → ¬ HasKey self.now text }
+    /// Whether none of these is a path or one above it.
+    fn lacks_all_above(&self, path: &Steps) -> bool
+        ensures { IsTrue result → (n : ℕ) → n ≤ length path.now → ¬ HasPath self.now (take n path.now) }
     {
+        let mut hasher = FoldHasher::default();
         for number in 0..path.len() {
-            if let Some(Step::Key(key)) = path.step(number) {
-                if !self.lacks(Some(key.as_str())) {
-                    return false;
-                }
+            if !self.lacks(hasher.finish()) {
+                return false;
             }
+            write_step(&mut hasher, path, number);
         }
-        true
+        self.lacks(hasher.finish())
     }
 }

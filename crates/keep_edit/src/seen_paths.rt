@@ -1,39 +1,77 @@
-//! The keys of edits of any kinds that are made at once, by which most are known to leave alone those before them.
-ghost use Rattle.std.specs.Prelude.{◌≡◌, IfOk, IsTrue};
+//! The paths of edits of any kinds that are made at once, by which most are known to leave alone those before them.
+ghost use Rattle.std.specs.Prelude.{◌≡◌, ◌+◌, ℕ, IfOk, IsTrue, List, OnOk, map, take};
 ghost use Rattle.keep_edit.specs.declared.outline.Outline.{Outline};
 ghost use Rattle.keep_edit_plan.specs.Headers.{key_texts};
 ghost use Rattle.keep_edit.specs.Runs.{LeavesAlone};
-ghost use Rattle.keep_edit.specs.SeenPaths.{GoesOn, HasEnd, HasNames, HasPath, HasStep, IsSeen, MissesNames};
-ghost use Rattle.keep_edit.specs.SeenPaths.{MissesPath};
+ghost use Rattle.keep_edit.specs.SeenPaths.{BeginsInKey, GoesOn, HasBeginning, HasEnd, HasKey, HasKeys, HasName};
+ghost use Rattle.keep_edit.specs.SeenPaths.{HasNew, HasPath, IsSeen};
+ghost use Rattle.keep_edit.specs.SeenPaths.{MissesNames, MissesPath, keys_hashed, keys_number};
+ghost use Rattle.keep_path.specs.Path.{Part, beside, key};
 
 use crate::outline::{Outline, Steps};
-use crate::seen::{last_key, last_name};
 use keep_rules::Step;
 use std::alloc::{AllocError, Global};
 use std::collections::HashSet;
+use std::hash::{FoldHasher, Hasher};
 
-/// The keys of the paths and headers of edits, and the new keys of renames.
+/// Gives a hasher the step of a path with that number, if it is a key, after those before it.
+fn write_key(hasher: &mut FoldHasher, path: &Steps, number: usize)
+    requires { hasher.old ≡ keys_hashed (take number path.now) }
+    ensures { hasher.new ≡ keys_hashed (take (number + 1) path.now) }
+{
+    if let Some(Step::Key(key)) = path.step(number) {
+        hasher.write(key.as_bytes());
+    }
+}
+
+/// The number of the keys of a path with another key in place of its last step.
+fn number_beside(path: &Steps, key: &str) -> u64
+    ensures { result ≡ keys_number (beside path.now key.now) }
+{
+    let mut hasher = FoldHasher::default();
+    for number in 0..path.len().saturating_sub(1) {
+        write_key(&mut hasher, path, number);
+    }
+    hasher.write(key.as_bytes());
+    hasher.finish()
+}
+
+/// Whether the first step of a path is a key.
+fn begins_in_key(path: &Steps) -> bool
+    ensures { IsTrue result → BeginsInKey path.now }
+{
+    matches!(path.step(0), Some(Step::Key(_)))
+}
+
+/// The paths of edits and the keys of headers, each by a number that stands for its keys. Where the numbers are others,
+/// so are the keys.
 #[derive(Drop)]
 pub struct SeenPaths<'a> {
-    // the last one of each path or header, and the new ones
-    ends: HashSet<&'a str>,
-    // all of them
-    steps: HashSet<&'a str>,
+    // those of paths and headers, and of the new paths of renames
+    ends: HashSet<u64>,
+    // those of all that these begin with, too
+    beginnings: HashSet<u64>,
+    // the keys of paths
+    keys: HashSet<&'a str>,
+    // the new keys of renames
+    names: HashSet<&'a str>,
     has_header: bool,
 }
 
 impl<'a> SeenPaths<'a> {
-    /// No keys yet.
+    /// No paths yet.
     pub fn new(alloc: Global) -> SeenPaths<'a> {
         SeenPaths {
             ends: HashSet::new(alloc),
-            steps: HashSet::new(alloc),
+            beginnings: HashSet::new(alloc),
+            keys: HashSet::new(alloc),
+            names: HashSet::new(alloc),
             has_header: false,
         }
     }
 
-    /// Adds the keys of an edit. Returns whether they could be added: those of an edit whose path or header ends in no
-    /// key are not.
+    /// Adds the paths of an edit. Returns whether they could be added: those of an edit whose path or header begins in
+    /// no key are not.
     ///
     /// # Errors
     ///
@@ -44,10 +82,11 @@ impl<'a> SeenPaths<'a> {
     {
         match outline {
             Outline::Insert(path) | Outline::Remove(path) | Outline::Set(path) => {
+                self.add_keys(path)?;
                 self.add_path(path)
             }
             Outline::Rename(path, key) => {
-                self.add_end(key)?;
+                self.add_new(number_beside(path, key), key)?;
                 self.add_path(path)
             }
             Outline::Table(keys) | Outline::Element(keys) => {
@@ -57,58 +96,130 @@ impl<'a> SeenPaths<'a> {
         }
     }
 
-    /// Adds the keys of a path. Returns whether it ends in one.
+    /// Adds a path, with each that it begins with. Returns whether it begins in a key.
     ///
     /// # Errors
     ///
     /// Out of memory.
-    fn add_path(&mut self, path: &Steps<'a>) -> Result<bool, AllocError>
+    fn add_path(&mut self, path: &Steps) -> Result<bool, AllocError>
         ensures added { IfOk result (λ added. IsTrue added → HasPath self.new path.now) }
         ensures others { GoesOn self.old self.new }
     {
-        let Some(last) = last_key(path) else {
+        if !begins_in_key(path) {
             return Ok(false);
-        };
-        self.add_end(last)?;
+        }
+        let mut hasher = FoldHasher::default();
+        for number in 0..path.len() {
+            write_key(&mut hasher, path, number);
+            self.add_beginning(hasher.finish())?;
+        }
+        self.add_end(hasher.finish())?;
+        Ok(true)
+    }
+
+    /// Adds the keys of a header in the same way. Returns whether there is one.
+    ///
+    /// # Errors
+    ///
+    /// Out of memory.
+    fn add_names(&mut self, keys: &[String]) -> Result<bool, AllocError>
+        ensures added { IfOk result (λ added. IsTrue added → HasPath self.new (map key (key_texts keys.now))) }
+        ensures others { GoesOn self.old self.new }
+    {
+        if keys.is_empty() {
+            return Ok(false);
+        }
+        let mut hasher = FoldHasher::default();
+        for key in keys {
+            hasher.write(key.as_bytes());
+            self.add_beginning(hasher.finish())?;
+        }
+        self.add_end(hasher.finish())?;
+        Ok(true)
+    }
+
+    /// Adds the keys of a path.
+    ///
+    /// # Errors
+    ///
+    /// Out of memory.
+    fn add_keys(&mut self, path: &Steps<'a>) -> Result<(), AllocError>
+        ensures added { OnOk result (HasKeys self.new path.now) }
+        ensures others { GoesOn self.old self.new }
+    {
         for number in 0..path.len() {
             let Some(Step::Key(key)) = path.step(number) else {
                 continue;
             };
-            self.steps.insert(key.as_str())?;
+            self.add_key(key.as_str())?;
         }
-        Ok(true)
+        Ok(())
     }
 
-    /// Adds the keys of a header. Returns whether there is one.
+    /// Adds the new path of a rename, by its number, and its new key.
     ///
     /// # Errors
     ///
     /// Out of memory.
-    fn add_names(&mut self, keys: &'a [String]) -> Result<bool, AllocError>
-        ensures added { IfOk result (λ added. IsTrue added → HasNames self.new (key_texts keys.now)) }
+    fn add_new(&mut self, number: u64, key: &'a str) -> Result<(), AllocError>
+        ensures added { OnOk result ((path : List Part) → number ≡ keys_number (beside path key.now)
+            → HasNew self.new path key.now) }
         ensures others { GoesOn self.old self.new }
     {
-        let Some(last) = last_name(keys) else {
-            return Ok(false);
-        };
-        self.add_end(last)?;
-        for key in keys {
-            self.steps.insert(key.as_str())?;
-        }
-        Ok(true)
+        self.add_end(number)?;
+        self.add_beginning(number)?;
+        self.add_name(key)
     }
 
-    /// Adds the last key of a path or header, or the new key of a rename.
+    /// Adds the number of a path or header, or of a new path.
     ///
     /// # Errors
     ///
     /// Out of memory.
-    fn add_end(&mut self, key: &'a str) -> Result<(), AllocError>
-        ensures added { IfOk result (λ done. HasEnd self.new key.now × HasStep self.new key.now) }
+    fn add_end(&mut self, number: u64) -> Result<(), AllocError>
+        ensures added { OnOk result ((path : List Part) → number ≡ keys_number path → HasEnd self.new path) }
         ensures others { GoesOn self.old self.new }
     {
-        self.ends.insert(key)?;
-        self.steps.insert(key)?;
+        self.ends.insert(number)?;
+        Ok(())
+    }
+
+    /// Adds that of what one of these begins with.
+    ///
+    /// # Errors
+    ///
+    /// Out of memory.
+    fn add_beginning(&mut self, number: u64) -> Result<(), AllocError>
+        ensures added { OnOk result ((path : List Part) → number ≡ keys_number path → HasBeginning self.new path) }
+        ensures others { GoesOn self.old self.new }
+    {
+        self.beginnings.insert(number)?;
+        Ok(())
+    }
+
+    /// Adds a key of a path.
+    ///
+    /// # Errors
+    ///
+    /// Out of memory.
+    fn add_key(&mut self, key: &'a str) -> Result<(), AllocError>
+        ensures added { OnOk result (HasKey self.new key.now) }
+        ensures others { GoesOn self.old self.new }
+    {
+        self.keys.insert(key)?;
+        Ok(())
+    }
+
+    /// Adds a new key.
+    ///
+    /// # Errors
+    ///
+    /// Out of memory.
+    fn add_name(&mut self, key: &'a str) -> Result<(), AllocError>
+        ensures added { OnOk result (HasName self.new key.now) }
+        ensures others { GoesOn self.old self.new }
+    {
+        self.names.insert(key)?;
         Ok(())
     }
 
@@ -119,30 +230,60 @@ impl<'a> SeenPaths<'a> {
         self.has_header
     }
 
-    /// Whether an edit is known by its keys to be left alone by each one whose keys were added.
+    /// Whether an edit is known by its paths to be left alone by each one whose paths were added.
     pub fn leave_alone(&self, outline: &Outline) -> bool
         ensures { IsTrue result → (other : Outline) → IsSeen self.now other → LeavesAlone other outline.now }
     {
         match outline {
             Outline::Insert(path) | Outline::Remove(path) | Outline::Set(path) => {
-                self.misses_path(path)
+                self.misses_path(path) && self.misses_names(path)
             }
-            Outline::Rename(path, key) => self.misses_path(path) && self.misses_end(key),
-            Outline::Table(keys) | Outline::Element(keys) => self.misses_names(keys),
+            Outline::Rename(path, key) => self.misses_path(path) && self.misses_new(path, key),
+            Outline::Table(keys) | Outline::Element(keys) => self.misses_keys(keys),
         }
     }
 
-    /// Whether a path ends in a key that is none of these, and has none as a step that is the last of another.
+    /// Whether none of these begins with a path, nor the path with one of these.
     fn misses_path(&self, path: &Steps) -> bool
         ensures { IsTrue result → MissesPath self.now path.now }
     {
-        match last_key(path) {
-            Some(last) if self.misses_end(last) => {}
-            _ => return false,
+        if !begins_in_key(path) {
+            return false;
         }
+        let mut hasher = FoldHasher::default();
+        for number in 0..path.len() {
+            write_key(&mut hasher, path, number);
+            if !self.lacks_end(hasher.finish()) {
+                return false;
+            }
+        }
+        self.lacks_beginning(hasher.finish())
+    }
+
+    /// The same of the keys of a header.
+    fn misses_keys(&self, keys: &[String]) -> bool
+        ensures { IsTrue result → MissesPath self.now (map key (key_texts keys.now)) }
+    {
+        if keys.is_empty() {
+            return false;
+        }
+        let mut hasher = FoldHasher::default();
+        for key in keys {
+            hasher.write(key.as_bytes());
+            if !self.lacks_end(hasher.finish()) {
+                return false;
+            }
+        }
+        self.lacks_beginning(hasher.finish())
+    }
+
+    /// Whether no key of a path is the new key of a rename.
+    fn misses_names(&self, path: &Steps) -> bool
+        ensures { IsTrue result → MissesNames self.now path.now }
+    {
         for number in 0..path.len() {
             if let Some(Step::Key(key)) = path.step(number) {
-                if self.ends.contains(key.as_str()) {
+                if self.names.contains(key.as_str()) {
                     return false;
                 }
             }
@@ -150,26 +291,25 @@ impl<'a> SeenPaths<'a> {
         true
     }
 
-    /// Whether the last key of a header is none of these, and none of its keys is the last of another.
-    fn misses_names(&self, keys: &[String]) -> bool
-        ensures { IsTrue result → MissesNames self.now (key_texts keys.now) }
+    /// Whether the path that a rename makes is none of these, nor one that they begin with, and its new key is none of
+    /// theirs.
+    fn misses_new(&self, path: &Steps, key: &str) -> bool
+        ensures { IsTrue result → ¬ HasBeginning self.now (beside path.now key.now) × ¬ HasKey self.now key.now }
     {
-        match last_name(keys) {
-            Some(last) if self.misses_end(last) => {}
-            _ => return false,
-        }
-        for key in keys {
-            if self.ends.contains(key.as_str()) {
-                return false;
-            }
-        }
-        true
+        self.lacks_beginning(number_beside(path, key)) && !self.keys.contains(key)
     }
 
-    /// Whether a key is none of these.
-    fn misses_end(&self, key: &str) -> bool
-        ensures { IsTrue result → ¬ HasEnd self.now key.now × ¬ HasStep self.now key.now }
+    /// Whether the number is that of none of these.
+    fn lacks_end(&self, number: u64) -> bool
+        ensures { IsTrue result → (path : List Part) → number ≡ keys_number path → ¬ HasEnd self.now path }
     {
-        !self.ends.contains(key) && !self.steps.contains(key)
+        !self.ends.contains(&number)
+    }
+
+    /// Whether it is that of nothing that these begin with.
+    fn lacks_beginning(&self, number: u64) -> bool
+        ensures { IsTrue result → (path : List Part) → number ≡ keys_number path → ¬ HasBeginning self.now path }
+    {
+        !self.beginnings.contains(&number)
     }
 }

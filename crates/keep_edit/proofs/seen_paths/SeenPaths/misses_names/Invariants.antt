@@ -1,8 +1,8 @@
 use Rattle.std.proofs.Common.{◌≡◌, ◌<◌, ℕ, List, Some, slice_get}
-use Rattle.keep_edit_plan.specs.Headers.{key_texts}
-use Rattle.keep_edit.specs.SeenPaths.{HasEnd}
+use Rattle.keep_path.specs.Path.{key}
+use Rattle.keep_edit.specs.SeenPaths.{HasName}
 use Rattle.keep_edit.proofs.seen_paths.SeenPaths.misses_names.Given as goal
 
-abbrev pub invariant-loop-key : goal.invariant-loop-key
-invariant-loop-key l =
-    (n : ℕ) (text : List ℕ) → n < l.key-index → slice_get (key_texts l.keys) n ≡ Some text → ¬ HasEnd l.self text
+abbrev pub invariant-loop-number : goal.invariant-loop-number
+invariant-loop-number l =
+    (n : ℕ) (text : List ℕ) → n < l.number → slice_get l.path n ≡ Some (key text) → ¬ HasName l.self text

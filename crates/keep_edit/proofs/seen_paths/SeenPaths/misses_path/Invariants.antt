@@ -1,8 +1,8 @@
-use Rattle.std.proofs.Common.{◌≡◌, ◌<◌, ℕ, List, Some, slice_get}
-use Rattle.keep_path.specs.Path.{key}
-use Rattle.keep_edit.specs.SeenPaths.{HasEnd}
+use Rattle.std.proofs.Common.{◌≡◌, ◌<◌, ◌+◌, ℕ, take}
+use Rattle.keep_edit.specs.SeenPaths.{HasEnd, keys_hashed}
 use Rattle.keep_edit.proofs.seen_paths.SeenPaths.misses_path.Given as goal
 
 abbrev pub invariant-loop-number : goal.invariant-loop-number
 invariant-loop-number l =
-    (n : ℕ) (text : List ℕ) → n < l.number → slice_get l.path n ≡ Some (key text) → ¬ HasEnd l.self text
+    (l.hasher ≡ keys_hashed (take l.number l.path))
+    × ((n : ℕ) → n < l.number → ¬ HasEnd l.self (take (n + 1) l.path))
