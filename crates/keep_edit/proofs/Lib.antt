@@ -21,3 +21,4 @@ mod RunSteps
 mod SetAgainSteps
 mod ItemSteps
 mod SectionSteps
+mod ValueAfterLaws

@@ -8,3 +8,4 @@ pub mod Headers
 pub mod Children
 pub mod Seen
 pub mod SeenPaths
+pub mod ValueAfter

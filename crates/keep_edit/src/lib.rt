@@ -54,6 +54,7 @@ mod planned;
 mod runs;
 mod seen;
 mod seen_paths;
+mod value_after;
 
 pub use document::{Counts, Document, Entry};
 pub use keep_edit_plan::{Edit, TextEdit};

@@ -18,12 +18,12 @@ pub use Rattle.keep_edit_spec.proofs.Remove.RemovePlaces.{IsPlaced, IsRemoved, r
 pub use Rattle.keep_edit_spec.proofs.Common.Doubles.{IsMentioned, has_some}
 pub use Rattle.keep_edit_spec.proofs.Remove.RemoveSectionPlace.{IsSectionPlaced}
 pub use Rattle.keep_edit_spec.proofs.Values.ValuePlace.{IsValueOf, has_of_number, none_of_number, set_place}
-pub use Rattle.keep_edit_spec.proofs.Values.ValuePlace.{value_of_number}
+pub use Rattle.keep_edit_spec.proofs.Values.ValuePlace.{value_of_number, value_of_path}
 pub use Rattle.keep_edit_spec.proofs.Common.ValueThere.{alone_of_has, fact_past, some_cases}
 pub use Rattle.keep_edit_spec.proofs.Remove.ElementThere.{begun_alone}
 pub use Rattle.keep_edit_spec.proofs.Common.TableThere.{defined_ends}
 pub use Rattle.keep_edit_spec.proofs.Common.ValueNumber.{false_unless}
-pub use Rattle.keep_edit_spec.proofs.Set.SetIsLawful.{get_is_right}
+pub use Rattle.keep_edit_spec.proofs.Set.SetIsLawful.{IsSettable, get_is_right, settable}
 pub use Rattle.keep_edit_spec.proofs.Set.SetNodes.{IsKindSet, kind_set}
 pub use Rattle.keep_edit_spec.proofs.Set.SetValue.{value_set}
 pub use Rattle.keep_edit_spec.proofs.Values.LineValue.{IsLineValueChanged, line_value_number, nested_value}
@@ -83,6 +83,7 @@ pub use Rattle.keep_edit_spec.proofs.Lists.RunLaws.{none_is_run, run_goes_on}
 pub use Rattle.keep_edit_spec.proofs.Lists.RunLists.{each_of_others, run_goes_on_again, run_is_known}
 pub use Rattle.keep_edit_spec.proofs.Lists.ItemRunLaws.{item_run_goes_on, none_is_item_run}
 pub use Rattle.keep_edit_spec.proofs.Lists.EntryEditRuns.{run_goes_on_by_entry}
+pub use Rattle.keep_edit_spec.proofs.Lists.EntryEdits.{still_makes_set}
 pub use Rattle.keep_edit_spec.proofs.Lists.SetTwice.{sets_again}
 pub use Rattle.keep_edit_spec.proofs.Lists.SectionRunLaws.{none_is_section_run, section_run_goes_on}
 pub use Rattle.keep_edit_spec.proofs.Lists.MoreItems.{keys_same, prefixes_alike}
