@@ -7,7 +7,9 @@ throws away what it read, meets every contract. So this is looked at: each name 
 these crates where READ_BY says, once in each of these functions, and nowhere else. No edit is among them; `copied` reads the
 document's text for a list of edits, once, and `with_changes` the text after many edits of a list that are made at once; and
 where a value changes the index, its own text is read once more: that of a given value by `nodes_of_value` or `set_value`, that
-of a touched line's value by `set_inside`. For a list of edits `holder_set` reads the text that a value has with an entry more or less.
+of a touched line's value by `set_inside`. For a list of edits `holder_set` reads the text that a value has with an entry more or less, and
+where an edit of the list has set a short value and another one is of an entry of it, `value_after` reads that value, `edit_alone`
+the one that is inserted, and `entry_again` the text that the first has then.
 
 Comments, contracts and proofs are not looked at. The functions are found by the layout of `rt fmt` (bodies.py).
 """
@@ -43,11 +45,16 @@ READ_BY = {
         *(DOCUMENT + it for it in ("read_in", "read_owned_in", "copied")),
         # many edits of a list at once
         DOCUMENT + "with_changes",
+        # a value alone, for an edit of an entry of it among those
+        "keep_edit value_after::value_after",
     ],
     "read_in": [
         DOCUMENT + "read",
         # what a value is with an entry more or less, of its own text
         "keep_edit_plan document::DocumentRef::holder_set",
+        DOCUMENT + "entry_again",
+        # and the value that is inserted there
+        "keep_edit value_after::edit_alone",
     ],
     "read_owned_in": [DOCUMENT + "read_owned"],
     "read_owned": [],

@@ -8,8 +8,8 @@ to 1,000, by the document before all of them. So each list (of 80 edits, one in 
 given) is given to the program as one script, and then in scripts of 10, or of 2 where tables are removed, each on what the
 one before gave, where every edit is made by itself. Texts, faults and the number of the refused edit have to be the same.
 Most lists are of edits of one kind, a quarter of them of edits of all kinds in turn. A fifth of the lines that are changed have
-a comment. Values are set again, which goes on in the row. Among the edits are some that end it: one that is refused, any
-other of a path that was there before, one that is in another's.
+a comment. Values are set again, and edits of entries come back to a value, which goes on in the row. Among the edits are some
+that end it: one that is refused, any other of a path that was there before, one that is in another's.
 """
 import sys
 from pathlib import Path
@@ -189,26 +189,40 @@ class Run:
         self.text = text
         return holders
 
-    def part(self, path, count, is_array):
-        """An edit of an entry of one of these: one is inserted or removed; now and then one that can't be."""
+    def part(self, path, count, is_array, again=False):
+        """An edit of an entry of one of these, and how many it has then: one is inserted or removed; now and then one that can't
+        be. Of a table that comes again the last key is removed, so that its keys stay k0, k1 and so on."""
         random = self.random
         at = random.randrange(count + 1)
         step = lambda number: path + (b"[%d]" if is_array else b".k%d") % number
-        if at < count and random.random() < 0.5:
-            return edit_of(b"remove", step(at))
+        if at < count and (is_array or at == count - 1 or not again) and random.random() < 0.5:
+            return edit_of(b"remove", step(at)), count - 1
         end = at if is_array and random.random() < 0.99 else count + (random.random() < 0.01)
-        return edit_of(b"insert", step(end), value_of(random))
+        return edit_of(b"insert", step(end), value_of(random)), count + 1
 
     def parts(self):
-        """Entries of arrays and inline tables, mostly one of each, and sets between; now and then a second one."""
+        """Entries of arrays and inline tables, mostly one of each, and sets between; in half of the lists many of few values, in a
+        row or coming back to them; now and then a second one."""
         random, holders = self.random, self.with_holders()
         random.shuffle(holders)
         edits = []
+        if holders and random.random() < 0.5:
+            few = holders[: random.choice((1, 2, 5, 1 + len(holders) // 5))]
+            holders, at = [], 0
+            while len(edits) < self.many:
+                at = at if random.random() < 0.5 else random.randrange(len(few))
+                path, count, is_array = few[at]
+                if random.random() < 0.02:
+                    count, is_array = 1, True
+                    edits.append(edit_of(b"set", path, b"[%s]" % value_of(random)))
+                edit, count = self.part(path, count, is_array, again=True)
+                edits.append(edit)
+                few[at] = (path, count, is_array)
         for path, count, is_array in holders:
             if random.random() < 0.2:
                 edits.append(edit_of(b"set", path, value_of(random)))
             else:
-                edits.append(self.part(path, count, is_array))
+                edits.append(self.part(path, count, is_array)[0])
                 if random.random() < 0.01:
                     edits.append(random.choice(edits))
         return edits
@@ -227,7 +241,7 @@ class Run:
         for number, path in enumerate(paths):
             kind = random.choice((b"insert", b"insert", b"remove", b"remove", b"set", b"rename", b"table", b"element"))
             if holders and random.random() < 0.3:
-                edits.append(self.part(*holders.pop()))
+                edits.append(self.part(*holders.pop())[0])
             elif are_set and random.random() < 0.2:
                 edits.append(edit_of(b"set", random.choice(are_set), value_of(random)))
             elif kind == b"table":

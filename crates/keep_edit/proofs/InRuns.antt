@@ -2,24 +2,32 @@
 --
 -- The holder's path is that of the entry without its last step.
 --
--- Theorems: `by_itself`, `by_set`; `again`: a set of a value that is set already.
+-- Theorems: `by_itself`, `by_set`; `again`: a set of a value that is set already; `entry_again`: an edit of an entry of
+-- one; `holder_first`, `has_path`, `same_place`: the holder's path, the edit's, and its place.
 use Rattle.std.proofs.Common.{◌≡◌, ◌∷◌, ◌++◌, [], List, refl, sym, ap, subst, ◌∙◌, inl, inr, Option, Some, None}
-use Rattle.std.proofs.Common.{false, true, string_bytes}
-use Rattle.std.specs.Prelude.{IfSome}
+use Rattle.std.proofs.Common.{false, true, string_bytes, ℕ, suc, ◌-◌, arith, length, take, get_or, Bool, not, ap₂}
+use Rattle.std.proofs.Common.{eqb-true, take-suc, take_all}
+use Rattle.std.specs.Prelude.{◌⊎◌, ◌&&◌, ◌==◌, Err, IfOk, IfSome, Ok, Result}
+use Rattle.std.specs.Result.{result_ok}
+use Rattle.keep_types.specs.declared.leaf.Profile.TheVariants.{Wide}
+use Rattle.keep_types.specs.declared.syntax.Span.{Span}
 use Rattle.keep_syntax.specs.Tree.{Document, Value}
+use Rattle.keep_syntax.proofs.Shared.{one_value}
 use Rattle.keep_path.specs.Path.{Part, without_last}
 use Rattle.keep_edit_spec.specs.Edits as law
 use Rattle.keep_edit_spec.specs.EntryEdits.{IsOfEntry}
 use Rattle.keep_edit_spec.proofs.Shared.{without_last-snoc}
 use Rattle.keep_edit_plan.specs.Headers.{key_texts}
-use Rattle.keep_edit_spec.specs.Runs.{MakesChange}
-use Rattle.keep_edit_plan.specs.TextEdits.{MakesChangeHere, MakesSetHere, change_of}
+use Rattle.keep_edit_spec.specs.Runs.{MakesChange, path_of}
+use Rattle.keep_edit_spec.specs.TextChanges.{TextChange, change_at}
+use Rattle.keep_edit_plan.specs.TextEdits.{HasChange, MakesChangeHere, MakesSetHere, change_of}
 use Rattle.keep_edit_plan.specs.declared.edit.Edit.{Edit}
 use Rattle.keep_edit_plan.specs.declared.edit.Edit.TheVariants as edit
 use Rattle.keep_edit_plan.specs.declared.text_edit.TextEdit.{TextEdit}
 use Rattle.keep_edit.specs.Lists.{IsEdit}
 use Rattle.keep_edit.specs.Reading.{ProfiledText, limit}
 use Rattle.keep_edit.specs.Runs.{IsSetBy, MakesInRunHere, SetsAgainHere, no_value, outline, plain}
+use Rattle.keep_edit.specs.ValueAfter.{MakesValue}
 use Rattle.keep_edit.specs.declared.outline.Outline.{Outline}
 
 plain_as : (e a : law.Edit) → e ≡ a → plain e ≡ plain a
@@ -83,17 +91,91 @@ by_set now x (Some t) h = record {
 }
 
 -- a set of a value that an edit with one of these outlines sets
-pub again : (now : ProfiledText) (outlines : List Outline) (x : Edit) (path : List Part) (r : Option TextEdit)
-    → ((e : law.Edit) → IsEdit x e → (v : Value) × (e ≡ law.set path v)) → IsSetBy outlines path
-    → IfSome r (MakesChangeHere now x) → IfSome r (SetsAgainHere now x outlines)
-again now outlines x path None sets already h = tt
-again now outlines x path (Some t) sets already h =
+pub again : (now : ProfiledText) (outlines : List Outline) (changes : List TextChange) (x : Edit) (path : List Part)
+    (r : Option TextEdit) → ((e : law.Edit) → IsEdit x e → (v : Value) × (e ≡ law.set path v))
+    → IsSetBy outlines path → IfSome r (MakesChangeHere now x)
+    → IfSome r (SetsAgainHere now x outlines changes)
+again now outlines changes x path None sets already h = tt
+again now outlines changes x path (Some t) sets already h =
     let (v, is) = sets h.edit h.is in
     record {
+      edit = h.edit;
+      is = h.is;
       path = path;
       value = v;
-      is = subst (IsEdit x) is h.is;
+      makes = inl is;
       already = already;
       sets = λ s read. subst (λ (e : law.Edit). MakesChange now.profile limit s e (change_of t)) is (h.makes s read);
       within = h.within;
+    }
+
+-- ---- an edit of an entry of a value that is set already
+
+-- the first steps, without the last
+ends_in : (path holder : List Part) (n : ℕ) → length path ≡ suc n → holder ≡ take n path
+    → (part : Part) × (path ≡ holder ++ part ∷ [])
+ends_in [] holder n count is = absurd (omega (arith, count))
+ends_in (p ∷ ps) holder n count is = (
+  get_or (p ∷ ps) n p,
+  sym (take_all (suc n) (p ∷ ps) (omega (arith, count))) ∙ take-suc (p ∷ ps) n p (omega (arith, count))
+      ∙ ap (λ (q : List Part). q ++ get_or (p ∷ ps) n p ∷ []) (sym is),
+)
+
+pub holder_first : {E : Type 0} (path : List Part) (n : ℕ) (r : Result (List Part) E) → length path ≡ suc n
+    → IfOk r (λ first. first ≡ take n path)
+    → IfSome (result_ok r) (λ holder. (part : Part) × (path ≡ holder ++ part ∷ []))
+holder_first path n (Err f) count h = tt
+holder_first path n (Ok first) count h = ends_in path first n count h
+
+-- the edit has that path
+abbrev pub HasPath : Edit → List Part → Type 0
+HasPath x path = (e : law.Edit) → IsEdit x e → path_of e ≡ path
+
+pub has_path : (x : Edit) (path : List Part)
+    → ((value : List ℕ) × (x ≡ edit.Insert path value)) ⊎ (x ≡ edit.Remove path) → HasPath x path
+has_path x path (inl (value, is)) e h =
+    let (v, text, same) = subst (λ (y : Edit). IsEdit y e) is h in ap path_of same
+has_path x path (inr is) e h =
+    let same : e ≡ law.remove path = subst (λ (y : Edit). IsEdit y e) is h in ap path_of same
+
+-- places that are told to be the same
+pub same_place : (differ : Bool) (p q : Span) → differ ≡ not ((p.start == q.start) && (p.end == q.end))
+    → differ ≡ false → p ≡ q
+same_place differ p q is same =
+    let (starts, ends) = both_true differ (p.start == q.start) (p.end == q.end) is same in
+    ap₂ (λ (a b : ℕ). record { start = a; end = b }) (eqb-true p.start q.start starts) (eqb-true p.end q.end ends)
+  where
+    both_true : (r x y : Bool) → r ≡ not (x && y) → r ≡ false → (x ≡ true) × (y ≡ true)
+    both_true r true true e f = (refl, refl)
+    both_true r true false e f = absurd cc
+    both_true r false y e f = absurd cc
+
+pub entry_again : (now : ProfiledText) (outlines : List Outline) (changes : List TextChange) (x : Edit)
+    (path holder : List Part) (part : Part) (was : TextEdit) (new : List ℕ) (t : TextEdit)
+    → HasPath x path → path ≡ holder ++ part ∷ [] → IsSetBy outlines (without_last path)
+    → HasChange changes (change_of was) → t.place ≡ was.place
+    → MakesValue now.profile (string_bytes was.new) x new → MakesChangeHere now (edit.Set holder new) t
+    → SetsAgainHere now x outlines changes t
+entry_again now outlines changes x path holder part was new t has whole already earlier place made set =
+    let (v, text_is, is_set) = set.is in
+    let same : v ≡ made.value =
+    one_value Wide v made.value text_is.reads.valid made.text_is.reads.valid
+    (sym text_is.reads.spelled ∙ made.text_is.reads.spelled) in
+    let is : set.edit ≡ law.set holder made.value = is_set ∙ ap (law.set holder) same in
+    let before : without_last path ≡ holder = ap without_last whole ∙ without_last-snoc holder part in
+    record {
+      edit = made.edit;
+      is = made.is;
+      path = holder;
+      value = made.value;
+      makes = inr (record {
+        was = string_bytes was.new;
+        earlier = subst (λ (p : Span). HasChange changes (change_at p.start (p.end - p.start) (string_bytes was.new)))
+            (sym place) earlier;
+        makes = λ u d fine sets there.
+            made.makes u holder part d (has made.edit made.is ∙ whole) fine sets there;
+      });
+      already = subst (IsSetBy outlines) before already;
+      sets = λ s read. subst (λ (e : law.Edit). MakesChange now.profile limit s e (change_of t)) is (set.makes s read);
+      within = set.within;
     }

@@ -1,13 +1,15 @@
--- Edits of a list that are made at once, and one more that sets a value which one of them sets: its change comes in the
--- place of that one's.
+-- Edits of a list that are made at once, and one more that sets a value which one of them sets, or is of an entry of
+-- that value: its change comes in the place of that one's.
 --
 -- By the law of runs that is set again, the others with the later set are made at once too, and make the document that
 -- the set makes after all of them. So that set is not refused, the edits up to it are made, and the text is that with
 -- its change in the place of the earlier one. What leaves a set alone does not hang on its value, so the outlines stay.
+-- An edit of an entry is known by the text of the value, which is what the earlier change writes: two changes of one
+-- place are one (`wrote`). So it makes what the set makes (`as_set`).
 --
 -- Theorems: `each_replaced`: what holds of each change holds with one in the place of another; `changes_again`.
-use Rattle.std.proofs.Common.{◌≡◌, ◌<◌, ◌∷◌, ◌++◌, [], ℕ, suc, List, length, take, get_or, refl, sym, ap}
-use Rattle.std.proofs.Common.{subst, ◌∙◌, All, IsUtf8, inl, inr, false}
+use Rattle.std.proofs.Common.{◌≡◌, ◌<◌, ◌∷◌, ◌++◌, [], ℕ, suc, List, length, take, drop, get_or, refl, sym}
+use Rattle.std.proofs.Common.{ap, subst, ◌∙◌, All, IsUtf8, inl, inr, None, false}
 use Rattle.std.specs.Prelude.{◌⊎◌, IsTrue}
 use Rattle.std.proofs.lemmas.List.Elements.{All-cons, All-head, All-tail}
 use Rattle.std.proofs.lemmas.Str.{IsUtf8-string_bytes}
@@ -16,16 +18,18 @@ use Rattle.keep_path.specs.Path.{Part}
 use Rattle.keep_edit_spec.specs.Changed.{put}
 use Rattle.keep_edit_spec.specs.Edits as law
 use Rattle.keep_edit_spec.specs.Edits.{edited_document, place}
+use Rattle.keep_edit_spec.specs.EntryEdits.{MakesSet}
 use Rattle.keep_edit_spec.specs.Laws.{IsLawfulEdit}
+use Rattle.keep_edit_spec.specs.Refusals.{refusal}
 use Rattle.keep_edit_spec.specs.RunLists.{IsRunSetAgain, IsSetIn, MadeEdit, changes_of, edits_of, made}
 use Rattle.keep_edit_spec.specs.Runs as runs
 use Rattle.keep_edit_spec.specs.Runs.{IsRun}
 use Rattle.keep_edit_spec.specs.SetValues.{SetsValue}
 use Rattle.keep_edit_spec.specs.TextChanges.{Follow, TextChange, change_at, moved_by_all, text_with}
-use Rattle.keep_edit_spec.proofs.Shared.{change_put, each_of_others, put_in_place}
-use Rattle.keep_edit_spec.proofs.Shared.{run_goes_on_again, run_is_known, set_lawful}
+use Rattle.keep_edit_spec.proofs.Shared.{change_put, each_of_others, entry_lawful, one_in_place, put_in_place}
+use Rattle.keep_edit_spec.proofs.Shared.{run_goes_on_again, run_is_known, set_bytes, set_lawful}
 use Rattle.keep_edit_plan.proofs.Shared.{change_in, editable}
-use Rattle.keep_edit_plan.specs.TextEdits.{IsChangeIn, IsReplaced, change_of}
+use Rattle.keep_edit_plan.specs.TextEdits.{HasChange, IsChangeIn, IsReplaced, change_of}
 use Rattle.keep_edit_plan.specs.declared.edit.Edit.{Edit}
 use Rattle.keep_edit_plan.specs.declared.text_edit.TextEdit.{TextEdit}
 use Rattle.keep_edit.specs.Lists.{AreMade}
@@ -63,7 +67,7 @@ set_by_one q m (x ∷ later) earlier (inr h) = elim (set_by_one q m later earlie
 module _ (s : Document) (edits : List Edit) (n : ℕ) (old now : ProfiledText) (before : Document)
     (outlines : List Outline) (changes new : List TextChange) (read : IsTextOfTree now before)
     (h : IsRunTo s edits n old now before outlines changes) (d x : Edit) (lt : n < length edits)
-    (here : get_or edits n d ≡ x) (t : TextEdit) (again : SetsAgainHere now x outlines t)
+    (here : get_or edits n d ≡ x) (t : TextEdit) (again : SetsAgainHere now x outlines changes t)
     (replaced : IsReplaced changes (change_of t) new) (utf8 : All (λ b. IsUtf8 b.new) new)
     (within : All (IsChangeIn now.text) new) where
   abbrev c : TextChange
@@ -103,8 +107,45 @@ module _ (s : Document) (edits : List Edit) (n : ℕ) (old now : ProfiledText) (
   sets : SetsValue now.profile limit h.made.tree again.path again.value moved
   sets = subst (λ (u : Document). SetsValue now.profile limit u again.path again.value moved) h.tree_is r.sets
 
-  lawful : IsLawfulEdit now.profile limit h.made.tree e
-  lawful = set_lawful now.profile limit h.made.tree again.path again.value so_far.editable sets.given sets.allowed
+  -- the edit makes of the document what the set makes, and is not refused
+  record IsAsSet (f : law.Edit) : Type 0 where
+    allowed : refusal now.profile limit h.made.tree f ≡ None
+    lawful : IsLawfulEdit now.profile limit h.made.tree f
+    same : edited_document h.made.tree f ≡ edited_document h.made.tree e
+
+  is_set : IsAsSet e
+  is_set = record {
+    allowed = sets.allowed;
+    lawful = set_lawful now.profile limit h.made.tree again.path again.value so_far.editable sets.given sets.allowed;
+    same = refl;
+  }
+
+  -- the bytes that it replaces are those that the earlier change writes
+  wrote : (was : List ℕ) → HasChange changes (change_at c.at c.size was)
+      → take (length r.c.new) (drop (moved_by_all (changes_of r.rest) c.at) (text h.made.tree)) ≡ was
+  wrote was has =
+      let first : SetsValue now.profile limit before again.path again.value c = again.sets before read in
+      let one : change_at c.at c.size was ≡ r.c =
+      one_in_place has.before has.after (changes_of r.rest) (change_at c.at c.size was) r.c (sym r.at) first.some r.some
+      (subst (Follow 0) has.is so_far.follow) (sym has.is ∙ sym h.changes_are ∙ r.changes) in
+      ap (λ (u : Document). take (length r.c.new) (drop (moved_by_all (changes_of r.rest) c.at) (text u)))
+      (sym h.tree_is)
+      ∙ set_bytes now.profile limit before h.ms again.path again.value c (editable now before read) h.at_once first r
+      ∙ ap (λ (d : TextChange). d.new) (sym one)
+
+  as_set : IsAsSet again.edit
+  as_set = elim again.makes [
+    | inl same ↦ subst IsAsSet (sym same) is_set
+    | inr of_earlier ↦
+        let makes : MakesSet now.profile limit h.made.tree again.edit again.path again.value moved =
+        of_earlier.makes h.made.tree moved so_far.editable sets (wrote of_earlier.was of_earlier.earlier) in
+        record {
+          allowed = makes.allowed;
+          lawful = entry_lawful now.profile limit h.made.tree again.edit again.path again.value moved so_far.editable
+              makes;
+          same = makes.same;
+        }
+  ]
 
   abbrev next : List ℕ
   next = text_with 0 now.text new
@@ -113,18 +154,18 @@ module _ (s : Document) (edits : List Edit) (n : ℕ) (old now : ProfiledText) (
   next_utf8 = text_utf8 now.text new read.utf8 (subst (Follow 0) (sym new_is) goes_on.follow) utf8 within
 
   -- the text is the one before with the set's change in it
-  next_is : next ≡ put (text_with 0 now.text changes) (place h.made.tree e)
+  next_is : next ≡ put (text_with 0 now.text changes) (place h.made.tree again.edit)
   next_is =
       ap (λ (b : List ℕ). text_with 0 b new) read.reads.spelled
       ∙ ap (λ (cs : List TextChange). text_with 0 (text before) cs) new_is
-      ∙ sym goes_on.text ∙ change_put h.made.tree e
-      ∙ ap (λ (b : List ℕ). put b (place h.made.tree e))
+      ∙ sym goes_on.text ∙ ap text (sym as_set.same) ∙ change_put h.made.tree again.edit
+      ∙ ap (λ (b : List ℕ). put b (place h.made.tree again.edit))
       (so_far.text ∙ ap (λ (b : List ℕ). text_with 0 b changes) (sym read.reads.spelled))
 
   all_made : AreMade s (take (suc n) edits) old (changed_text now new)
   all_made =
-      more_made (changed_text now changes) h.made.tree e h.made.read lawful next next_utf8 next_is s edits n old d x lt
-      here again.is h.made refl sets.allowed
+      more_made (changed_text now changes) h.made.tree again.edit h.made.read as_set.lawful next next_utf8 next_is s
+      edits n old d x lt here again.is h.made refl as_set.allowed
 
   -- what holds of the edits holds of them with the later set, where it does not hang on the value
   all_again : (P : law.Edit → Type 0) → (P (law.set again.path r.value) → P e) → All P (edits_of h.ms)
@@ -175,7 +216,7 @@ each_replaced P old new c r all its =
 pub changes_again : (edits : List Edit) (first end : ℕ) (now : ProfiledText) (outlines : List Outline)
     (changes new : List TextChange) (d x : Edit) (t : TextEdit)
     → AreMadeTo edits first end now outlines changes → end < length edits → get_or edits end d ≡ x
-    → SetsAgainHere now x outlines t → IsReplaced changes (change_of t) new
+    → SetsAgainHere now x outlines changes t → IsReplaced changes (change_of t) new
     → AreMadeTo edits first (suc end) now outlines new
 changes_again edits first end now outlines changes new d x t so_far lt here again replaced =
     let c : TextChange = change_of t in

@@ -4,20 +4,21 @@ use Rattle.std.specs.Prelude.{Any, Option, drop, length, map, take, String, stri
 use Rattle.std.specs.Global.{Global}
 use Rattle.std.specs.List.{list_any}
 use Rattle.keep_types.specs.declared.leaf.Profile.{Profile}
-use Rattle.keep_syntax.specs.Tree.{Document, Value, inline, none}
+use Rattle.keep_syntax.specs.Tree.{Document, Value, inline, none, text}
 use Rattle.keep_path.specs.Path.{Part, key, strip, without_last}
 use Rattle.keep_edit_spec.specs.AddedItems.{AddsNextItem, IsItemRun, item_path}
 use Rattle.keep_edit_spec.specs.Edits as law
 use Rattle.keep_edit_spec.specs.EntryEdits.{MakesSet}
+use Rattle.keep_edit_spec.specs.Laws.{IsEditable}
 use Rattle.keep_edit_spec.specs.Look.{keys_in}
 use Rattle.keep_edit_spec.specs.RemovedSections.{IsSectionRun, RemovesSection}
 use Rattle.keep_edit_spec.specs.Runs as runs
 use Rattle.keep_edit_spec.specs.RunLists.{AreAtOnce, IsSetIn, MadeEdit, changes_of, document_after, edits_of}
 use Rattle.keep_edit_spec.specs.Runs.{LetsCome, MakesChange, takes_up_to}
 use Rattle.keep_edit_spec.specs.SetValues.{SetsValue}
-use Rattle.keep_edit_spec.specs.TextChanges.{TextChange, text_with}
+use Rattle.keep_edit_spec.specs.TextChanges.{TextChange, change_at, text_with}
 use Rattle.keep_edit_plan.specs.Headers.{key_texts}
-use Rattle.keep_edit_plan.specs.TextEdits.{change_of}
+use Rattle.keep_edit_plan.specs.TextEdits.{HasChange, change_of}
 use Rattle.keep_edit.specs.Answers.{IsSpanOf}
 use Rattle.keep_edit.specs.Lists.{AreMade, IsEdit}
 use Rattle.keep_edit.specs.Reading.{IsTextOfTree, ProfiledText, limit, text_in}
@@ -112,12 +113,24 @@ pub record MakesInRunHere (now : ProfiledText) (x : Edit) (outline : law.Edit) (
 abbrev pub IsSetBy : List Outline → List Part → Type 0
 IsSetBy outlines path = Any (λ o. outlined o ≡ law.set path no_value) outlines
 
--- The edit sets a value in the document of this text, by this change, which an edit with one of these outlines sets
--- too.
-pub record SetsAgainHere (now : ProfiledText) (x : Edit) (outlines : List Outline) (t : TextEdit) : Type 0 where
+-- One of the changes has the place of this one, and writes the text of a value. Where that is a value's text and this
+-- change sets the value, the edit is of an entry of it and makes what the set makes.
+pub record MakesOfEarlier (profile : Profile) (changes : List TextChange) (e : law.Edit) (path : List Part)
+    (value : Value) (c : TextChange) : Type 0 where
+  pub was : List ℕ
+  pub earlier : HasChange changes (change_at c.at c.size was)
+  pub makes : (u : Document) (d : TextChange) → IsEditable profile limit u → SetsValue profile limit u path value d
+      → take d.size (drop d.at (text u)) ≡ was → MakesSet profile limit u e path value d
+
+-- By this change of the document of this text the edit sets a value that an edit with one of these outlines sets too.
+-- It is that set itself, or it is of an entry of the value that these changes write.
+pub record SetsAgainHere (now : ProfiledText) (x : Edit) (outlines : List Outline) (changes : List TextChange)
+    (t : TextEdit) : Type 0 where
+  pub edit : law.Edit
+  pub is : IsEdit x edit
   pub path : List Part
   pub value : Value
-  pub is : IsEdit x (law.set path value)
+  pub makes : (edit ≡ law.set path value) ⊎ MakesOfEarlier now.profile changes edit path value (change_of t)
   pub already : IsSetBy outlines path
   pub sets : (s : Document) → IsTextOfTree now s → SetsValue now.profile limit s path value (change_of t)
   pub within : IsSpanOf now.text t.place

@@ -1,9 +1,9 @@
 //! Edits of a list that are made at once, as far as they are gone through.
-ghost use Rattle.std.specs.Prelude.{◌≡◌, ◌++◌, ◌∷◌, [], All, IsTrue, false, string_bytes, true};
+ghost use Rattle.std.specs.Prelude.{◌≡◌, ◌++◌, ◌∷◌, [], All, IfSome, IsTrue, false, string_bytes, true};
 ghost use Rattle.std.specs.Bool.{Decides};
 ghost use Rattle.keep_edit_spec.specs.Runs.{IsPlain};
 ghost use Rattle.keep_edit_spec.specs.TextChanges.{IsBeside, with_change};
-ghost use Rattle.keep_edit_plan.specs.TextEdits.{IsOrdered, IsReplaced, change_of};
+ghost use Rattle.keep_edit_plan.specs.TextEdits.{HasChange, IsOrdered, IsReplaced, change_of};
 ghost use Rattle.keep_edit.specs.Runs.{IsSetBy};
 
 use crate::alike::is_same;
@@ -62,17 +62,20 @@ impl<'a> AtOnce<'a> {
         }
     }
 
-    /// Whether one of these edits is known to set the value at a path, which begins at this byte.
-    pub fn set(&self, path: &Steps, start: usize) -> bool
-        ensures { IsTrue result → IsSetBy self.now.outlines.items path.now }
+    /// What one of these edits changes of the text, if it is known to set the value at a path, which begins at this
+    /// byte.
+    pub fn setting(&self, path: &Steps, start: usize) -> Option<&TextEdit>
+        ensures change { IfSome result (λ edit. HasChange self.now.changes (change_of edit.now)) }
+        ensures set { IfSome result (λ _. IsSetBy self.now.outlines.items path.now) }
     {
-        let Some(number) = self.numbers.get(&start) else {
-            return false;
+        let number = *self.numbers.get(&start)?;
+        let Outline::Set(other) = self.outlines.get(number)? else {
+            return None;
         };
-        match self.outlines.get(*number) {
-            Some(Outline::Set(other)) => is_same(other, path),
-            _ => false,
+        if !is_same(other, path) {
+            return None;
         }
+        self.changes.beginning_at(start)
     }
 
     /// Puts a change in the place of one that replaces the same bytes. Returns whether there is one; if not, nothing

@@ -1,7 +1,7 @@
 //! Edits of a list in their order. Where many come in a row that each make their change elsewhere, and leave one
 //! another alone, they are made at once: each is known by the document before all of them.
-ghost use Rattle.std.specs.Prelude.{◌≡◌, ◌+◌, ◌<◌, ◌≤◌, ◌↔◌, ℕ, All, IfErr, IfOk, IfSome, IsTrue, List, MatchResult};
-ghost use Rattle.std.specs.Prelude.{Some, length, slice_get, take, true};
+ghost use Rattle.std.specs.Prelude.{◌≡◌, ◌+◌, ◌++◌, ◌∷◌, ◌<◌, ◌≤◌, ◌↔◌, [], ℕ, All, IfErr, IfOk, IfSome, IsTrue};
+ghost use Rattle.std.specs.Prelude.{List, MatchResult, Some, length, slice_get, take, true};
 ghost use Rattle.std.specs.Bool.{Decides};
 ghost use Rattle.keep_syntax.specs.Tree as tree;
 ghost use Rattle.keep_edit.specs.Lists.{AreMade, StopsAt};
@@ -18,9 +18,12 @@ use crate::document::Document;
 use crate::outline::{Outline, Steps};
 use crate::seen::SeenKeys;
 use crate::seen_paths::SeenPaths;
-use keep_edit_plan::{Edit, TextEdit, TextEdits};
+use crate::value_after::value_after;
+use keep_edit_plan::{Edit, TextEdit, TextEdits, first_steps};
 use keep_edit_spec::EditFault;
-use keep_rules::{Origin, Path, Step};
+use keep_rules::{Origin, Path, Step, ValueText};
+use keep_syntax::Span;
+use std::alloc::Global;
 
 /// No more edits than these are made at once.
 const MOST_AT_ONCE: usize = 1000;
@@ -29,6 +32,8 @@ const MOST_AT_ONCE: usize = 1000;
 const PAIRS: usize = 5000;
 /// What it takes to read a text anew, in parts of it.
 const READING: usize = 1000;
+/// A value of no more bytes is read anew for each edit of an entry of it, whatever the length of the text.
+const SHORT_VALUE: usize = 1000;
 
 /// Whether the second edit is there, and both are inserts or removes whose paths differ in their last step alone. Of
 /// entries, they are of one value.
@@ -40,6 +45,17 @@ fn is_in_holder_of(edit: &Edit, next: Option<&Edit>) -> bool {
         return false;
     };
     is_same(&Steps::before_last(path), &Steps::before_last(other))
+}
+
+/// The path from which the last step of a path leads; None where it has no step, and where memory was refused.
+fn holder_path(alloc: Global, path: &Path) -> Option<Path>
+    ensures { IfSome result (λ holder. (part : Part) × (path.now ≡ holder ++ part ∷ [])) }
+{
+    let len = path.len();
+    if len == 0 {
+        return None;
+    }
+    first_steps(alloc, path, len - 1).ok()
 }
 
 /// The number that is the step of a path with that number; None where another step is there, or none.
@@ -319,20 +335,68 @@ impl Document {
         so_far.up_to(end)
     }
 
-    /// What an edit changes of the text, if it sets a value that these edits are known to set: that comes in the place
-    /// of what they change there.
+    /// What an edit changes of the text, if it sets a value that these edits are known to set, or is of an entry of
+    /// one: that comes in the place of what they change there.
     fn change_again(&self, so_far: &AtOnce, edit: &Edit) -> Option<TextEdit>
-        ensures { IfSome result (SetsAgainHere self.now edit.now so_far.now.outlines.items) }
+        ensures { IfSome result
+            (SetsAgainHere self.now edit.now so_far.now.outlines.items so_far.now.changes) }
+    {
+        match edit {
+            Edit::Set(_, _) => self.value_again(so_far, edit),
+            Edit::Insert(_, _) | Edit::Remove(_) => self.entry_again(so_far, edit),
+            _ => None,
+        }
+    }
+
+    /// The same of a set.
+    fn value_again(&self, so_far: &AtOnce, edit: &Edit) -> Option<TextEdit>
+        ensures { IfSome result
+            (SetsAgainHere self.now edit.now so_far.now.outlines.items so_far.now.changes) }
     {
         let Edit::Set(path, _) = edit else {
             return None;
         };
         let id = self.index.find(path)?;
         let start = self.index.value_span(id, &self.syntax)?.start;
-        if !so_far.set(&Steps::of(path), start) {
+        so_far.setting(&Steps::of(path), start)?;
+        self.as_ref().change_by(self.alloc(), edit)
+    }
+
+    /// The same of an insert or a remove of an entry: the value that holds it is set to what the edit makes of the
+    /// value that it was set to before. None where that one is long.
+    fn entry_again(&self, so_far: &AtOnce, edit: &Edit) -> Option<TextEdit>
+        ensures { IfSome result
+            (SetsAgainHere self.now edit.now so_far.now.outlines.items so_far.now.changes) }
+    {
+        let (Edit::Insert(path, _) | Edit::Remove(path)) = edit else {
+            return None;
+        };
+        let start = self.holder_span(path)?.start;
+        let earlier = so_far.setting(&Steps::before_last(path), start)?;
+        if self.is_long(earlier.new.len()) {
             return None;
         }
-        self.as_ref().change_by(self.alloc(), edit)
+        let alloc = self.alloc();
+        let new = value_after(alloc, self.profile, earlier.new.as_str(), edit)?;
+        let value = ValueText::read_in(alloc, new.as_str(), self.profile).ok()?;
+        let holder = holder_path(alloc, path)?;
+        let change = self.as_ref().change_by(alloc, &Edit::Set(holder, value))?;
+        if change.place != earlier.place {
+            return None;
+        }
+        Some(change)
+    }
+
+    /// Where the value is from which the last step of a path leads; None where there is none.
+    fn holder_span(&self, path: &Path) -> Option<Span> {
+        let id = self.index.find_first(path, path.len().checked_sub(1)?)?;
+        self.index.value_span(id, &self.syntax)
+    }
+
+    /// Whether a value of so many bytes is long: to read it anew for each edit of an entry of it takes longer than to
+    /// make the edit alone.
+    fn is_long(&self, len: usize) -> bool {
+        len > SHORT_VALUE.max(self.text.len() / 64)
     }
 
     /// Whether an edit is the insert or the remove of an entry of a value.
@@ -362,16 +426,27 @@ impl Document {
         }
     }
 
+    /// Whether an edit is of an entry of a long value.
+    fn has_long_holder(&self, edit: &Edit) -> bool {
+        let (Edit::Insert(path, _) | Edit::Remove(path)) = edit else {
+            return false;
+        };
+        match self.holder_span(path) {
+            Some(span) => self.is_long(span.end.saturating_sub(span.start)),
+            None => false,
+        }
+    }
+
     /// What an edit changes of the text in a run, by itself, or as the set of the value that holds its entry. None if
-    /// the next edit is of an entry of that value too, which would end the run: to make the value for each of many
-    /// takes as long as they take alone.
+    /// that value is long and the next edit is of an entry of it too, which would end the run: to make the value for
+    /// each of many takes as long as they take alone.
     fn change_in_run(&self, edit: &Edit, next: Option<&Edit>, is_entry: bool) -> Option<TextEdit>
         ensures { IfSome result (MakesInRunHere self.now edit.now (outline edit.now is_entry)) }
     {
         if !is_entry {
             return self.as_ref().change_by(self.alloc(), edit);
         }
-        if is_in_holder_of(edit, next) {
+        if is_in_holder_of(edit, next) && self.has_long_holder(edit) {
             return None;
         }
         self.as_ref().change_of_holder(self.alloc(), edit)

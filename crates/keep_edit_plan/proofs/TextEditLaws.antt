@@ -8,8 +8,8 @@
 -- `right_of_beside`, `room_beside`: the two leave room exactly if none overlaps; `all_insert`, `insert_change`: the
 -- list with one edit more; `none_written`, `next_change`, `one_written`: what is written before the first edit and with
 -- one more; `one_takes`: an edit that replaces the byte before a place; `no_taker`: one that does not; `all_further`,
--- `all_changes`, `change_at_edit`: what holds of each edit; `set_in_place`, `follow_replaced`: one in the place of
--- another.
+-- `all_changes`, `change_at_edit`: what holds of each edit; `has_change`: the change of one; `set_in_place`,
+-- `follow_replaced`: one in the place of another.
 use Rattle.std.proofs.Common.{◌≡◌, ℕ, zero, suc, ◌+◌, ◌-◌, ◌<◌, ◌≤◌, true, false, List, [], ◌∷◌, ◌++◌, length}
 use Rattle.std.proofs.Common.{get_or, take, drop, insert, set, map, slice_range, string_bytes, All, leb}
 use Rattle.std.proofs.Common.{IsUtf8, IsCharBoundary, refl, sym, ap, ◌∙◌, subst, append_assoc, drop-cons, add-one}
@@ -25,7 +25,7 @@ use Rattle.std.specs.List.Sorted.{IsNonDecreasingBy, IsPartitionPoint}
 use Rattle.keep_edit_spec.specs.Runs.{takes_up_to}
 use Rattle.keep_edit_spec.specs.TextChanges.{Follow, IsBeside, TextChange, text_with, with_change}
 use Rattle.keep_edit_plan.specs.declared.text_edit.TextEdit.{TextEdit}
-use Rattle.keep_edit_plan.specs.TextEdits.{IsChangeIn, IsOrdered, IsReplaced, change_of}
+use Rattle.keep_edit_plan.specs.TextEdits.{HasChange, IsChangeIn, IsOrdered, IsReplaced, change_of}
 
 -- ---- the order
 
@@ -299,6 +299,19 @@ set_in_place (t ∷ ts) (suc i) d e less at size =
       is = ap (λ (cs : List TextChange). change_of t ∷ cs) r.is;
       at = r.at;
       size = r.size;
+    }
+
+-- the change of an edit is one of those of the list
+pub has_change : (ts : List TextEdit) (i : ℕ) (d : TextEdit) → i < length ts
+    → HasChange (map change_of ts) (change_of (get_or ts i d))
+has_change [] i d less = absurd (omega (arith, less))
+has_change (t ∷ ts) zero d less = record { before = []; after = map change_of ts; is = refl }
+has_change (t ∷ ts) (suc i) d less =
+    let r = has_change ts i d (omega (arith, less)) in
+    record {
+      before = change_of t ∷ r.before;
+      after = r.after;
+      is = ap (λ (cs : List TextChange). change_of t ∷ cs) r.is;
     }
 
 pub follow_replaced : (from : ℕ) (before after : List TextChange) (x c : TextChange) → x.at ≡ c.at → x.size ≡ c.size

@@ -29,6 +29,12 @@ pub record IsChangeIn (bytes : List ℕ) (c : TextChange) : Type 0 where
   pub starts : IsCharBoundary bytes c.at
   pub ends : IsCharBoundary bytes (c.at + c.size)
 
+-- one of the changes
+pub record HasChange (changes : List TextChange) (c : TextChange) : Type 0 where
+  pub before : List TextChange
+  pub after : List TextChange
+  pub is : changes ≡ before ++ c ∷ after
+
 -- the change comes in the place of one that takes the same bytes
 pub record IsReplaced (old : List TextChange) (d : TextChange) (new : List TextChange) : Type 0 where
   pub before : List TextChange

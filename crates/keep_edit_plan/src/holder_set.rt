@@ -59,7 +59,7 @@ impl<'a> DocumentRef<'a> {
 }
 
 /// The first `n` steps of a path, or all where it has fewer. The only error is out of memory.
-fn first_steps(alloc: Global, path: &Path, n: usize) -> Result<Path, AllocError>
+pub fn first_steps(alloc: Global, path: &Path, n: usize) -> Result<Path, AllocError>
     ensures { IfOk result (λ first. first ≡ take n path.now) }
 {
     let mut first = Path::new(alloc);

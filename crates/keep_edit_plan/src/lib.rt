@@ -25,6 +25,7 @@ mod totals;
 pub use document::DocumentRef;
 pub use edit::Edit;
 pub use header::Header;
+pub use holder_set::first_steps;
 pub use plan::{IndexChange, Plan};
 pub use text_edit::{TextEdit, part_at};
 pub use text_edits::TextEdits;

@@ -1,12 +1,12 @@
 //! Edits of one text.
-ghost use Rattle.std.specs.Prelude.{◌≡◌, ◌<◌, ◌≤◌, [], All, IfOk, IsTrue, OnErr, false, if◌then◌else◌};
+ghost use Rattle.std.specs.Prelude.{◌≡◌, ◌<◌, ◌≤◌, [], All, IfOk, IfSome, IsTrue, OnErr, false, if◌then◌else◌};
 ghost use Rattle.std.specs.Prelude.{length, map, string_bytes};
 ghost use Rattle.std.specs.Bool.{Decides};
 ghost use Rattle.std.specs.List.{list_any};
 ghost use Rattle.keep_edit_spec.specs.Runs.{LeavesPlace, LetsCome, takes_up_to};
 ghost use Rattle.keep_edit_spec.specs.TextChanges.{IsBeside, text_with, with_change};
 ghost use Rattle.keep_edit_plan.specs.SaidSpans.{Leaves};
-ghost use Rattle.keep_edit_plan.specs.TextEdits.{IsChangeIn, IsOrdered, IsReplaced, change_of};
+ghost use Rattle.keep_edit_plan.specs.TextEdits.{HasChange, IsChangeIn, IsOrdered, IsReplaced, change_of};
 
 use crate::said::said_line;
 use crate::text_edit::TextEdit;
@@ -94,6 +94,17 @@ impl TextEdits {
         }
         self.edits[number - 1] = edit;
         true
+    }
+
+    /// The last of the edits that begin at this byte.
+    pub fn beginning_at(&self, start: usize) -> Option<&TextEdit>
+        ensures { IfSome result (λ edit. HasChange self.now (change_of edit.now)) }
+    {
+        let after = self.edits.partition_point(|edit| edit.place.start <= start);
+        if after == 0 || self.edits[after - 1].place.start != start {
+            return None;
+        }
+        Some(&self.edits[after - 1])
     }
 
     /// Whether one of the edits replaces the byte before this place.

@@ -111,3 +111,4 @@ pub mod EntryMade
 pub mod EntryInserts
 pub mod EntryEdits
 pub mod EntryEditRuns
+pub mod SetBytes

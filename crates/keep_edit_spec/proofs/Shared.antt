@@ -78,12 +78,13 @@ pub use Rattle.keep_edit_spec.proofs.Touched.FitLaws.{touched_lines_are_lines}
 pub use Rattle.keep_edit_spec.proofs.Touched.TouchedCuts.{IsCut, touched_in_new_cut}
 pub use Rattle.keep_edit_spec.proofs.Lists.TextChanges.{all_with, follow_with, length_with, one_of_all, rest_of_all}
 pub use Rattle.keep_edit_spec.proofs.Lists.MadeChanges.{change_lawful}
-pub use Rattle.keep_edit_spec.proofs.Lists.ChangeOrder.{beside_back, put_in_place, with_both}
+pub use Rattle.keep_edit_spec.proofs.Lists.ChangeOrder.{beside_back, one_in_place, put_in_place, with_both}
 pub use Rattle.keep_edit_spec.proofs.Lists.RunLaws.{none_is_run, run_goes_on}
 pub use Rattle.keep_edit_spec.proofs.Lists.RunLists.{each_of_others, run_goes_on_again, run_is_known}
 pub use Rattle.keep_edit_spec.proofs.Lists.ItemRunLaws.{item_run_goes_on, none_is_item_run}
-pub use Rattle.keep_edit_spec.proofs.Lists.EntryEditRuns.{run_goes_on_by_entry}
+pub use Rattle.keep_edit_spec.proofs.Lists.EntryEditRuns.{entry_lawful, run_goes_on_by_entry}
 pub use Rattle.keep_edit_spec.proofs.Lists.EntryEdits.{still_makes_set}
+pub use Rattle.keep_edit_spec.proofs.Lists.SetBytes.{set_bytes}
 pub use Rattle.keep_edit_spec.proofs.Lists.SetTwice.{sets_again}
 pub use Rattle.keep_edit_spec.proofs.Lists.SectionRunLaws.{none_is_section_run, section_run_goes_on}
 pub use Rattle.keep_edit_spec.proofs.Lists.MoreItems.{keys_same, prefixes_alike}

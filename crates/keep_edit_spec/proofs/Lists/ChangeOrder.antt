@@ -4,7 +4,7 @@
 -- right before those that begin later (`is_put`). So another one that begins there goes there, too. In a list in which
 -- each follows the one before, one that takes bytes at a place is the only one there (`one_there`).
 --
--- Theorems: `with_both`, `beside_back`, `put_in_place`.
+-- Theorems: `with_both`, `beside_back`, `put_in_place`, `one_in_place`.
 use Rattle.std.proofs.Common.{◌≡◌, ◌≢◌, ℕ, ◌+◌, ◌<◌, ◌≤◌, List, [], ◌∷◌, ◌++◌, refl, sym, ap}
 use Rattle.std.proofs.Common.{◌∙◌, arith, inl, inr, subst}
 use Rattle.std.specs.Prelude.{◌⊎◌}
@@ -128,3 +128,28 @@ put_in_place before after rest x c d at size there many some follow is =
     one_there 0 before after put.before put.after x c d (at ∙ sym there) (omega (arith, size, some))
     (omega (arith, many, some)) follow (is ∙ put.is c refl)
     ∙ sym (put.is d (sym there))
+
+-- Two at one place, which take bytes, are the same.
+same_there : (from : ℕ) (before after left right : List TextChange) (x c : TextChange) → x.at ≡ c.at → 0 < x.size
+    → 0 < c.size → Follow from (before ++ x ∷ after) → before ++ x ∷ after ≡ left ++ c ∷ right → x ≡ c
+same_there from [] after [] right x c at some has follow is = cc
+same_there from [] after (y ∷ left) right x c at some has follow is =
+    let rest : after ≡ left ++ c ∷ right = cc in
+    let low : x.at + x.size ≤ c.at =
+    follow_low (x.at + x.size) left right c (subst (Follow (x.at + x.size)) rest follow.1) in
+    absurd (omega (arith, low, at, some))
+same_there from (y ∷ before) after [] right x c at some has follow is =
+    let first : y ≡ c = cc in
+    let low : y.at + y.size ≤ x.at = follow_low (y.at + y.size) before after x follow.1 in
+    let there : c.at + c.size ≤ x.at = subst (λ (z : TextChange). z.at + z.size ≤ x.at) first low in
+    absurd (omega (arith, there, at, has))
+same_there from (y ∷ before) after (z ∷ left) right x c at some has follow is =
+    let rest : before ++ x ∷ after ≡ left ++ c ∷ right = cc in
+    same_there (y.at + y.size) before after left right x c at some has follow.1 rest
+
+-- A change of such a list at the place of c, with which the list is that of the others, is c.
+pub one_in_place : (before after rest : List TextChange) (x c : TextChange) → x.at ≡ c.at → 0 < x.size → 0 < c.size
+    → Follow 0 (before ++ x ∷ after) → before ++ x ∷ after ≡ with_change rest c → x ≡ c
+one_in_place before after rest x c at some has follow is =
+    let put : IsPut rest c = is_put rest c in
+    same_there 0 before after put.before put.after x c at some has follow (is ∙ put.is c refl)

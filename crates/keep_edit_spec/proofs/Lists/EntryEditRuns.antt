@@ -3,7 +3,7 @@
 -- That set makes its change after the run (`later`), where the value's bytes are as before (`kept`). So the edit does
 -- what the set does there (EntryEdits), and the run with the set is one with the edit.
 --
--- Theorem: `run_goes_on_by_entry`.
+-- Theorems: `entry_lawful`, `run_goes_on_by_entry`.
 use Rattle.std.proofs.Common.{ℕ, sym, subst}
 use Rattle.keep_types.specs.declared.leaf.Profile.{Profile}
 use Rattle.keep_syntax.specs.Tree.{Document, Value}
@@ -20,7 +20,7 @@ use Rattle.keep_edit_spec.proofs.Lists.EntryEdits.{of_itself, still_makes_set}
 use Rattle.keep_edit_spec.proofs.Lists.MadeChanges.{within_text}
 use Rattle.keep_edit_spec.proofs.Lists.RunLaws.{run_goes_on}
 
-entry_lawful : (profile : Profile) (limit : ℕ) (s : Document) (e : Edit) (a : List Part) (value : Value)
+pub entry_lawful : (profile : Profile) (limit : ℕ) (s : Document) (e : Edit) (a : List Part) (value : Value)
     (c : TextChange)
     → IsEditable profile limit s → MakesSet profile limit s e a value c → IsLawfulEdit profile limit s e
 entry_lawful profile limit s (insert path new) a value c fine h =

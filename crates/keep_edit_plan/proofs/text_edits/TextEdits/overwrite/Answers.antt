@@ -1,8 +1,8 @@
 -- The edit at the place is found by the search, and the two places are compared. So the new edit comes in the place of
 -- one that replaces the same bytes, and the edits still follow one another.
-use Rattle.std.proofs.Common.{◌≡◌, ◌<◌, ◌≤◌, ◌-◌, Bool, true, false, not, List, All, map, length, set, refl, sym}
+use Rattle.std.proofs.Common.{◌≡◌, ◌-◌, Bool, true, false, not, List, map, length, set, refl, sym}
 use Rattle.std.proofs.Common.{ap, subst, ◌∙◌, arith, eqb-true}
-use Rattle.std.specs.Prelude.{◌&&◌, IsTrue}
+use Rattle.std.specs.Prelude.{◌&&◌}
 use Rattle.std.proofs.lemmas.List.Elements.{All-set}
 use Rattle.keep_edit_spec.specs.TextChanges.{Follow, TextChange}
 use Rattle.keep_edit_plan.specs.declared.text_edit.TextEdit.{TextEdit}

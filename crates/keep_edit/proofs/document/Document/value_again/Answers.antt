@@ -8,15 +8,15 @@ use Rattle.keep_edit_plan.specs.declared.edit.Edit.{Edit}
 use Rattle.keep_edit.specs.Lists.{IsEdit}
 use Rattle.keep_edit.specs.Runs.{IsSetBy}
 use Rattle.keep_edit.proofs.InRuns.{again}
-use Rattle.keep_edit.proofs.document.Document.change_again.Goals as goal
+use Rattle.keep_edit.proofs.document.Document.value_again.Goals as goal
 
 pub returns : goal.returns
 returns c =
     let x = c.args.edit.now in
     let outlines = c.args.so_far.now.outlines.items in
     let r = c.change_by.result in
-    again c.args.self.now outlines x c.in-Set.path r
+    again c.args.self.now outlines c.args.so_far.now.changes x c.in-Set.path r
     (subst (λ (x : Edit). (e : law.Edit) → IsEdit x e → (v : Value) × (e ≡ law.set c.in-Set.path v)) (sym c.in-Set.is)
     (λ e (v, text, is). (v, is)))
-    (subst (λ (path : List Part). IsSetBy outlines path) c.of.ensures (c.set.ensures c.if-not-set.false))
+    (subst (λ (path : List Part). IsSetBy outlines path) c.of.ensures c.in_ok-setting.ensures.set)
     (subst (λ now. IfSome r (MakesChangeHere now x)) c.as_ref.ensures c.change_by.ensures)
