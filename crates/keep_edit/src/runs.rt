@@ -32,9 +32,8 @@ const MOST_AT_ONCE: usize = 1000;
 const PAIRS: usize = 5000;
 /// What it takes to read a text anew, in parts of it.
 const READING: usize = 1000;
-/// A value is read anew for each edit of an entry that comes back to it, if it has no more than such a part of the
-/// text's bytes.
-const SHORT_PART: usize = 128;
+/// A value of no more bytes is read anew for each edit of an entry of it, whatever the length of the text.
+const SHORT_VALUE: usize = 1000;
 
 /// Whether the second edit is there, and both are inserts or removes whose paths differ in their last step alone. Of
 /// entries, they are of one value.
@@ -397,7 +396,7 @@ impl Document {
     /// Whether a value of so many bytes is long: to read it anew for each edit of an entry of it takes longer than to
     /// make the edit alone.
     fn is_long(&self, len: usize) -> bool {
-        len > self.text.len() / SHORT_PART
+        len > SHORT_VALUE.max(self.text.len() / 64)
     }
 
     /// Whether an edit is the insert or the remove of an entry of a value.
