@@ -103,6 +103,19 @@ impl ValueText {
         }
     }
 
+    /// The value of a text that is known to be one of TOML v1.0.0, of this kind and depth. It reads nothing.
+    pub fn known(text: String, kind: Kind, depth: u16) -> ValueText
+        requires { HoldsValue (string_bytes text) kind depth Strict }
+        ensures { result ≡ string_bytes text }
+    {
+        ValueText {
+            text,
+            kind,
+            depth,
+            profile: Profile::Strict,
+        }
+    }
+
     /// Reads one value by the grammar of a profile. In Wide it is for a text that Strict refuses.
     fn read_as(alloc: Global, text: &str, profile: Profile) -> Result<ValueText, ReadFault>
         requires { profile ≡ Wide → IsAcceptedValue Strict text.now → ⊥ }
