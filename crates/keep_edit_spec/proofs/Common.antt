@@ -8,6 +8,7 @@ pub mod StatementNumbers
 pub mod SetDocument
 pub mod SetValid
 pub mod Moves
+pub mod HeadersGo
 pub mod PutLines
 pub mod InsertLaw
 pub mod Bridge

@@ -55,3 +55,4 @@ pub mod InsertDottedPlace
 pub mod InsertAddsLine
 pub mod InsertAddsValue
 pub mod InsertNested
+pub mod PutIsValue

@@ -25,3 +25,4 @@ pub mod RemoveSectionPlace
 pub mod RemovePlaces
 pub mod RemoveTakesLine
 pub mod RemoveTakesValue
+pub mod TakenIsValue

@@ -45,6 +45,7 @@ pub use Rattle.keep_edit_spec.proofs.EditLaws.{change_put, insert_lawful, remove
 pub use Rattle.keep_edit_spec.proofs.Common.Marks.{rules_of_document}
 pub use Rattle.keep_edit_spec.proofs.Remove.KeyvalMentions.{mentioned_below, mentions_keyval}
 pub use Rattle.keep_edit_spec.proofs.Remove.RemoveWhole.{shared_define}
+pub use Rattle.keep_edit_spec.proofs.Remove.TakenIsValue.{taken_entry_is_value}
 pub use Rattle.keep_edit_spec.proofs.Values.ValueDepths.{too_deep_at}
 pub use Rattle.keep_edit_spec.proofs.Append.AppendAddsStatement.{append_element_adds_statement}
 pub use Rattle.keep_edit_spec.proofs.Append.AppendAddsStatement.{append_table_adds_statement}
@@ -68,12 +69,16 @@ pub use Rattle.keep_edit_spec.proofs.Insert.InsertPlaces.{EndsBefore, IsThroughH
 pub use Rattle.keep_edit_spec.proofs.Insert.InsertPlaces.{header_placed, headed_within, holder_prefix, plain_rest}
 pub use Rattle.keep_edit_spec.proofs.Insert.InsertPlaces.{root_ends, root_placed, through_header, through_placed}
 pub use Rattle.keep_edit_spec.proofs.Insert.InsertNested.{braced_nested, item_nested}
+pub use Rattle.keep_edit_spec.proofs.Insert.PutIsValue.{put_item_is_value, put_keyval_is_value}
 pub use Rattle.keep_edit_spec.proofs.Insert.InsertAddsLine.{insert_adds_line}
 pub use Rattle.keep_edit_spec.proofs.Insert.InsertAddsValue.{insert_adds_value}
+pub use Rattle.keep_edit_spec.proofs.Remove.RemoveEntry.{all_prefix, past_stops}
+pub use Rattle.keep_edit_spec.proofs.Remove.RemovePlace.{preserved_is, run_ends}
 pub use Rattle.keep_edit_spec.proofs.Remove.RemoveTakesLine.{remove_takes_line}
 pub use Rattle.keep_edit_spec.proofs.Remove.RemoveTakesValue.{remove_takes_value}
 pub use Rattle.keep_edit_spec.proofs.Insert.InsertDottedPlace.{IsBaseAt, IsDottedPlaced, dotted_placed}
-pub use Rattle.keep_edit_spec.proofs.Common.Texts.{text_of-append}
+pub use Rattle.keep_edit_spec.proofs.Common.Texts.{EachIs, entry-text, joined_gap-text, past_ws-text, put-place_of}
+pub use Rattle.keep_edit_spec.proofs.Common.Texts.{put_item-is, put_named-is, removal-is, text_of-append}
 pub use Rattle.keep_edit_spec.proofs.Touched.FitLaws.{touched_lines_are_lines}
 pub use Rattle.keep_edit_spec.proofs.Touched.TouchedCuts.{IsCut, touched_in_new_cut}
 pub use Rattle.keep_edit_spec.proofs.Lists.TextChanges.{all_with, follow_with, length_with, one_of_all, rest_of_all}
@@ -81,11 +86,16 @@ pub use Rattle.keep_edit_spec.proofs.Lists.MadeChanges.{change_lawful}
 pub use Rattle.keep_edit_spec.proofs.Lists.ChangeOrder.{beside_back, one_in_place, put_in_place, with_both}
 pub use Rattle.keep_edit_spec.proofs.Lists.RunLaws.{none_is_run, run_goes_on}
 pub use Rattle.keep_edit_spec.proofs.Lists.RunLists.{each_of_others, run_goes_on_again, run_is_known}
+pub use Rattle.keep_edit_spec.proofs.Lists.RenameLists.{run_goes_on_renamed}
+pub use Rattle.keep_edit_spec.proofs.Rename.KeyTexts.{one_key}
 pub use Rattle.keep_edit_spec.proofs.Lists.ItemRunLaws.{item_run_goes_on, none_is_item_run}
 pub use Rattle.keep_edit_spec.proofs.Lists.EntryEditRuns.{entry_lawful, run_goes_on_by_entry}
 pub use Rattle.keep_edit_spec.proofs.Lists.EntryEdits.{still_makes_set}
+pub use Rattle.keep_edit_spec.proofs.Lists.EntryChanges.{entry_change_is_set}
 pub use Rattle.keep_edit_spec.proofs.Lists.SetBytes.{set_bytes}
 pub use Rattle.keep_edit_spec.proofs.Lists.SetTwice.{sets_again}
+pub use Rattle.keep_edit_spec.proofs.Lists.HeaderRunLaws.{first_with, header_run_goes_on, none_is_header_run}
+pub use Rattle.keep_edit_spec.proofs.Lists.PathsBefore.{apart_before, element_before, no_number_before}
 pub use Rattle.keep_edit_spec.proofs.Lists.SectionRunLaws.{none_is_section_run, section_run_goes_on}
 pub use Rattle.keep_edit_spec.proofs.Lists.MoreItems.{keys_same, prefixes_alike}
 pub use Rattle.keep_edit_spec.proofs.Lists.NextItem.{not_before, not_empty}

@@ -25,5 +25,8 @@ pub mod AddedLines
 pub mod ClearedLines
 pub mod SaidLines
 pub mod RemovedSections
+pub mod RemovedHeaders
 pub mod EntryEdits
 pub mod RunLists
+pub mod EntryChanges
+pub mod RenameLists

@@ -3,12 +3,15 @@ ghost use Rattle.keep_edit_spec.specs.AddedItems as items;
 ghost use Rattle.keep_edit_spec.specs.AddedLines as added;
 ghost use Rattle.keep_edit_spec.specs.AppendedHeaders as appended;
 ghost use Rattle.keep_edit_spec.specs.AppendedStatements as headers;
+ghost use Rattle.keep_edit_spec.specs.EntryChanges as parts;
 ghost use Rattle.keep_edit_spec.specs.EntryEdits as entries;
 ghost use Rattle.keep_edit_spec.specs.KeyvalLines as keyvals;
 ghost use Rattle.keep_edit_spec.specs.Laws as spec;
+ghost use Rattle.keep_edit_spec.specs.RemovedHeaders as taken;
 ghost use Rattle.keep_edit_spec.specs.RemovedLines as removed;
 ghost use Rattle.keep_edit_spec.specs.RemovedSections as sections;
 ghost use Rattle.keep_edit_spec.specs.RenamedKeys as keys;
+ghost use Rattle.keep_edit_spec.specs.RenameLists as renames;
 ghost use Rattle.keep_edit_spec.specs.RunLists as lists;
 ghost use Rattle.keep_edit_spec.specs.Runs as runs;
 ghost use Rattle.keep_edit_spec.specs.SetValues as values;
@@ -123,6 +126,12 @@ pub fn renames_change_keys()
     ensures { keys.StillRenamesKey }
 {}
 
+/// A `rename` of a key that another renamed before replaces what that one wrote, and gives the document that a `rename`
+/// of the first key to the last gives.
+pub fn rename_again_is_rename()
+    ensures { keys.RenamesAgain }
+{}
+
 /// A table or an element that is appended to a text that ends in a newline is written in the same way after another.
 pub fn appends_add_headers()
     ensures table { appended.StillAppendsTable }
@@ -139,10 +148,12 @@ pub fn runs_are_known()
 {}
 
 /// A list of such edits is a run, if each makes its change beside those before it, which leave it alone. If one of them
-/// sets a value, the run goes on by a set of that value, too: the later set takes the place of the earlier one.
+/// sets a value, the run goes on by a set of that value, too: the later set takes the place of the earlier one. So it
+/// goes on where a key that one of them renames is renamed again, if the others leave the first key's rename alone.
 pub fn runs_go_on_again()
     ensures known { lists.RunIsKnown }
     ensures run { lists.RunGoesOnAgain }
+    ensures renamed { renames.RunGoesOnRenamed }
 {}
 
 /// So is a run of inserts that each add the next item of one array.
@@ -158,10 +169,28 @@ pub fn removes_take_sections()
     ensures run { sections.SectionRunGoesOn }
 {}
 
+/// So does a `remove` of a table or of an element of an array of tables after one of the other, if the path is followed
+/// that its node has in the meantime: after an element the later ones of its array have numbers one lower. So a run of
+/// them is known by the document before it.
+pub fn removes_take_headers()
+    ensures still { taken.StillRemovesHeader }
+    ensures none { taken.NoneIsHeaderRun }
+    ensures run { taken.HeaderRunGoesOn }
+{}
+
 /// An insert or a `remove` of an item makes what the `set` of its array makes, and one of a key in an inline table what
 /// the `set` of that table makes, and so it does of a value with the same bytes at any path of any document. So it can
 /// be in a run, as that set.
 pub fn edits_of_entries_are_sets()
     ensures still { entries.StillMakesSet }
     ensures run { entries.RunGoesOnByEntry }
+{}
+
+/// What an insert or a `remove` of an entry makes of the value that holds it is a value, too. To make it is what the
+/// `set` to that value makes, wherever the value is.
+pub fn entries_change_values()
+    ensures item { parts.PutItemIsValue }
+    ensures keyval { parts.PutKeyvalIsValue }
+    ensures taken { parts.TakenEntryIsValue }
+    ensures set { parts.EntryChangeIsSet }
 {}

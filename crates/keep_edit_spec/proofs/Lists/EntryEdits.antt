@@ -35,7 +35,7 @@ use Rattle.keep_edit_spec.proofs.Lists.SetAllowed.{node_alone}
 
 -- ---- the refusal of a remove
 
-removable : (profile : Profile) (limit : ℕ) (a : List Part) (p : Part) (ms : List Mention)
+pub removable : (profile : Profile) (limit : ℕ) (a : List Part) (p : Part) (ms : List Mention)
     → has_value (a ++ p ∷ []) ms ≡ true → refusal_by profile limit ms (remove (a ++ p ∷ [])) ≡ None
 removable profile limit a p ms valued =
     by (is_node (a ++ p ∷ []) ms) (is_root (a ++ p ∷ [])) (is_one_piece (a ++ p ∷ []) ms)

@@ -76,7 +76,7 @@ all_pass : (named indexed table deep foreign : Bool) → named ≡ false → ind
     ∷ (deep, fault.TooDeep) ∷ (foreign, fault.Profile) ∷ []) ≡ None
 all_pass named indexed table deep foreign e f g h i = rw (e, f, g, h, i) refl
 
-keyval_unrefused : (profile : Profile) (limit : ℕ) (a : List Part) (k : List ℕ) (new : Value) (ms : List Mention)
+pub keyval_unrefused : (profile : Profile) (limit : ℕ) (a : List Part) (k : List ℕ) (new : Value) (ms : List Mention)
     → is_node a ms ≡ true → is_table a ms ≡ true → list_any (is_at (a ++ key k ∷ [])) ms ≡ false
     → is_too_deep limit (a ++ key k ∷ []) new ms ≡ false → is_foreign profile new ≡ false
     → refusal_by profile limit ms (insert (a ++ key k ∷ []) new) ≡ None

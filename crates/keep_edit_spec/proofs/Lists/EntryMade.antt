@@ -48,7 +48,7 @@ pub record IsMadeThere (act : Act) (v : Value) (outer : Value → Document) (to 
   pub by : act [] v ≡ Some made
   pub to_is : to ≡ outer made.to
 
-abbrev value_of : Option Fact → Bool
+abbrev pub value_of : Option Fact → Bool
 value_of o = elim o [ None ↦ false | Some f ↦ is_value_fact f ]
 
 module _ (profile : Profile) (limit : ℕ) (s : Document) (a : List Part) (value : Value) (c : TextChange)
@@ -107,7 +107,7 @@ module _ (profile : Profile) (limit : ℕ) (s : Document) (a : List Part) (value
 
 -- ---- what is mentioned
 
-mentioned_by : (q : List Part) (ms : List Mention) → list_any (is_at q) ms ≡ list_any (λ k. true) (kinds_at q ms)
+pub mentioned_by : (q : List Part) (ms : List Mention) → list_any (is_at q) ms ≡ list_any (λ k. true) (kinds_at q ms)
 mentioned_by q [] = refl
 mentioned_by q (m ∷ ms) = by (is_at q m) refl (mentioned_by q ms)
   where

@@ -37,12 +37,12 @@ use Rattle.keep_edit_spec.proofs.Common.DoneAtValue.{EachOf, of_within, of_or_el
 
 -- ---- one key part, and all
 
--- So many bytes from a byte on give place to new ones. The key part ends there or before, or it begins there, or it
--- begins where those bytes end or after.
+-- So many bytes from a byte on give place to new ones. The key part ends there or before; or it begins there, and the
+-- new one is those new bytes; or it begins where those bytes end or after.
 pub data PartStays (from size new : ℕ) (q q' : KeyPart) : Type 0 where
   ends_before : q.span.end ≤ from → q'.span.start ≡ q.span.start → q'.span.end ≡ q.span.end
       → PartStays from size new q q'
-  begins_there : q.span.start ≡ from → PartStays from size new q q'
+  begins_there : q.span.start ≡ from → q'.span.start ≡ from → q'.span.end ≡ from + new → PartStays from size new q q'
   begins_after : from + size ≤ q.span.start → q'.span.start + size ≡ q.span.start + new
       → q'.span.end + size ≡ q.span.end + new → PartStays from size new q q'
 
@@ -299,7 +299,7 @@ further_stay new at zero (f ∷ fs) =
     let x : ℕ = at + width f.before + 1 + width f.after in
     let from : ℕ = at + length (text_of f.before ++ (codes "." ++ text_of f.after)) in
     let old : ℕ = length f.part.text in (
-      begins_there (omega (arith, before_part f)),
+      begins_there (omega (arith, before_part f)) (omega (arith, before_part f)) (omega (arith, before_part f)),
       further_moves from old (length new.text) (x + old) (x + length new.text)
           (x + old + width (flat_map further_leaves fs)) fs
           (high (omega (arith, before_part f)) (omega arith)) (omega arith),
@@ -321,7 +321,7 @@ key_stays : (new : Written) (at n : ℕ) (k : Key)
     → EachOf (λ c. StaysBy at (key_parts at k) (key_parts at c.to) c) (rename_part new n k)
 key_stays new at zero k =
     let old : ℕ = length k.first.text in (
-      begins_there (omega arith),
+      begins_there (omega arith) (omega arith) (omega arith),
       further_moves (at + 0) old (length new.text) (at + old) (at + length new.text)
           (at + old + width (flat_map further_leaves k.more)) k.more (high (omega arith) (omega arith)) (omega arith),
     )

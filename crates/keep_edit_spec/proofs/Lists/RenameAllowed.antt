@@ -127,7 +127,7 @@ module _ (path b : List Part) (s s' : Document) (h : IsNodeRenamed path b s s') 
       ∙ ap (λ (p : List Part). kinds_at p (map (moved (moved_path path b)) ms)) (sym (disjoint_renamed path b q apart))
       ∙ mentions_moved (IsClear b) (moved_path path b) h.steps.different q clear ms h.clear
 
-  node_stays : (q : List Part) → strip path q ≡ None → strip b q ≡ None → is_node q now ≡ is_node q ms
+  pub node_stays : (q : List Part) → strip path q ≡ None → strip b q ≡ None → is_node q now ≡ is_node q ms
   node_stays q apart clear =
       node_kinds q now ∙ ap (λ (kinds : List MentionKind). is_root q || list_any (λ (k : MentionKind). true) kinds)
       (kinds_stay q apart clear) ∙ sym (node_kinds q ms)

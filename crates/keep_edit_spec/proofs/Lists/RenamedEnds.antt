@@ -156,5 +156,5 @@ end_renamed p b s s' [] h clear apart fresh =
     ap (λ (n : ℕ). Some n) (lengths_stay p b start start (lines s) (lines s') h clear)
 end_renamed p b s s' (x ∷ xs) h clear apart fresh =
     ends_stay p b (x ∷ xs)
-    (same_moved (moved_path p b) (λ q. strip b q ≡ None) (renamed_injective p b) (x ∷ xs) fresh
+    (same_moved (moved_path p b) (λ q. strip b q ≡ None) (renamed_injective p b) (x ∷ xs) (x ∷ xs) fresh
     (disjoint_renamed p b (x ∷ xs) apart)) start start (lines s) (lines s') h clear

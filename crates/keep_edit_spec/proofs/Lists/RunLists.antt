@@ -1,14 +1,16 @@
 -- Edits that are made at once are a run; and if one of them sets a value, so are the others with a later set of it.
 --
--- Each edit makes the run longer (`run_is_known`). What a set leaves alone leaves it alone, and a set takes bytes. So
--- it could come last (`comes_last`): the changes are the same list (ChangeOrder), so the text is the same, and a text
--- is that of one document (`same_document`). After the others the earlier set and the later one each make their change
--- (`later` of the run), so the law of a value that is set again says what they make one after the other.
+-- Each edit makes the run longer (`run_is_known`). One that takes bytes, and that is left alone by what it leaves
+-- alone, could come last (`last_of`): the changes are the same list (ChangeOrder), so the text is the same, and a text
+-- is that of one document (`same_document`). A set is such an edit. After the others the earlier set and the later one
+-- each make their change (`moves_past`), so the law of a value that is set again says what they make one after the
+-- other.
 --
--- Theorems: `run_is_known`, `run_goes_on_again`, `each_of_others`.
-use Rattle.std.proofs.Common.{◌≡◌, ℕ, List, [], ◌∷◌, ◌++◌, length, All, refl, sym, ap, subst, subst₂, ◌∙◌}
+-- Theorems: `run_is_known`, `run_goes_on_again`, `each_of_others`; of one of the edits that could come last: `last_of`,
+-- `others`, `run_before`, `same_document`, `moves_past`, `beside_rest`.
+use Rattle.std.proofs.Common.{◌≡◌, ◌<◌, ℕ, List, [], ◌∷◌, ◌++◌, length, All, refl, sym, ap, subst, subst₂, ◌∙◌}
 use Rattle.std.proofs.Common.{arith, inl, inr}
-use Rattle.std.proofs.lemmas.List.Elements.{All-cons, All-head, All-tail, All-weaker}
+use Rattle.std.proofs.lemmas.List.Elements.{All-cons, All-head, All-nil, All-tail, All-weaker}
 use Rattle.keep_types.specs.declared.leaf.Profile.{Profile}
 use Rattle.keep_syntax.specs.Tree.{Document, Value, text}
 use Rattle.keep_syntax.proofs.Shared.{one_document}
@@ -17,7 +19,7 @@ use Rattle.keep_edit_spec.specs.Edits.{Edit, append_element, append_table, edite
 use Rattle.keep_edit_spec.specs.Laws.{IsEditable}
 use Rattle.keep_edit_spec.specs.RunLists.{AreAtOnce, IsOneOf, IsSetIn, MadeEdit, RunGoesOnAgain}
 use Rattle.keep_edit_spec.specs.RunLists.{RunIsKnown, changes_of, document_after, edits_of, made}
-use Rattle.keep_edit_spec.specs.Runs.{IsRun, KeepsPlace, LeavesAlone}
+use Rattle.keep_edit_spec.specs.Runs.{IsRun, KeepsPlace, LeavesAlone, MakesChange}
 use Rattle.keep_edit_spec.specs.SetValues.{IsSetAgain, SetsValue}
 use Rattle.keep_edit_spec.specs.TextChanges.{IsBeside, TextChange, change_at, moved_by_all, moved_past, text_with}
 use Rattle.keep_edit_spec.specs.TextChanges.{with_change}
@@ -66,7 +68,7 @@ has_set path (m ∷ ms) (inr h) =
       };
     }
 
-each_apart : (P : Edit → Type 0) (m : MadeEdit) (later earlier : List MadeEdit)
+pub each_apart : (P : Edit → Type 0) (m : MadeEdit) (later earlier : List MadeEdit)
     → All P (edits_of (later ++ m ∷ earlier)) → P m.edit × All P (edits_of (later ++ earlier))
 each_apart P m [] earlier h =
     (All-head P m.edit (edits_of earlier) h, All-tail P m.edit (edits_of earlier) h)
@@ -85,6 +87,10 @@ each_of_others P m ms rest one h =
     let (this, more) =
     each_apart P m one.later one.earlier (subst (λ (l : List MadeEdit). All P (edits_of l)) one.all h) in
     (this, subst (λ (l : List MadeEdit). All P (edits_of l)) (sym one.others) more)
+
+all_hold : (P : Edit → Type 0) → ((e : Edit) → P e) → (es : List Edit) → All P es
+all_hold P holds [] = All-nil P
+all_hold P holds (e ∷ es) = All-cons P e es (holds e) (all_hold P holds es)
 
 -- ---- what leaves a set alone
 
@@ -113,29 +119,39 @@ beside_again : (x c d : TextChange) → c.at ≡ d.at → c.size ≡ d.size → 
 beside_again x c d at size (inl ends) = inl (omega (arith, ends, at))
 beside_again x c d at size (inr (less, ends)) = inr (omega (arith, less, at), omega (arith, ends, at, size))
 
--- ---- a set as the last
+-- ---- one of them as the last
 
-module _ (profile : Profile) (limit : ℕ) (s : Document) (path : List Part) (value : Value) (c : TextChange) where
+-- an edit that takes bytes, and needs no place that is kept
+module _ (profile : Profile) (limit : ℕ) (s : Document) (e : Edit) (c : TextChange)
+    (some : MakesChange profile limit s e c → 0 < c.size)
+    (kept : (edits : List Edit) (changes : List TextChange) → KeepsPlace (text s) edits changes e c) where
   abbrev one : MadeEdit
-  one = made (set path value) c
+  one = made e c
 
-  -- the set after the others
-  record ComesLast (ms rest : List MadeEdit) : Type 0 where
-    changes : changes_of ms ≡ with_change (changes_of rest) c
-    last : AreAtOnce profile limit s (one ∷ rest)
+  -- that edit after the others
+  pub record ComesLast (ms rest : List MadeEdit) : Type 0 where
+    pub changes : changes_of ms ≡ with_change (changes_of rest) c
+    pub last : AreAtOnce profile limit s (one ∷ rest)
 
-  comes_last : (later earlier : List MadeEdit) → AreAtOnce profile limit s (later ++ one ∷ earlier)
-      → ComesLast (later ++ one ∷ earlier) (later ++ earlier)
-  comes_last [] earlier h = record { changes = refl; last = h }
-  comes_last (m ∷ later) earlier (makes, (alone, (beside, (placed, others)))) =
+  -- what it leaves alone leaves it alone
+  abbrev pub AreLeftBack : List MadeEdit → Type 0
+  AreLeftBack rest = All (λ f. LeavesAlone e f → LeavesAlone f e) (edits_of rest)
+
+  comes_last : (later earlier : List MadeEdit) → AreLeftBack (later ++ earlier)
+      → AreAtOnce profile limit s (later ++ one ∷ earlier) → ComesLast (later ++ one ∷ earlier) (later ++ earlier)
+  comes_last [] earlier alone_back h = record { changes = refl; last = h }
+  comes_last (m ∷ later) earlier alone_back (makes, (alone, (beside, (placed, others)))) =
       let ms : List MadeEdit = later ++ one ∷ earlier in
       let rest : List MadeEdit = later ++ earlier in
-      let before : ComesLast ms rest = comes_last later earlier others in
-      let (sets, (left, (apart, (kept, more)))) = before.last in
-      let both = each_apart (λ e. LeavesAlone e m.edit) one later earlier alone in
+      let before : ComesLast ms rest =
+      comes_last later earlier
+      (All-tail (λ f. LeavesAlone e f → LeavesAlone f e) m.edit (edits_of rest) alone_back) others in
+      let (its, (left, (apart, (place, more)))) = before.last in
+      let both = each_apart (λ f. LeavesAlone f m.edit) one later earlier alone in
       let aside : All (λ x. IsBeside x m.change) (with_change (changes_of rest) c) =
       subst (All (λ x. IsBeside x m.change)) before.changes beside in
-      let back = beside_back c m.change sets.some (one_of_all (λ x. IsBeside x m.change) (changes_of rest) c aside) in
+      let back =
+      beside_back c m.change (some its) (one_of_all (λ x. IsBeside x m.change) (changes_of rest) c aside) in
       let beside_rest : All (λ x. IsBeside x m.change) (changes_of rest) =
       rest_of_all (λ x. IsBeside x m.change) (changes_of rest) c aside in
       let placed_rest : KeepsPlace (text s) (edits_of rest) (changes_of rest) m.edit m.change =
@@ -144,65 +160,99 @@ module _ (profile : Profile) (limit : ℕ) (s : Document) (path : List Part) (va
       (subst (λ (l : List TextChange). KeepsPlace (text s) (edits_of ms) l m.edit m.change) before.changes placed) in
       let without : AreAtOnce profile limit s (m ∷ rest) =
       (makes, (both.1, (beside_rest, (placed_rest, more)))) in
-      let alone_set : All (λ e. LeavesAlone e (set path value)) (edits_of (m ∷ rest)) =
-      All-cons (λ e. LeavesAlone e (set path value)) m.edit (edits_of rest)
-      (alone_back path value m.edit both.0) left in
-      let beside_set : All (λ x. IsBeside x c) (changes_of (m ∷ rest)) =
+      let alone_last : All (λ f. LeavesAlone f e) (edits_of (m ∷ rest)) =
+      All-cons (λ f. LeavesAlone f e) m.edit (edits_of rest)
+      (All-head (λ f. LeavesAlone e f → LeavesAlone f e) m.edit (edits_of rest) alone_back both.0) left in
+      let beside_last : All (λ x. IsBeside x c) (changes_of (m ∷ rest)) =
       all_with (λ x. IsBeside x c) (changes_of rest) m.change apart back.0 in
       record {
         changes = ap (λ (l : List TextChange). with_change l m.change) before.changes
             ∙ with_both (changes_of rest) c m.change back.1;
-        last = (sets, (alone_set, (beside_set, (tt, without))));
+        last = (its, (alone_last, (beside_last, (kept (edits_of (m ∷ rest)) (changes_of (m ∷ rest)), without))));
       }
 
-  last_of : (ms rest : List MadeEdit) → IsOneOf one ms rest → AreAtOnce profile limit s ms → ComesLast ms rest
-  last_of ms rest is h =
+  pub last_of : (ms rest : List MadeEdit) → IsOneOf one ms rest → AreLeftBack rest → AreAtOnce profile limit s ms
+      → ComesLast ms rest
+  last_of ms rest is alone_back h =
       subst₂ (λ (a b : List MadeEdit). ComesLast a b) (sym is.all) (sym is.others)
-      (comes_last is.later is.earlier (subst (AreAtOnce profile limit s) is.all h))
+      (comes_last is.later is.earlier (subst AreLeftBack is.others alone_back)
+      (subst (AreAtOnce profile limit s) is.all h))
 
-  -- ---- set again
-
-  module _ (ms rest : List MadeEdit) (fine : IsEditable profile limit s) (h : AreAtOnce profile limit s ms)
-      (k : ComesLast ms rest) where
-    others : AreAtOnce profile limit s rest
+  module _ (ms rest : List MadeEdit) (fine : IsEditable profile limit s) (k : ComesLast ms rest) where
+    pub others : AreAtOnce profile limit s rest
     others = k.last.1.1.1.1
 
-    run_before : IsRun profile limit s (edits_of rest) (changes_of rest) (document_after s rest)
+    pub run_before : IsRun profile limit s (edits_of rest) (changes_of rest) (document_after s rest)
     run_before = run_is_known profile limit s rest fine others
 
-    same_document : document_after s ms ≡ edited_document (document_after s rest) (set path value)
-    same_document =
+    pub same_document : AreAtOnce profile limit s ms
+        → document_after s ms ≡ edited_document (document_after s rest) e
+    same_document h =
         let run : IsRun profile limit s (edits_of ms) (changes_of ms) (document_after s ms) =
         run_is_known profile limit s ms fine h in
-        let last : IsRun profile limit s (set path value ∷ edits_of rest) (with_change (changes_of rest) c)
-        (edited_document (document_after s rest) (set path value)) =
+        let last : IsRun profile limit s (e ∷ edits_of rest) (with_change (changes_of rest) c)
+        (edited_document (document_after s rest) e) =
         run_is_known profile limit s (one ∷ rest) fine k.last in
-        one_document profile (document_after s ms) (edited_document (document_after s rest) (set path value))
+        one_document profile (document_after s ms) (edited_document (document_after s rest) e)
         run.editable.valid last.editable.valid
         (run.text ∙ ap (text_with 0 (text s)) k.changes ∙ sym last.text)
 
-    module _ (more : Value) (d : TextChange) (makes : SetsValue profile limit s path more d) (at : c.at ≡ d.at)
-        (size : c.size ≡ d.size) where
-      beside_rest : All (λ x. IsBeside x d) (changes_of rest)
-      beside_rest =
-          All-weaker (λ x. IsBeside x c) (λ x. IsBeside x d) (λ x. beside_again x c d at size) (changes_of rest)
-          k.last.1.1.0
+    -- where they make their changes still after the others
+    pub moves_past : MakesChange profile limit (document_after s rest) e (moved_past (changes_of rest) c)
+    moves_past =
+        run_before.later e c k.last.0 k.last.1.0 k.last.1.1.0 (kept (edits_of rest) (changes_of rest))
 
-      alone_rest : All (λ e. LeavesAlone e (set path more)) (edits_of rest)
+    -- a change of the same bytes
+    pub beside_rest : (d : TextChange) → c.at ≡ d.at → c.size ≡ d.size → All (λ x. IsBeside x d) (changes_of rest)
+    beside_rest d at size =
+        All-weaker (λ x. IsBeside x c) (λ x. IsBeside x d) (λ x. beside_again x c d at size) (changes_of rest)
+        k.last.1.1.0
+
+-- ---- set again
+
+module _ (profile : Profile) (limit : ℕ) (s : Document) (path : List Part) (value : Value) (c : TextChange) where
+  abbrev e : Edit
+  e = set path value
+
+  some_bytes : MakesChange profile limit s e c → 0 < c.size
+  some_bytes sets = sets.some
+
+  any_place : (edits : List Edit) (changes : List TextChange) → KeepsPlace (text s) edits changes e c
+  any_place edits changes = tt
+
+  abbrev SetLast : List MadeEdit → List MadeEdit → Type 0
+  SetLast = ComesLast profile limit s e c some_bytes any_place
+
+  set_last : (ms rest : List MadeEdit) → IsOneOf (made e c) ms rest → AreAtOnce profile limit s ms → SetLast ms rest
+  set_last ms rest is =
+      last_of profile limit s e c some_bytes any_place ms rest is
+      (all_hold (λ f. LeavesAlone e f → LeavesAlone f e) (alone_back path value) (edits_of rest))
+
+  module _ (ms rest : List MadeEdit) (fine : IsEditable profile limit s) (k : SetLast ms rest) (more : Value)
+      (d : TextChange) (makes : SetsValue profile limit s path more d) (at : c.at ≡ d.at) (size : c.size ≡ d.size)
+    where
+      before : IsRun profile limit s (edits_of rest) (changes_of rest) (document_after s rest)
+      before = run_before profile limit s e c some_bytes any_place ms rest fine k
+
+      beside_set : All (λ x. IsBeside x d) (changes_of rest)
+      beside_set = beside_rest profile limit s e c some_bytes any_place ms rest fine k d at size
+
+      alone_rest : All (λ f. LeavesAlone f (set path more)) (edits_of rest)
       alone_rest =
-          All-weaker (λ e. LeavesAlone e (set path value)) (λ e. LeavesAlone e (set path more))
-          (alone_again path value more) (edits_of rest) k.last.1.0
+          All-weaker (λ f. LeavesAlone f e) (λ f. LeavesAlone f (set path more)) (alone_again path value more)
+          (edits_of rest) k.last.1.0
 
       still_at_once : AreAtOnce profile limit s (made (set path more) d ∷ rest)
-      still_at_once = (makes, (alone_rest, (beside_rest, (tt, others))))
+      still_at_once =
+          (makes, (alone_rest, (beside_set, (tt, others profile limit s e c some_bytes any_place ms rest fine k))))
 
       set_again : IsSetAgain profile limit (document_after s rest) path value (moved_past (changes_of rest) c) more
           (moved_past (changes_of rest) d)
       set_again =
           sets_again profile limit (document_after s rest) path value (moved_past (changes_of rest) c) more
-          (moved_past (changes_of rest) d) run_before.editable
-          (run_before.later (set path value) c k.last.0 k.last.1.0 k.last.1.1.0 tt)
-          (run_before.later (set path more) d makes alone_rest beside_rest tt)
+          (moved_past (changes_of rest) d) before.editable
+          (moves_past profile limit s e c some_bytes any_place ms rest fine k)
+          (before.later (set path more) d makes alone_rest beside_set tt)
 
 pub run_goes_on_again : RunGoesOnAgain
 run_goes_on_again profile limit s ms path more d fine h there makes =
@@ -210,22 +260,22 @@ run_goes_on_again profile limit s ms path more d fine h there makes =
     let value : Value = has.value in
     let c : TextChange = has.c in
     let rest : List MadeEdit = has.rest in
-    let k : ComesLast profile limit s path value c ms rest =
-    last_of profile limit s path value c ms rest has.one h in
+    let k : SetLast profile limit s path value c ms rest = set_last profile limit s path value c ms rest has.one h in
     let first : IsSetAgain profile limit s path value c more d =
     sets_again profile limit s path value c more d fine k.last.0 makes in
     let at : c.at ≡ d.at = sym first.at in
     let size : c.size ≡ d.size = sym first.size in
     let now : document_after s ms ≡ edited_document (document_after s rest) (set path value) =
-    same_document profile limit s path value c ms rest fine h k in
+    same_document profile limit s (set path value) c (some_bytes profile limit s path value c)
+    (any_place profile limit s path value c) ms rest fine k h in
     let again : IsSetAgain profile limit (document_after s rest) path value (moved_past (changes_of rest) c) more
     (moved_past (changes_of rest) d) =
-    set_again profile limit s path value c ms rest fine h k more d makes at size in
+    set_again profile limit s path value c ms rest fine k more d makes at size in
     let same : edited_document (document_after s ms) (set path more)
     ≡ edited_document (document_after s rest) (set path more) =
     ap (λ (t : Document). edited_document t (set path more)) now ∙ again.same in
     let still : AreAtOnce profile limit s (made (set path more) d ∷ rest) =
-    still_at_once profile limit s path value c ms rest fine h k more d makes at size in
+    still_at_once profile limit s path value c ms rest fine k more d makes at size in
     record {
       rest = rest;
       value = value;
@@ -235,8 +285,8 @@ run_goes_on_again profile limit s ms path more d fine h there makes =
       at = at;
       size = size;
       some = k.last.0.some;
-      follow = (run_before profile limit s path value c ms rest fine h k).follow;
-      beside = beside_rest profile limit s path value c ms rest fine h k more d makes at size;
+      follow = (before profile limit s path value c ms rest fine k more d makes at size).follow;
+      beside = beside_set profile limit s path value c ms rest fine k more d makes at size;
       sets = subst₂
           (λ (t : Document) (n : ℕ). SetsValue profile limit t path more (change_at n (length c.new) d.new))
           (sym now) (ap (moved_by_all (changes_of rest)) at) again.sets;

@@ -1,9 +1,9 @@
--- A table with a header of its own: where the header and its body are among the lines, and what a remove takes.
+-- A table or an element with a header of its own: where the header and its body are among the lines, and what a remove
+-- takes.
 --
--- The header that defines the table is the last that begins its body, and the text ends in a newline, so the last line
--- is in no body (`section_of`). No keyval says something at the path of a table that a header defines (`not_own`, by
--- the rules), so the remove takes these lines (`changes`): its place is from where the header's line begins to where
--- the body ends (`place_is`).
+-- The header is the last that begins the body, and the text ends in a newline, so the last line is in no body
+-- (`section_of`). No value is at the path, so no keyval says something there (`not_own`), and the remove takes these
+-- lines (`changes`): its place is from where the header's line begins to where the body ends (`place_is`).
 --
 -- Theorems: `section_of`, `section_here`: the section; `bare`, `none_own`: no line of the path's own; `edited_is`,
 -- `place_is`: the document and the place.
@@ -11,29 +11,21 @@ use Rattle.std.proofs.Common.{◌≡◌, ℕ, suc, ◌+◌, Bool, true, false, L
 use Rattle.std.proofs.Common.{sym, ap, ap₂, subst, ◌∙◌, length-append, arith, Option, Some, None}
 use Rattle.std.proofs.lemmas.Bool.{and_parts}
 use Rattle.std.proofs.lemmas.List.{length-map, length-take-le, take-append-drop}
-use Rattle.keep_types.specs.declared.leaf.Profile.{Profile}
 use Rattle.keep_syntax.specs.Tree.{Line, Ended, Document, blank, bom_leaves, ended_leaves, text_of}
 use Rattle.keep_path.specs.Path.{Part, same_path}
 use Rattle.keep_meaning.specs.Marks.{Mention, Reading, below, start}
 use Rattle.keep_meaning.specs.Meaning.{after_line, keyval_mentions, line_of, lines, lines_mentions, mentions_in}
 use Rattle.keep_meaning.specs.Meaning.{reading_after_lines, step}
-use Rattle.keep_meaning.specs.Nodes.{is_define}
 use Rattle.keep_edit_spec.specs.Changed.{Changed, Place, or_else, place_of}
 use Rattle.keep_edit_spec.specs.Edits.{change, changed_or_same, clear_line, edited_document, nested, place, remove}
 use Rattle.keep_edit_spec.specs.Edits.{without_lines}
-use Rattle.keep_edit_spec.specs.Laws.{IsEditable}
 use Rattle.keep_edit_spec.specs.Lines.{Page, begins, body_length, drop_lines, drop_prefix, in_document, in_lines}
 use Rattle.keep_edit_spec.specs.Lines.{is_header, last_line}
-use Rattle.keep_edit_spec.specs.RemovedSections.{RemovesSection}
-use Rattle.keep_edit_spec.specs.TextChanges.{TextChange}
 use Rattle.keep_edit_spec.specs.Values.{removal}
-use Rattle.keep_edit_spec.proofs.Common.Doubles.{has_some}
-use Rattle.keep_edit_spec.proofs.Common.Runs.{Rules, SomeOf, some_left, some_right}
+use Rattle.keep_edit_spec.proofs.Common.Runs.{SomeOf, some_left, some_right}
 use Rattle.keep_edit_spec.proofs.Common.SetDocument.{keyval_alone, whole_mentions}
 use Rattle.keep_edit_spec.proofs.Common.SetLaw.{IsAloneAt}
-use Rattle.keep_edit_spec.proofs.Common.TableThere.{IsDefined, some_begins}
-use Rattle.keep_edit_spec.proofs.Common.ValueThere.{the_some}
-use Rattle.keep_edit_spec.proofs.Lists.HeaderLines.{last_blank}
+use Rattle.keep_edit_spec.proofs.Common.ValueThere.{IsSome, the_some}
 use Rattle.keep_edit_spec.proofs.Lists.ForeignPath as foreign
 use Rattle.keep_edit_spec.proofs.Lists.Places.{width, width_more}
 use Rattle.keep_edit_spec.proofs.Lists.RemovedOwn.{last_or}
@@ -41,14 +33,11 @@ use Rattle.keep_edit_spec.proofs.Lists.RemovedPlaces.{lines_here, mine}
 use Rattle.keep_edit_spec.proofs.Lists.SectionLines.{body_within}
 use Rattle.keep_edit_spec.proofs.Remove.RemoveLinePlace.{IsPageLine, head_line, page_line, tail_lines}
 use Rattle.keep_edit_spec.proofs.Remove.RemoveLines.{IsOwnLine}
-use Rattle.keep_edit_spec.proofs.Remove.RemoveRefusal.{no_both}
 use Rattle.keep_edit_spec.proofs.Remove.RemoveSectionPlace.{after_length}
-use Rattle.keep_edit_spec.proofs.Remove.RemoveWhole.{shared_define}
 
 -- ---- no keyval is at the path
 
-module _ (s : Document) (path : List Part) (rules : Rules (mentions_in s))
-    (defined : SomeOf (IsDefined path) (mentions_in s)) where
+module _ (s : Document) (path : List Part) (valueless : SomeOf (IsAloneAt path) (mentions_in s) → ⊥) where
   not_own : (pre : List Line) (l : Line) (post : List Line) → lines s ≡ pre ++ l ∷ post
       → IsOwnLine (reading_after_lines start pre).body path l.content → ⊥
   not_own pre l post was own =
@@ -59,10 +48,9 @@ module _ (s : Document) (path : List Part) (rules : Rules (mentions_in s))
       ap (lines_mentions start) was ∙ whole_mentions pre post l own.name own.held own.was in
       let alone : SomeOf (IsAloneAt path) mid =
       subst (λ (q : List Part). SomeOf (IsAloneAt q) mid) own.place (keyval_alone r.body own.name own.held) in
-      no_both is_define shared_define path (mentions_in s) defined
-      (subst (λ (ms : List Mention). SomeOf (IsAloneAt path) ms) (sym whole)
+      valueless (subst (λ (ms : List Mention). SomeOf (IsAloneAt path) ms) (sym whole)
       (some_right (IsAloneAt path) (lines_mentions start pre) (mid ++ lines_mentions r post)
-      (some_left (IsAloneAt path) mid (lines_mentions r post) alone))) rules
+      (some_left (IsAloneAt path) mid (lines_mentions r post) alone)))
 
   pub none_own : last_line (mine path) start (lines s) ≡ None
   none_own = foreign.none_own s path not_own
@@ -243,17 +231,14 @@ section_here s path first e rest empty was passes none =
           (omega (arith, (body_within (map line_of rest) s.last empty).1, length-map rest line_of)));
     }
 
-pub section_of : (profile : Profile) (limit : ℕ) (s : Document) (path : List Part) (c : TextChange)
-    → IsEditable profile limit s → RemovesSection profile limit s path c → IsSectionAt s path
-section_of profile limit s path c fine h =
-    let defined : SomeOf (IsDefined path) (mentions_in s) = has_some is_define path (mentions_in s) h.defined in
-    let (i, is) = the_some (last_line (begins path) start (lines s)) (some_begins path start (lines s) defined).0 in
+-- the last line says nothing, and some line begins the path's body
+pub section_of : (s : Document) (path : List Part) → s.last.content ≡ blank
+    → IsSome (last_line (begins path) start (lines s)) → IsSectionAt s path
+section_of s path empty some =
+    let (i, is) = the_some (last_line (begins path) start (lines s)) some in
     let l : IsPageLine (begins path) start s.ended s.last i = page_line (begins path) start s.ended s.last i is in
     by l.pre l.rest l.was l.passes l.none_later
   where
-    empty : s.last.content ≡ blank
-    empty = last_blank profile s fine.valid h.closed
-
     by : (pre rest : List Ended) → s.ended ≡ pre ++ rest
         → begins path (reading_after_lines start (map line_of pre)) (head_line rest s.last) ≡ true
         → last_line (begins path) (after_line (reading_after_lines start (map line_of pre)) (head_line rest s.last))

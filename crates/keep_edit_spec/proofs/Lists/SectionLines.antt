@@ -1,12 +1,7 @@
--- A header with its body among lines, and what of the others depends on it.
---
--- The reading that a line begins with has the arrays of tables so far and the path of the body. Which headers begin
--- bodies depends on the first alone (`begins_alike`), so a search for them goes on alike without a body before
--- (`after_alike`). No header is in a body (`none_in_body`), and after it no keyval is before the next one
+-- The body of a header among lines: no header is in it (`none_in_body`), and after it no keyval is before the next one
 -- (`body_done`).
 --
--- Theorems: `begins_alike`, `line_alike`, `after_header`, `after_alike`; `none_in_body`, `body_done`, `body_within`;
--- `last_behind`.
+-- Theorems: `none_in_body`, `body_done`, `body_within`; `last_behind`.
 use Rattle.std.proofs.Common.{◌≡◌, ℕ, zero, suc, ◌≤◌, Bool, true, false, List, [], ◌∷◌, ◌++◌, length, take, drop, refl}
 use Rattle.std.proofs.Common.{ap, ◌∙◌, arith, Option, Some, None}
 use Rattle.std.proofs.lemmas.List.{append-nil}
@@ -14,79 +9,10 @@ use Rattle.keep_syntax.specs.Tree.{Written, Gap, Content, blank, keyval, header,
 use Rattle.keep_path.specs.Path.{Part}
 use Rattle.keep_meaning.specs.Marks.{Reading}
 use Rattle.keep_meaning.specs.Meaning.{after_line, reading_after_lines}
-use Rattle.keep_edit_spec.specs.Lines.{begins, body_length, is_header, last_line, more_lines}
+use Rattle.keep_edit_spec.specs.Lines.{begins, body_length, last_line, more_lines}
 use Rattle.keep_edit_spec.proofs.Common.BodyEnd.{body_few}
 use Rattle.keep_edit_spec.proofs.Lists.HeaderEnds.{lengths_same}
 use Rattle.keep_edit_spec.proofs.Lists.RemovedOwn.{last_or}
-
--- ---- readings that are in another body
-
-abbrev pub with_body : List Part → Reading → Reading
-with_body b r = record { tables = r.tables; body = b }
-
-module _ (q : List Part) where
-  pub line_alike : (r : Reading) (b : List Part) (l : Line) → begins q (with_body b r) l ≡ begins q r l
-  line_alike r b l = by l.before l.after l.comment l.content
-    where
-      by : (before after : Gap) (comment : Option Written) (c : Content)
-          → (let l : Line = record { before = before; content = c; after = after; comment = comment } in
-          begins q (with_body b r) l ≡ begins q r l)
-      by before after comment blank = refl
-      by before after comment (keyval name v) = refl
-      by before after comment (header x k y) = refl
-      by before after comment (element x k y) = refl
-
-  alike_by : (r : Reading) (b : List Part) (before after : Gap) (comment : Option Written) (c : Content)
-      (ls : List Line) → ((r : Reading) → last_line (begins q) (with_body b r) ls ≡ last_line (begins q) r ls)
-      → (let l : Line = record { before = before; content = c; after = after; comment = comment } in
-      last_line (begins q) (with_body b r) (l ∷ ls) ≡ last_line (begins q) r (l ∷ ls))
-  alike_by r b before after comment blank ls more = ap (last_or false) (more r)
-  alike_by r b before after comment (keyval name v) ls more = ap (last_or false) (more r)
-  alike_by r b before after comment (header x k y) ls more = refl
-  alike_by r b before after comment (element x k y) ls more = refl
-
-  pub begins_alike : (b : List Part) (r : Reading) (ls : List Line)
-      → last_line (begins q) (with_body b r) ls ≡ last_line (begins q) r ls
-  begins_alike b r [] = refl
-  begins_alike b r (l ∷ ls) = alike_by r b l.before l.after l.comment l.content ls (λ r. begins_alike b r ls)
-
-pub after_header : (r : Reading) (b : List Part) (l : Line) → is_header l.content ≡ true
-    → after_line (with_body b r) l ≡ after_line r l
-after_header r b l h = by l.before l.after l.comment l.content h
-  where
-    by : (before after : Gap) (comment : Option Written) (c : Content) → is_header c ≡ true
-        → (let l : Line = record { before = before; content = c; after = after; comment = comment } in
-        after_line (with_body b r) l ≡ after_line r l)
-    by before after comment blank h = absurd cc
-    by before after comment (keyval name v) h = absurd cc
-    by before after comment (header x k y) h = refl
-    by before after comment (element x k y) h = refl
-
-pub record IsAlike (r now : Reading) : Type 0 where
-  pub body : List Part
-  pub is : now ≡ with_body body r
-
-after_by : (r : Reading) (b : List Part) (before after : Gap) (comment : Option Written) (c : Content)
-    → (let l : Line = record { before = before; content = c; after = after; comment = comment } in
-    IsAlike (after_line r l) (after_line (with_body b r) l))
-after_by r b before after comment blank = record { body = b; is = refl }
-after_by r b before after comment (keyval name v) = record { body = b; is = refl }
-after_by r b before after comment (header x k y) =
-    let l : Line = record { before = before; content = header x k y; after = after; comment = comment } in
-    record { body = (after_line r l).body; is = refl }
-after_by r b before after comment (element x k y) =
-    let l : Line = record { before = before; content = element x k y; after = after; comment = comment } in
-    record { body = (after_line r l).body; is = refl }
-
-pub after_alike : (r : Reading) (b : List Part) (ls : List Line)
-    → IsAlike (reading_after_lines r ls) (reading_after_lines (with_body b r) ls)
-after_alike r b [] = record { body = b; is = refl }
-after_alike r b (l ∷ ls) =
-    let one : IsAlike (after_line r l) (after_line (with_body b r) l) =
-    after_by r b l.before l.after l.comment l.content in
-    let rest : IsAlike (reading_after_lines (after_line r l) ls)
-    (reading_after_lines (with_body one.body (after_line r l)) ls) = after_alike (after_line r l) one.body ls in
-    record { body = rest.body; is = ap (λ (x : Reading). reading_after_lines x ls) one.is ∙ rest.is }
 
 -- ---- a body
 

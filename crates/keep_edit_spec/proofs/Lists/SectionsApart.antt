@@ -1,9 +1,9 @@
--- Two tables with headers of their own: where the second is once the first is gone.
+-- Two headers with their bodies, of tables or elements: where the second is once the first is gone.
 --
 -- Its header comes before the first's or after it (`order_of`), and not in the first's body, where no header is
--- (`seam_of`, `apart_body`). If before, the lines after it are as before up to the end of its body, as that ends before
--- the next header (`earlier`). If after, it begins in another body, on which what a header begins does not depend
--- (`later`).
+-- (`seam_of`, `not_within`). If before, the lines after it are as before up to the end of its body, as that ends before
+-- the next header (`by_earlier`). If after, all its lines are there (`by_later`). Where the headers' paths go once the
+-- first is gone, is given by a function (HeadersGo); the second's path goes there too.
 --
 -- Theorems: `still_at`: where it is; `head_bytes`: a header's line has bytes.
 use Rattle.std.proofs.Common.{◌≡◌, ◌≢◌, ℕ, zero, suc, ◌+◌, ◌<◌, ◌≤◌, Bool, true, false, List, [], ◌∷◌, ◌++◌, length}
@@ -14,14 +14,15 @@ use Rattle.std.proofs.lemmas.List.{length-map, map-append}
 use Rattle.std.specs.List.{AllByRecursion}
 use Rattle.keep_types.specs.declared.leaf.Profile.{Profile}
 use Rattle.keep_syntax.specs.Grammar.{IsEnded}
-use Rattle.keep_syntax.specs.Tree.{Written, Gap, Content, Line, Ended, Document, blank}
+use Rattle.keep_syntax.specs.Tree.{Line, Ended, Document, blank}
 use Rattle.keep_path.specs.Path.{Part, same_path}
 use Rattle.keep_meaning.specs.Marks.{Reading, start}
 use Rattle.keep_meaning.specs.Meaning.{after_line, line_of, reading_after_lines}
 use Rattle.keep_edit_spec.specs.Lines.{begins, body_length, is_header, last_line}
 use Rattle.keep_edit_spec.proofs.Append.AppendLaw.{reading_append}
+use Rattle.keep_edit_spec.proofs.Common.HeadersGo.{Goes, HeaderGoes, begins_goes, goes_right, last_goes}
 use Rattle.keep_edit_spec.proofs.Common.LineEnds.{ended_ends}
-use Rattle.keep_edit_spec.proofs.Common.LineLaws.{EndsInKey}
+use Rattle.keep_edit_spec.proofs.Common.Moves.{IsInjectiveOn}
 use Rattle.keep_edit_spec.proofs.Common.Runs.{same_path-sound}
 use Rattle.keep_edit_spec.proofs.Lists.BodyEnds.{header_few, header_none}
 use Rattle.keep_edit_spec.proofs.Lists.HeaderEnds.{lengths_same}
@@ -30,11 +31,10 @@ use Rattle.keep_edit_spec.proofs.Lists.Places.{size, width, width_more}
 use Rattle.keep_edit_spec.proofs.Lists.RemovedOwn.{last_or}
 use Rattle.keep_edit_spec.proofs.Lists.RemovedPlaces.{lines_here}
 use Rattle.keep_edit_spec.proofs.Lists.SectionAt.{IsSectionAt, section_here}
-use Rattle.keep_edit_spec.proofs.Lists.SectionLines.{IsAlike, after_alike, after_header, begins_alike, body_done}
-use Rattle.keep_edit_spec.proofs.Lists.SectionLines.{line_alike, none_in_body, with_body}
+use Rattle.keep_edit_spec.proofs.Lists.SectionLines.{body_done, none_in_body}
 use Rattle.keep_edit_spec.proofs.Remove.RemoveLinePlace.{rest_valid}
 use Rattle.keep_edit_spec.proofs.Remove.RemoveLines.{drop_prefix_of, take_prefix}
-use Rattle.keep_edit_spec.proofs.Remove.RemoveSection.{IsSection, begins_section, body_is}
+use Rattle.keep_edit_spec.proofs.Remove.RemoveSection.{body_is}
 
 -- ---- lists that are cut at two elements
 
@@ -132,27 +132,12 @@ passes_none test r a l b t e =
 
 -- ---- a header and its body
 
-module _ (s : Document) (path : List Part) (ends : EndsInKey path) (at : IsSectionAt s path) where
+module _ (s : Document) (path : List Part) (at : IsSectionAt s path) where
   abbrev pub r : Reading
   r = reading_after_lines start (map line_of at.first)
 
-  pub its : IsSection r path at.head.line.content
-  its = begins_section path r at.head.line.before at.head.line.after at.head.line.comment at.head.line.content ends
-      at.passes
-
   pub is_head : is_header at.head.line.content ≡ true
   is_head = (and_parts (is_header at.head.line.content) (same_path (after_line r at.head.line).body path) at.passes).0
-
-  pub after_is : after_line r at.head.line ≡ with_body path r
-  after_is = by at.head.line.before at.head.line.after at.head.line.comment at.head.line.content its
-    where
-      by : (before after : Gap) (comment : Option Written) (c : Content) → IsSection r path c
-          → after_line r (record { before = before; content = c; after = after; comment = comment })
-          ≡ with_body path r
-      by before after comment c i =
-          ap (λ (c : Content).
-          after_line r (record { before = before; content = c; after = after; comment = comment })) i.was
-          ∙ ap (λ (p : List Part). with_body p r) i.place
 
   abbrev pub after : List Line
   after = map line_of (at.body ++ at.more) ++ s.last ∷ []
@@ -185,35 +170,56 @@ module _ (s : Document) (path : List Part) (ends : EndsInKey path) (at : IsSecti
   pub more_none : body_length more ≡ 0
   more_none = ap body_length (sym more_left) ∙ body_done after
 
+  -- the document without them
+  abbrev pub without : Document
+  without = record { bom = s.bom; ended = at.first ++ at.more; last = s.last }
+
 -- ---- the second once the first is gone
 
-pub record IsStillAt (s : Document) (path other : List Part) (at : IsSectionAt s path) (k : IsSectionAt s other)
-    : Type 0 where
-  pub section : IsSectionAt (record { bom = s.bom; ended = at.first ++ at.more; last = s.last }) other
+-- Its path is one of those that stay apart, and it is where that goes.
+pub record IsStillAt (D : List Part → Type 0) (f : List Part → List Part) (s : Document) (path other : List Part)
+    (at : IsSectionAt s path) (k : IsSectionAt s other) : Type 0 where
+  pub apart : D other
+  pub section : IsSectionAt (without s path at) (f other)
   pub same : width (section.head ∷ section.body) ≡ width (k.head ∷ k.body)
   pub place : ((width k.first ≡ width section.first) × (width k.first < width at.first))
       ⊎ ((width k.first ≡ width section.first + width (at.head ∷ at.body)) × (width at.first ≤ width section.first))
 
-module _ (profile : Profile) (s : Document) (path other : List Part) (ends : EndsInKey path)
-    (others : EndsInKey other) (differs : path ≢ other) (valid : AllByRecursion (IsEnded profile) s.ended)
-    (empty : s.last.content ≡ blank) (at : IsSectionAt s path) (k : IsSectionAt s other) where
+module _ (D : List Part → Type 0) (f : List Part → List Part) (inj : IsInjectiveOn D f) (profile : Profile)
+    (s : Document) (path other : List Part) (differs : path ≢ other)
+    (valid : AllByRecursion (IsEnded profile) s.ended) (empty : s.last.content ≡ blank)
+    (at : IsSectionAt s path) (k : IsSectionAt s other)
+    (before : Goes D f start start (map line_of at.first))
+    (behind : Goes D f (after_line (r s path at) at.head.line) (r s path at) (more s path at)) where
   abbrev now : Document
-  now = record { bom = s.bom; ended = at.first ++ at.more; last = s.last }
+  now = without s path at
 
   abbrev x : Reading
-  x = r s path ends at
+  x = r s path at
+
+  abbrev u : Reading
+  u = after_line x at.head.line
 
   abbrev following : List Line
-  following = after s path ends at
+  following = after s path at
 
   abbrev left : List Line
-  left = more s path ends at
+  left = more s path at
+
+  -- what a header that begins the other's body says of its path
+  apart_at : (v w : Reading) (l : Line) → HeaderGoes D f v w l → begins other v l ≡ true → D other
+  apart_at v w l h passes =
+      let (one, two) = and_parts (is_header l.content) (same_path (after_line v l).body other) passes in
+      subst D (same_path-sound (after_line v l).body other two) (h one).0
 
   -- its header comes before that of the first
   module _ (mid : List Ended) (e : at.first ≡ k.first ++ k.head ∷ mid)
-      (f : k.body ++ k.more ≡ mid ++ at.head ∷ (at.body ++ at.more)) where
+      (g : k.body ++ k.more ≡ mid ++ at.head ∷ (at.body ++ at.more)) where
+    abbrev v : Reading
+    v = reading_after_lines start (map line_of k.first)
+
     abbrev y : Reading
-    y = after_line (reading_after_lines start (map line_of k.first)) k.head.line
+    y = after_line v k.head.line
 
     lines_are : map line_of (mid ++ at.more) ++ s.last ∷ [] ≡ map line_of mid ++ left
     lines_are =
@@ -222,7 +228,7 @@ module _ (profile : Profile) (s : Document) (path other : List Part) (ends : End
 
     lines_were : map line_of (k.body ++ k.more) ++ s.last ∷ [] ≡ map line_of mid ++ at.head.line ∷ following
     lines_were =
-        ap (λ (es : List Ended). map line_of es ++ s.last ∷ []) f
+        ap (λ (es : List Ended). map line_of es ++ s.last ∷ []) g
         ∙ lines_here mid at.head (at.body ++ at.more) s.last
 
     reading_is : reading_after_lines y (map line_of mid) ≡ x
@@ -230,46 +236,54 @@ module _ (profile : Profile) (s : Document) (path other : List Part) (ends : End
         sym (reading_append start (map line_of k.first) (k.head.line ∷ map line_of mid))
         ∙ ap (reading_after_lines start) (sym (map-append line_of k.first (k.head ∷ mid)) ∙ ap (map line_of) (sym e))
 
-    none_left : last_line (begins other) y (map line_of (mid ++ at.more) ++ s.last ∷ []) ≡ None
+    from_head : Goes D f v v (k.head.line ∷ map line_of mid)
+    from_head =
+        goes_right D f start start (map line_of k.first) (k.head.line ∷ map line_of mid)
+        (subst (λ (ls : List Line). Goes D f start start ls)
+        (ap (map line_of) e ∙ map-append line_of k.first (k.head ∷ mid)) before)
+
+    apart_first : D other
+    apart_first = apart_at v v k.head.line from_head.0 k.passes
+
+    none_left : last_line (begins (f other)) y (map line_of (mid ++ at.more) ++ s.last ∷ []) ≡ None
     none_left =
         let (none_mid, rest) =
         none_split (begins other) y (map line_of mid) (at.head.line ∷ following)
         (ap (last_line (begins other) y) (sym lines_were) ∙ k.none_later) in
         let at_head : last_line (begins other) x (at.head.line ∷ following) ≡ None =
         ap (λ (z : Reading). last_line (begins other) z (at.head.line ∷ following)) (sym reading_is) ∙ rest in
-        let behind : last_line (begins other) (after_line x at.head.line) following ≡ None =
-        (none_or (begins other x at.head.line) (last_line (begins other) (after_line x at.head.line) following)
-        at_head).0 in
-        let in_body : last_line (begins other) (with_body path x) (map line_of at.body ++ left) ≡ None =
-        ap₂ (λ (z : Reading) (ls : List Line). last_line (begins other) z ls) (sym (after_is s path ends at))
-        (sym (after_split s path ends at)) ∙ behind in
-        let past_body : last_line (begins other) (with_body path x) left ≡ None =
-        ap (λ (z : Reading). last_line (begins other) z left)
-        (sym (body_keeps s path ends at (with_body path x)))
-        ∙ (none_split (begins other) (with_body path x) (map line_of at.body) left in_body).1 in
-        ap (last_line (begins other) y) lines_are
-        ∙ none_join (begins other) y (map line_of mid) left none_mid
-        (ap (λ (z : Reading). last_line (begins other) z left) reading_is
-        ∙ sym (begins_alike other path x left) ∙ past_body)
+        let after_head : last_line (begins other) u following ≡ None =
+        (none_or (begins other x at.head.line) (last_line (begins other) u following) at_head).0 in
+        let in_body : last_line (begins other) u (map line_of at.body ++ left) ≡ None =
+        ap (last_line (begins other) u) (sym (after_split s path at)) ∙ after_head in
+        let past_body : last_line (begins other) u left ≡ None =
+        ap (λ (z : Reading). last_line (begins other) z left) (sym (body_keeps s path at u))
+        ∙ (none_split (begins other) u (map line_of at.body) left in_body).1 in
+        ap (last_line (begins (f other)) y) lines_are
+        ∙ none_join (begins (f other)) y (map line_of mid) left
+        (last_goes D f inj y y (map line_of mid) from_head.1 other apart_first ∙ none_mid)
+        (ap (λ (z : Reading). last_line (begins (f other)) z left) reading_is
+        ∙ last_goes D f inj u x left behind other apart_first ∙ past_body)
 
-    abbrev here : IsSectionAt now other
+    abbrev here : IsSectionAt now (f other)
     here =
-        section_here now other k.first k.head (mid ++ at.more) empty
-        (ap (λ (es : List Ended). es ++ at.more) e ∙ append_assoc k.first (k.head ∷ mid) at.more) k.passes none_left
+        section_here now (f other) k.first k.head (mid ++ at.more) empty
+        (ap (λ (es : List Ended). es ++ at.more) e ∙ append_assoc k.first (k.head ∷ mid) at.more)
+        (begins_goes D f inj v v k.head.line from_head.0 other apart_first ∙ k.passes) none_left
 
     count : body_length (map line_of (mid ++ at.more) ++ s.last ∷ []) ≡ length k.body
     count =
         ap body_length lines_are
         ∙ lengths_same (map line_of mid) left (at.head.line ∷ following)
-        (more_none s path ends at
-        ∙ sym (header_none at.head.line.content (body_length following) (is_head s path ends at)))
+        (more_none s path at
+        ∙ sym (header_none at.head.line.content (body_length following) (is_head s path at)))
         ∙ ap body_length (sym lines_were) ∙ k.size
 
     few : length k.body ≤ length mid
     few =
         omega (
           arith,
-          header_few (map line_of mid) at.head.line following (is_head s path ends at),
+          header_few (map line_of mid) at.head.line following (is_head s path at),
           ap body_length (sym lines_were) ∙ k.size,
           length-map mid line_of,
         )
@@ -278,10 +292,11 @@ module _ (profile : Profile) (s : Document) (path other : List Part) (ends : End
     body_is_same =
         ap (λ (n : ℕ). take n (mid ++ at.more)) count
         ∙ take_few (length k.body) mid at.more (at.head ∷ (at.body ++ at.more)) few
-        ∙ ap (take (length k.body)) (sym f) ∙ take_whole k.body k.more
+        ∙ ap (take (length k.body)) (sym g) ∙ take_whole k.body k.more
 
-    by_earlier : IsStillAt s path other at k
+    by_earlier : IsStillAt D f s path other at k
     by_earlier = record {
+      apart = apart_first;
       section = here;
       same = ap (λ (es : List Ended). width (k.head ∷ es)) body_is_same;
       place = inl (
@@ -298,9 +313,6 @@ module _ (profile : Profile) (s : Document) (path other : List Part) (ends : End
 
   -- or after it
   module _ (mid : List Ended) (e : k.first ≡ at.first ++ at.head ∷ mid) where
-    abbrev u : Reading
-    u = after_line x at.head.line
-
     reading_was : reading_after_lines start (map line_of k.first) ≡ reading_after_lines u (map line_of mid)
     reading_was =
         ap (λ (es : List Ended). reading_after_lines start (map line_of es)) e
@@ -313,41 +325,50 @@ module _ (profile : Profile) (s : Document) (path other : List Part) (ends : End
         (ap (λ (w : Reading). begins other w k.head.line) (sym reading_was) ∙ k.passes)
         (ap (last_line (begins other) u)
         (sym (map-append line_of mid (k.head ∷ z)) ∙ ap (map line_of) (sym g))
-        ∙ body_none s path ends at other u)
+        ∙ body_none s path at other u)
 
     module _ (z : List Ended) (g : mid ≡ at.body ++ z) (h : at.more ≡ z ++ k.head ∷ (k.body ++ k.more)) where
-      abbrev v : Reading
-      v = reading_after_lines start (map line_of (at.first ++ z))
+      abbrev rest : List Line
+      rest = map line_of (k.body ++ k.more) ++ s.last ∷ []
 
-      alike : IsAlike (reading_after_lines x (map line_of z)) (reading_after_lines (with_body path x) (map line_of z))
-      alike = after_alike x path (map line_of z)
+      -- the reading at the header, with the first and without it
+      abbrev old : Reading
+      old = reading_after_lines u (map line_of z)
 
-      v_is : v ≡ reading_after_lines x (map line_of z)
-      v_is =
+      abbrev new : Reading
+      new = reading_after_lines x (map line_of z)
+
+      new_is : reading_after_lines start (map line_of (at.first ++ z)) ≡ new
+      new_is =
           ap (reading_after_lines start) (map-append line_of at.first z)
           ∙ reading_append start (map line_of at.first) (map line_of z)
 
-      was_is : reading_after_lines start (map line_of k.first) ≡ with_body alike.body v
-      was_is =
+      old_is : reading_after_lines start (map line_of k.first) ≡ old
+      old_is =
           reading_was
-          ∙ ap₂ (λ (w : Reading) (es : List Ended). reading_after_lines w (map line_of es)) (after_is s path ends at) g
-          ∙ ap (reading_after_lines (with_body path x)) (map-append line_of at.body z)
-          ∙ reading_append (with_body path x) (map line_of at.body) (map line_of z)
-          ∙ ap (λ (w : Reading). reading_after_lines w (map line_of z))
-          (body_keeps s path ends at (with_body path x))
-          ∙ alike.is ∙ ap (with_body alike.body) (sym v_is)
+          ∙ ap (λ (es : List Ended). reading_after_lines u (map line_of es)) g
+          ∙ ap (reading_after_lines u) (map-append line_of at.body z)
+          ∙ reading_append u (map line_of at.body) (map line_of z)
+          ∙ ap (λ (w : Reading). reading_after_lines w (map line_of z)) (body_keeps s path at u)
 
-      head_is : is_header k.head.line.content ≡ true
-      head_is = is_head s other others k
+      more_is : left ≡ map line_of z ++ k.head.line ∷ rest
+      more_is =
+          ap (λ (es : List Ended). map line_of es ++ s.last ∷ []) h ∙ lines_here z k.head (k.body ++ k.more) s.last
 
-      after_same : after_line v k.head.line
-          ≡ after_line (reading_after_lines start (map line_of k.first)) k.head.line
-      after_same =
-          sym (after_header v alike.body k.head.line head_is)
-          ∙ ap (λ (w : Reading). after_line w k.head.line) (sym was_is)
+      from_there : Goes D f old new (k.head.line ∷ rest)
+      from_there =
+          goes_right D f u x (map line_of z) (k.head.line ∷ rest)
+          (subst (λ (ls : List Line). Goes D f u x ls) more_is behind)
 
-      by_later : IsStillAt s path other at k
+      passes_old : begins other old k.head.line ≡ true
+      passes_old = ap (λ (w : Reading). begins other w k.head.line) (sym old_is) ∙ k.passes
+
+      apart_second : D other
+      apart_second = apart_at old new k.head.line from_there.0 passes_old
+
+      by_later : IsStillAt D f s path other at k
       by_later = record {
+        apart = apart_second;
         section = record {
           first = at.first ++ z;
           head = k.head;
@@ -355,10 +376,13 @@ module _ (profile : Profile) (s : Document) (path other : List Part) (ends : End
           more = k.more;
           was = ap (λ (es : List Ended). at.first ++ es) h
               ∙ sym (append_assoc at.first z (k.head ∷ (k.body ++ k.more)));
-          passes = sym (line_alike other v alike.body k.head.line)
-              ∙ ap (λ (w : Reading). begins other w k.head.line) (sym was_is) ∙ k.passes;
-          none_later = ap (λ (w : Reading).
-              last_line (begins other) w (map line_of (k.body ++ k.more) ++ s.last ∷ [])) after_same ∙ k.none_later;
+          passes = ap (λ (w : Reading). begins (f other) w k.head.line) new_is
+              ∙ begins_goes D f inj old new k.head.line from_there.0 other apart_second ∙ passes_old;
+          none_later = ap (λ (w : Reading). last_line (begins (f other)) (after_line w k.head.line) rest) new_is
+              ∙ last_goes D f inj (after_line old k.head.line) (after_line new k.head.line) rest from_there.1 other
+              apart_second
+              ∙ ap (λ (w : Reading). last_line (begins other) (after_line w k.head.line) rest) (sym old_is)
+              ∙ k.none_later;
           size = k.size;
         };
         same = refl;
@@ -378,27 +402,27 @@ module _ (profile : Profile) (s : Document) (path other : List Part) (ends : End
       }
 
   from_later : (mid : List Ended) → k.first ≡ at.first ++ at.head ∷ mid
-      → Seam at.body at.more mid k.head (k.body ++ k.more) → IsStillAt s path other at k
+      → Seam at.body at.more mid k.head (k.body ++ k.more) → IsStillAt D f s path other at k
   from_later mid e (within z g) = absurd (not_within mid e z g)
   from_later mid e (beyond z g h) = by_later mid e z g h
 
-  pub still_at : IsStillAt s path other at k
+  pub still_at : IsStillAt D f s path other at k
   still_at = by (order_of at.first k.first at.head k.head (at.body ++ at.more) (k.body ++ k.more)
       (sym at.was ∙ k.was))
     where
-      by : Order at.first k.first at.head k.head (at.body ++ at.more) (k.body ++ k.more) → IsStillAt s path other at k
-      by (earlier mid e f) = by_earlier mid e f
-      by (later mid e f) =
-          from_later mid e (seam_of at.body at.more mid k.head (k.body ++ k.more) f)
-      by (same e f) =
-          let x : Reading = reading_after_lines start (map line_of at.first) in
+      by : Order at.first k.first at.head k.head (at.body ++ at.more) (k.body ++ k.more)
+          → IsStillAt D f s path other at k
+      by (earlier mid e g) = by_earlier mid e g
+      by (later mid e g) =
+          from_later mid e (seam_of at.body at.more mid k.head (k.body ++ k.more) g)
+      by (same e g) =
           let mine : path ≡ (after_line x at.head.line).body =
           sym (same_path-sound (after_line x at.head.line).body path
           (and_parts (is_header at.head.line.content) (same_path (after_line x at.head.line).body path) at.passes).1) in
           let theirs : (after_line x at.head.line).body ≡ other =
           same_path-sound (after_line x at.head.line).body other
           (and_parts (is_header at.head.line.content) (same_path (after_line x at.head.line).body other)
-          (subst (λ (l : Ended). begins other x l.line ≡ true) (sym f)
+          (subst (λ (l : Ended). begins other x l.line ≡ true) (sym g)
           (subst (λ (es : List Ended). begins other (reading_after_lines start (map line_of es)) k.head.line ≡ true)
           (sym e) k.passes))).1 in
           absurd (differs (mine ∙ theirs))

@@ -62,7 +62,7 @@ taken_depth path n gap (entry name body nested after (Some next_gap) (entry name
     (same_path (step n name) path) (is_last_named path (n + 1) (entry name' body' nested' after' comma' rest'))
     (taken_depth path (n + 1) next_gap (entry name' body' nested' after' comma' rest'))
 
-removal_depth : (path : List Part) (body : Body) (es : Entries)
+pub removal_depth : (path : List Part) (body : Body) (es : Entries)
     → EachTo (NoDeeper (record { body = body; nested = es })) (removal path (record { body = body; nested = es }))
 removal_depth path (scalar w) es = tt
 removal_depth path (array first) es =

@@ -15,13 +15,14 @@ use Rattle.keep_syntax.specs.Tree.{Written, Gap, Key, Content, blank, keyval, he
 use Rattle.keep_path.specs.Path.{Part, same_path}
 use Rattle.keep_meaning.specs.Marks.{MentionKind, past, begun, passed, element as kinds_element, Mention, fact_of}
 use Rattle.keep_meaning.specs.Marks.{Reading, start, elements_of, header_path, header_prefixes}
-use Rattle.keep_meaning.specs.Meaning.{key_value, further_value, keys_of, lines_mentions, reading_after_lines, lines}
-use Rattle.keep_meaning.specs.Meaning.{mentions_in}
+use Rattle.keep_meaning.specs.Meaning.{key_value, further_value, keys_of, after_line, lines_mentions}
+use Rattle.keep_meaning.specs.Meaning.{reading_after_lines, lines, mentions_in}
 use Rattle.keep_meaning.specs.Nodes.{has, is_begun, is_passed}
 use Rattle.keep_edit_spec.specs.Look.{strip}
 use Rattle.keep_edit_spec.specs.Lines.{drop_lines, last_line, begins, body_length}
 use Rattle.keep_edit_spec.specs.Edits.{remove, without_lines}
 use Rattle.keep_edit_spec.specs.Trees.{IsTreeOf}
+use Rattle.keep_edit_spec.proofs.Common.HeadersGo.{Goes, goes_bodies}
 use Rattle.keep_edit_spec.proofs.Common.Runs.{AllOf, SomeOf, pairs_split, all_left, all_right, all_join, Allowed, Rules}
 use Rattle.keep_edit_spec.proofs.Common.Runs.{kinds_allow, same_path-sound, same_path-refl, strip-append}
 use Rattle.keep_edit_spec.proofs.Common.SetLaw.{EachTo}
@@ -119,19 +120,25 @@ regroup_two : (left prefixes run right : List Mention) (d m : Mention)
     → left ++ (((prefixes ++ d ∷ []) ++ (m ∷ run)) ++ right) ≡ (left ++ prefixes) ++ (d ∷ ((m ∷ run) ++ right))
 regroup_two left prefixes run right d m = simp append_assoc refl
 
-record IsElementCut (p : List Part) (f : List Part → List Part) (from to : List Mention) : Type 0 where
-  mid : List Mention
-  cut : IsCut p from mid
-  is : to ≡ map (moved f) mid
+-- Of the lines before the element and of those after it, with what they say, the paths go where that function takes
+-- them.
+pub record IsElementCut (p : List Part) (f : List Part → List Part) (from to : List Mention) (r u : Reading)
+    (pre rest : List Line) : Type 0 where
+  pub mid : List Mention
+  pub cut : IsCut p from mid
+  pub is : to ≡ map (moved f) mid
+  pub before : Goes (λ q. strip p q ≡ None) f start start pre
+  pub behind : Goes (λ q. strip p q ≡ None) f r u rest
 
-element_cut : (pre post : List Line) (l : Line) (b : Gap) (k : Key) (a : Gap) → l.content ≡ element b k a
+pub element_cut : (pre post : List Line) (l : Line) (b : Gap) (k : Key) (a : Gap) → l.content ≡ element b k a
     → (let r : Reading = reading_after_lines start pre in
     let prefix : List Part = header_path r.tables [] (keys_of k) in
     let n : ℕ = elements_of prefix r.tables in
     Rules (lines_mentions start (pre ++ l ∷ post))
     → has is_passed (element_at prefix n) (lines_mentions start (pre ++ l ∷ post)) ≡ false
     → IsElementCut (element_at prefix n) (shifted prefix n) (lines_mentions start (pre ++ l ∷ post))
-    (lines_mentions start pre ++ lines_mentions r (drop (body_length post) post)))
+    (lines_mentions start pre ++ lines_mentions r (drop (body_length post) post)) (after_line r l) r pre
+    (drop (body_length post) post))
 element_cut pre post l b k a e rules free =
     let r : Reading = reading_after_lines start pre in
     let prefix : List Part = header_path r.tables [] (keys_of k) in
@@ -209,20 +216,26 @@ element_cut pre post l b k a e rules free =
       is = ap (λ x. left ++ x) ((body_is r post).further [] ∙ two.mentioned)
           ∙ ap (λ x. x ++ map (moved (shifted prefix n)) right) one.mentioned
           ∙ sym (map-append (moved (shifted prefix n)) left right);
+      before = one.go;
+      behind =
+          subst (λ (x : Reading). Goes (λ q. strip p q ≡ None) (shifted prefix n) x r rest)
+          (sym (ap (λ (c : Content).
+          after_line r (record { before = l.before; content = c; after = l.after; comment = l.comment })) e))
+          (goes_bodies (λ q. strip p q ≡ None) (shifted prefix n) p r.body outer less rest two.go);
     }
 
 -- ---- in the document
 
 -- the line that begins the element of the path
-record IsElementLine (r : Reading) (path : List Part) (c : Content) : Type 0 where
-  before : Gap
-  keys : Key
-  after : Gap
-  was : c ≡ element before keys after
-  place : element_at (header_path r.tables [] (keys_of keys))
+pub record IsElementLine (r : Reading) (path : List Part) (c : Content) : Type 0 where
+  pub before : Gap
+  pub keys : Key
+  pub after : Gap
+  pub was : c ≡ element before keys after
+  pub place : element_at (header_path r.tables [] (keys_of keys))
       (elements_of (header_path r.tables [] (keys_of keys)) r.tables) ≡ path
 
-begins_element : (path : List Part) (r : Reading) (before after : Gap) (comment : Option Written) (c : Content)
+pub begins_element : (path : List Part) (r : Reading) (before after : Gap) (comment : Option Written) (c : Content)
     → (EndsInKey path → ⊥)
     → begins path r (record { before = before; content = c; after = after; comment = comment }) ≡ true
     → IsElementLine r path c

@@ -185,7 +185,7 @@ by_leaf : (l : Leaf) (t : List ℕ) → IsTrue (is_ws_leaf l) → IsLeaf Strict 
 by_leaf leaf.Ws t e i = i.1
 by_leaf _ t e i = absurd cc
 
-all_prefix : (g : Gap) → IsBlank g → IsTrue (list_all is_ws (text_of (prefix_ws g)))
+pub all_prefix : (g : Gap) → IsBlank g → IsTrue (list_all is_ws (text_of (prefix_ws g)))
 all_prefix [] h = refl
 all_prefix (w ∷ g) h = by (is_ws_leaf w.leaf) refl
   where
@@ -205,7 +205,7 @@ not_false : (b : Bool) → IsTrue (not b) → b ≡ false
 not_false false h = refl
 not_false true h = absurd cc
 
-past_stops : (g : Gap) (x : List ℕ) → IsBlank g → is_solid (first x) ≡ true
+pub past_stops : (g : Gap) (x : List ℕ) → IsBlank g → is_solid (first x) ≡ true
     → is_ws (first (text_of (past_ws g) ++ x)) ≡ false
 past_stops [] x h solid = solid_no_ws (first x) solid
 past_stops (w ∷ g) x h solid = by (is_ws_leaf w.leaf) refl

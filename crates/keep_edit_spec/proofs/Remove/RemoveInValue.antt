@@ -53,7 +53,7 @@ pub record IsItemOut (n : ℕ) (from to : Entries) : Type 0 where
   pub stays : map (moved (down n)) before ≡ before
   pub disjoint : AllOf (IsDisjoint (index n ∷ [])) before
 
-item_out : (path : List Part) (from to : Entries) → (t : IsOut path 0 from to) → t.name ≡ None
+pub item_out : (path : List Part) (from to : Entries) → (t : IsOut path 0 from to) → t.name ≡ None
     → Rules (entries_mentions 0 from) → IsItemOut t.number from to
 item_out path from to t e rules = record {
   before = t.before;

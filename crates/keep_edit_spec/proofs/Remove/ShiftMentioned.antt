@@ -9,7 +9,8 @@
 -- induction over the lines.
 --
 -- Theorem: `lines_shift`.
-use Rattle.std.proofs.Common.{◌≡◌, ℕ, ◌≤◌, List, [], ◌∷◌, ◌++◌, map, refl, sym, ap, subst, ◌∙◌, arith, Option, inl, inr}
+use Rattle.std.proofs.Common.{◌≡◌, ℕ, ◌≤◌, List, [], ◌∷◌, ◌++◌, map, refl, sym, ap, subst, ◌∙◌, arith, Option, None}
+use Rattle.std.proofs.Common.{inl, inr}
 use Rattle.std.proofs.lemmas.List.{map-append}
 use Rattle.keep_syntax.specs.Tree.{Written, Gap, Content, blank, keyval, header, element, Line}
 use Rattle.keep_path.specs.Path.{Part, index}
@@ -17,6 +18,8 @@ use Rattle.keep_meaning.specs.Marks as marks_of
 use Rattle.keep_meaning.specs.Marks.{define, begun, Mention, Reading, elements_of, header_path, header_prefixes}
 use Rattle.keep_meaning.specs.Meaning.{keys_of, keyval_mentions, line_mentions, after_line, lines_mentions}
 use Rattle.keep_meaning.specs.Meaning.{reading_after_lines}
+use Rattle.keep_edit_spec.specs.Look.{strip}
+use Rattle.keep_edit_spec.proofs.Common.HeadersGo.{Goes}
 use Rattle.keep_edit_spec.proofs.Common.Runs.{AllOf, all_left, all_right, all_join, all_map, IsDisjoint}
 use Rattle.keep_edit_spec.proofs.Common.LineLaws.{EndsInKey}
 use Rattle.keep_edit_spec.proofs.Common.Moves.{moved}
@@ -146,13 +149,14 @@ pub record AreLinesShift (prefix : List Part) (n : ℕ) (r u : Reading) (ls : Li
   pub mentioned : lines_mentions u ls ≡ map (moved (shifted prefix n)) (lines_mentions r ls)
   pub preserved : AllOf (IsDisjoint (element_at prefix n)) (lines_mentions r ls)
   pub next : AreShifted prefix n (reading_after_lines r ls) (reading_after_lines u ls)
+  pub go : Goes (λ q. strip (element_at prefix n) q ≡ None) (shifted prefix n) r u ls
 
 -- Lines that begin elements only with lesser numbers, or only with greater ones.
 pub lines_shift : (prefix : List Part) → EndsInKey prefix → (n : ℕ) (r u : Reading) (ls : List Line)
     → AreShifted prefix n r u → AllOf (IsBeside prefix n) (lines_mentions r ls)
     → IsStop n (elements_of prefix r.tables) (elements_of prefix (reading_after_lines r ls).tables)
     → AreLinesShift prefix n r u ls
-lines_shift prefix ends n r u [] h all stop = record { mentioned = refl; preserved = tt; next = h }
+lines_shift prefix ends n r u [] h all stop = record { mentioned = refl; preserved = tt; next = h; go = tt }
 lines_shift prefix ends n r u (l ∷ ls) h all stop =
     let r' : Reading = after_line r l in
     let here : List Mention = line_mentions r l in
@@ -170,4 +174,5 @@ lines_shift prefix ends n r u (l ∷ ls) h all stop =
           ∙ sym (map-append (moved (shifted prefix n)) here rest);
       preserved = all_join (IsDisjoint (element_at prefix n)) here rest one.preserved ih.preserved;
       next = ih.next;
+      go = ((λ e. (one.next.preserved, one.next.body)), ih.go);
     }

@@ -1,17 +1,18 @@
 -- Every key in UTF-8 is written as a key part that means it.
 --
--- Theorems: `key_text`: that; `key_texts`: of each key of a list.
-use Rattle.std.proofs.Common.{ℕ, Bool, true, false, cond, List, [], ◌∷◌, refl, sym, IsUtf8}
+-- Theorems: `key_text`: that; `key_texts`: of each key of a list; `one_key`: keys that are written alike are the same.
+use Rattle.std.proofs.Common.{◌≡◌, ℕ, Bool, true, false, cond, List, [], ◌∷◌, refl, sym, ap, ◌∙◌, IsUtf8}
 use Rattle.std.specs.Prelude.{IsTrue}
 use Rattle.std.specs.List.{AllByRecursion}
 use Rattle.keep_types.specs.declared.leaf.Leaf.{Leaf}
 use Rattle.keep_types.specs.declared.leaf.Leaf.TheVariants as leaf
 use Rattle.keep_types.specs.declared.leaf.Profile.{Profile}
 use Rattle.keep_types.specs.declared.leaf.Profile.TheVariants.{Strict, Wide}
-use Rattle.keep_token.specs.Encoded.{is_bare_text, encoded_key, encoded_key_leaf}
+use Rattle.keep_token.specs.Encoded.{is_bare_text, encoded_key, encoded_key_leaf, encoded_string}
 use Rattle.keep_token.specs.Leaves.{IsLeaf, is_key_leaf, is_string_leaf}
 use Rattle.keep_token.proofs.Shared.{key_is_leaf, key_means, leaf_wider, means_wider}
 use Rattle.keep_path.proofs.Shared.{text_bytes}
+use Rattle.keep_meaning.specs.Meaning.{string_value}
 use Rattle.keep_meaning.proofs.Shared.{means_value}
 use Rattle.keep_edit_spec.proofs.Common.Runs.{AllOf}
 use Rattle.keep_edit_spec.proofs.Common.NewLines.{IsKeyText}
@@ -41,3 +42,20 @@ key_text profile k utf8 = record {
 pub key_texts : (profile : Profile) (ks : List (List ℕ)) → AllByRecursion IsUtf8 ks → AllOf (IsKeyText profile) ks
 key_texts profile [] h = tt
 key_texts profile (k ∷ ks) h = (key_text profile k h.0, key_texts profile ks h.1)
+
+-- A key that is bare does not begin with a quotation mark, and otherwise what is written means the key.
+pub one_key : (a b : List ℕ) → IsUtf8 a → IsUtf8 b → encoded_key a ≡ encoded_key b → a ≡ b
+one_key a b utf8 utf8_b same =
+    by (is_bare_text a) (is_bare_text b) refl refl (key_text Wide a utf8).means (key_text Wide b utf8_b).means same
+  where
+    quoted : (k t : List ℕ) → is_bare_text k ≡ true → k ≡ encoded_string t → ⊥
+    quoted k t bare is = let no : is_bare_text (encoded_string t) ≡ true = sym (ap is_bare_text is) ∙ bare in absurd cc
+
+    by : (x y : Bool) → is_bare_text a ≡ x → is_bare_text b ≡ y
+        → string_value (cond x leaf.BareKey leaf.Basic) (cond x a (encoded_string a)) ≡ a
+        → string_value (cond y leaf.BareKey leaf.Basic) (cond y b (encoded_string b)) ≡ b
+        → cond x a (encoded_string a) ≡ cond y b (encoded_string b) → a ≡ b
+    by true true e k means means_b same = same
+    by false false e k means means_b same = sym means ∙ ap (string_value leaf.Basic) same ∙ means_b
+    by true false e k means means_b same = absurd (quoted a b e same)
+    by false true e k means means_b same = absurd (quoted b a k (sym same))

@@ -124,7 +124,7 @@ fresh_clear s path t h =
     (either_false (is_root b) (list_any (is_at b) (mentions_in s)) h.fresh)
 
 -- the two paths are not at or under one another
-other_keys : (t : List ℕ) (p b more r : List Part) → IsBeside t p b → p ++ more ≡ b ++ r → p ≡ b
+pub other_keys : (t : List ℕ) (p b more r : List Part) → IsBeside t p b → p ++ more ≡ b ++ r → p ≡ b
 other_keys t p b more r h e =
     let rest : key h.old ∷ more ≡ key t ∷ r =
     cancel h.prefix (key h.old ∷ more) (key t ∷ r)
