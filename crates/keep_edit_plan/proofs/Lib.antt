@@ -50,4 +50,14 @@ pub mod TextEditLaws
 pub mod SaidLaws
 pub mod ChangeLaws
 pub mod HolderSetLaws
+pub mod CommaGaps
+pub mod TakenEntries
+pub mod TakenValues
+pub mod KeyedEntries
+pub mod CutPlaces
+pub mod OtherKeys
+pub mod OpenKeyvalLaws
+pub mod OpenItemLaws
+pub mod OpenPutLaws
+pub mod OpenReadLaws
 pub mod Shared

@@ -16,3 +16,7 @@ pub mod Writing
 pub mod Aiming
 pub mod PutLines
 pub mod LineNumbers
+pub mod OpenValues
+pub mod TakenEntries
+pub mod OpenPlaces
+pub mod OpenKeyvals
