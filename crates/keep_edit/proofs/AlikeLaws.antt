@@ -8,11 +8,14 @@
 --
 -- Theorems: `same_takes`, `same_steps`: what is compared; `agree_before`: one step more; `begins_with`, `within`: of a
 -- path at another or below it; `none_unless`: of one that is not; `before_last`, `renamed_parts`, `renamed_alike`: of
--- paths with new keys; `read_key`: a key that is compared; `same_or_apart`: of as many keys; `paths_apart`,
--- `keys_apart`, `apart_unless_agree`: of others.
+-- paths with new keys; `take_parent`, `take_before`, `own_beside`, `own_or_apart`: of paths and what is above them;
+-- `read_key`: a key that is compared; `same_or_apart`: of as many keys; `paths_apart`, `keys_apart`,
+-- `apart_unless_agree`: of others.
 use Rattle.std.proofs.Common.{◌≡◌, ◌≢◌, ◌≤◌, ◌<◌, ◌-◌, ◌∷◌, ◌++◌, [], ℕ, zero, suc, List, length, take, drop, slice_get}
-use Rattle.std.proofs.Common.{◌↔◌, Bool, true, false, Option, Some, None, refl, sym, ap, ap₂, ◌∙◌, arith, inl, inr}
+use Rattle.std.proofs.Common.{◌↔◌, Bool, true, false, Option, Some, None, refl, sym, subst, ap, ap₂, ◌∙◌, arith}
+use Rattle.std.proofs.Common.{inl, inr}
 use Rattle.std.proofs.Common.{Global, String, get_or, map, min, option_map, string_bytes}
+use Rattle.std.specs.Prelude.{◌⊎◌}
 use Rattle.std.specs.Bool.{Decides}
 use Rattle.std.proofs.lemmas.Bool.{cases_lt}
 use Rattle.std.proofs.lemmas.List.{length-map, length-take-le, take-append-drop, take-map, take_all}
@@ -104,7 +107,7 @@ before_last (p ∷ q ∷ path) =
     ∙ ap (λ (n : ℕ). take n (p ∷ q ∷ path))
     (let e : suc (length (q ∷ path) - 1) ≡ length (p ∷ q ∷ path) - 1 = omega arith in e)
 
-length_before : (path : List Part) → length (without_last path) ≡ length path - 1
+pub length_before : (path : List Part) → length (without_last path) ≡ length path - 1
 length_before path =
     ap (λ (l : List Part). length l) (before_last path) ∙ length-take-le (length path - 1) path (omega arith)
 
@@ -138,6 +141,38 @@ renamed_alike n path other name more long wide keys = (
   λ e. (renamed_parts n path other name more long e).2,
 )
 
+one_less : (k : ℕ) (path : List Part) → suc k ≤ length path → take k path ≡ without_last (take (suc k) path)
+one_less zero [] many = refl
+one_less zero (p ∷ path) many = refl
+one_less (suc k) [] many = absurd (omega (arith, many))
+one_less (suc k) (p ∷ []) many = absurd (omega (arith, many))
+one_less (suc k) (p ∷ q ∷ path) many =
+    ap (λ (l : List Part). p ∷ l) (one_less k (q ∷ path) (omega (arith, many)))
+
+-- the first steps but the last of them
+pub take_parent : (n m : ℕ) (path : List Part) → m ≡ n - 1 → n ≤ length path → take m path ≡ without_last (take n path)
+take_parent zero m path is many =
+    let none : m ≡ 0 = omega (arith, is) in ap (λ (k : ℕ). take k path) none
+take_parent (suc n) m path is many =
+    let less : m ≡ n = omega (arith, is) in ap (λ (k : ℕ). take k path) less ∙ one_less n path many
+
+pub take_before : (n : ℕ) (path : List Part) → n < length path → take n (without_last path) ≡ take n path
+take_before zero path lt = refl
+take_before (suc n) [] lt = refl
+take_before (suc n) (p ∷ []) lt = absurd (omega (arith, lt))
+take_before (suc n) (p ∷ q ∷ path) lt =
+    ap (λ (l : List Part). p ∷ l) (take_before n (q ∷ path) (omega (arith, lt)))
+
+-- with its own key a path stays as it is
+pub own_beside : (path : List Part) (name : List ℕ) → slice_get path (length path - 1) ≡ Some (key name)
+    → beside path name ≡ path
+own_beside [] name is = absurd cc
+own_beside (p ∷ []) name is = cc
+own_beside (p ∷ q ∷ path) name is =
+    ap (λ (l : List Part). p ∷ l) (own_beside (q ∷ path) name
+    (ap (λ (n : ℕ). slice_get (p ∷ q ∷ path) n)
+    (let e : suc (length (q ∷ path) - 1) ≡ length (p ∷ q ∷ path) - 1 = omega arith in e) ∙ is))
+
 -- ---- lists of keys
 
 -- the key of this number, as it is compared
@@ -160,6 +195,22 @@ same_keys (a ∷ keys) (b ∷ more) e =
 pub none_unless : (o : Option (List Part)) → (o ≢ None → ⊥) → o ≡ None
 none_unless None h = refl
 none_unless (Some path) h = absurd (h (λ e. cc))
+
+-- A path that is not above another is that one, or that one is not below it.
+pub own_or_apart : (P : List Part → Type 0) (p path : List Part) → P p
+    → ((n : ℕ) → n ≡ length p → n < length path → ¬ P (take n path)) → (p ≡ path) ⊎ (strip p path ≡ None)
+own_or_apart P p path has lacks = by (same_path p path) refl
+  where
+    by : (b : Bool) → same_path p path ≡ b → (p ≡ path) ⊎ (strip p path ≡ None)
+    by true e = inl ((path_decides p path).0 e)
+    by false e = inr (none_unless (strip p path) (λ h.
+        (let (many, begins) = begins_with p path h in elim (cases_lt (length p) (length path)) [
+          | inl less ↦ lacks (length p) refl less (subst P (sym begins) has)
+          | inr past ↦
+              (let whole : p ≡ path = sym begins ∙ take_all (length p) path past in
+              let yes : same_path p path ≡ true = (path_decides p path).1 whole in
+              absurd cc)
+        ])))
 
 -- Keys begin with others exactly if these agree with the first of them.
 first_keys : (n : ℕ) (keys more : List (List ℕ)) → n ≡ length keys

@@ -19,6 +19,9 @@ mod KindLaws
 mod InRuns
 mod RunSteps
 mod SetAgainSteps
+mod RenameAgainSteps
 mod ItemSteps
+mod GoneLaws
 mod SectionSteps
 mod ValueAfterLaws
+mod OpenedLaws

@@ -2,12 +2,12 @@
 --
 -- By the law of runs one more such edit is not refused after those before it, and its change is put in where they move
 -- it. An edit of an entry does so as the set of its holder, which stands for it in the run. So the edits up to it are
--- made, and the text is that with one change more, which is in UTF-8 as all of its parts are. A set of a value that one
--- of them sets is not refused either, and its change comes in the place of that one's (SetAgainSteps).
+-- made, and the text is that with one change more, which is in UTF-8 as all of its parts are. A set of a value that
+-- one of them sets is not refused either, and its change comes in the place of that one's (SetAgainSteps).
 --
--- Theorems: `no_changes`, `more_changes`: before the first edit, and with one more; `all_made`: so all are made;
--- `text_utf8`: the text with the changes; `tree_of_run`: the document after a run; `run_so_far`: the run of the edits
--- so far; `unadded`, `added`: what is added to a list.
+-- Theorems: `no_changes`, `more_changes`: before the first edit, and with one more; `all_made`, `all_within`: so all
+-- are made; `text_utf8`: the text with the changes; `tree_of_run`: the document after a run; `run_so_far`: the run of
+-- the edits so far; `unadded`, `added`: what is added to a list.
 use Rattle.std.proofs.Common.{◌≡◌, ◌≢◌, ◌<◌, ◌≤◌, ◌+◌, ◌∷◌, ◌++◌, [], ℕ, zero, suc, List, length, take, drop}
 use Rattle.std.proofs.Common.{get_or, refl, sym, ap, subst, subst₂, ◌∙◌, arith, All, IsUtf8, IsCharBoundary, inl, inr}
 use Rattle.std.specs.Prelude.{◌⊎◌, Any, Bool, Err, IfOk, IsTrue, None, Ok, OnErr, Result, false, if◌then◌else◌}
@@ -29,6 +29,7 @@ use Rattle.keep_edit_spec.specs.Edits.{edited_document, place}
 use Rattle.keep_edit_spec.specs.EntryEdits.{IsRunLongerByEntry, MakesSet}
 use Rattle.keep_edit_spec.specs.Laws.{IsLawfulEdit}
 use Rattle.keep_edit_spec.specs.Refusals.{refusal}
+use Rattle.keep_edit_spec.specs.RenameLists.{AllowsKey, IsRenameIn}
 use Rattle.keep_edit_spec.specs.Runs as runs
 use Rattle.keep_edit_spec.specs.RunLists.{AreAtOnce, IsSetIn, MadeEdit, changes_of, document_after, edits_of}
 use Rattle.keep_edit_spec.specs.Runs.{ArePlain, IsBeforeHeaders, IsPlainBefore, IsRun, IsRunLonger, KeepsPlace}
@@ -43,7 +44,7 @@ use Rattle.keep_edit_plan.specs.declared.text_edit.TextEdit.{TextEdit}
 use Rattle.keep_edit.specs.Lists.{IsEdit, AreMade}
 use Rattle.keep_edit.specs.Reading.{limit, IsTextOfTree, ProfiledText}
 use Rattle.keep_edit.specs.Runs.{IsRunTo, LeavesAlone, MakeChanges, MakesInRun, MakesInRunHere, changed_text}
-use Rattle.keep_edit.specs.Runs.{IsSetBy, no_value, outlined, plain}
+use Rattle.keep_edit.specs.Runs.{IsRenamedBy, IsSetBy, no_value, outlined, plain}
 use Rattle.keep_edit.specs.declared.outline.Outline.{Outline}
 use Rattle.keep_edit.proofs.MadeMore.{more_made}
 
@@ -103,6 +104,16 @@ plain_header (law.rename p name) = refl
 plain_header (law.remove p) = refl
 plain_header (law.append_table ks) = refl
 plain_header (law.append_element ks) = refl
+
+-- What a key is allowed by does not hang on values.
+plain_allows : (path : List Part) (name : List ℕ) (e : law.Edit) → AllowsKey path name (plain e)
+    → AllowsKey path name e
+plain_allows path name (law.set p v) h = h
+plain_allows path name (law.insert p v) h = h
+plain_allows path name (law.rename p more) h = h
+plain_allows path name (law.remove p) h = h
+plain_allows path name (law.append_table ks) h = h
+plain_allows path name (law.append_element ks) h = h
 
 -- ---- new lines and headers
 
@@ -176,14 +187,14 @@ tree_of_run now before ms changes u read at_once same made =
 -- ---- one more
 
 -- what holds of all of a list holds of all before its last one, and of that
-parts : (P : Outline → Type 0) (xs : List Outline) (x : Outline) → All P (xs ++ x ∷ []) → All P xs × P x
+pub parts : (P : Outline → Type 0) (xs : List Outline) (x : Outline) → All P (xs ++ x ∷ []) → All P xs × P x
 parts P [] x h = (All-nil P, All-head P x [] h)
 parts P (y ∷ xs) x h =
     let (others, here) = parts P xs x (All-tail P y (xs ++ x ∷ []) h) in
     (All-cons P y xs (All-head P y (xs ++ x ∷ []) h) others, here)
 
 -- what holds of one of a list holds of one before its last, or of that
-one_or_more : (P : Outline → Type 0) (xs : List Outline) (x : Outline) → Any P (xs ++ x ∷ []) → Any P xs ⊎ P x
+pub one_or_more : (P : Outline → Type 0) (xs : List Outline) (x : Outline) → Any P (xs ++ x ∷ []) → Any P xs ⊎ P x
 one_or_more P [] x (zero, y, less, is, holds) = inr (subst P (sym is) holds)
 one_or_more P [] x (suc k, y, less, is, holds) = absurd (omega (arith, less))
 one_or_more P (z ∷ xs) x (zero, y, less, is, holds) = inl (0, y, omega arith, is, holds)
@@ -202,6 +213,15 @@ set_of (law.rename p name) path is = absurd cc
 set_of (law.remove p) path is = absurd cc
 set_of (law.append_table ks) path is = absurd cc
 set_of (law.append_element ks) path is = absurd cc
+
+rename_of : (e : law.Edit) (path : List Part) (name : List ℕ) → plain e ≡ law.rename path name
+    → e ≡ law.rename path name
+rename_of (law.set p v) path name is = absurd cc
+rename_of (law.insert p v) path name is = absurd cc
+rename_of (law.rename p more) path name is = is
+rename_of (law.remove p) path name is = absurd cc
+rename_of (law.append_table ks) path name is = absurd cc
+rename_of (law.append_element ks) path name is = absurd cc
 
 -- one edit more, for which another stands in the run
 record IsLonger (profile : Profile) (s : Document) (es : List law.Edit) (changes : List TextChange) (now : Document)
@@ -345,6 +365,12 @@ module _ (s : Document) (edits : List Edit) (n : ℕ) (old now : ProfiledText) (
     | inr its ↦ inl (set_of a path (plain_is ∙ its))
   ]
 
+  rename_in : (path : List Part) (name : List ℕ) → IsRenamedBy (outlines ++ o ∷ []) path name → IsRenameIn path ms
+  rename_in path name any = elim (one_or_more (λ y. outlined y ≡ law.rename path name) outlines o any) [
+    | inl earlier ↦ inr (h.renames path name earlier)
+    | inr its ↦ inl (name, rename_of a path name (plain_is ∙ its))
+  ]
+
   pub one_made_more : IsRunTo s edits (suc n) old now before (outlines ++ o ∷ []) (with_change changes c)
   one_made_more = record {
     made = made;
@@ -367,6 +393,11 @@ module _ (s : Document) (edits : List Edit) (n : ℕ) (old now : ProfiledText) (
         All-cons (λ g. runs.is_header g ≡ false) a es
         (sym (plain_header a) ∙ ap runs.is_header plain_is ∙ its) (h.headless all_before);
     sets = set_in;
+    renames = rename_in;
+    allow = λ path name all.
+        let (all_before, its) = parts (λ y. AllowsKey path name (outlined y)) outlines o all in
+        All-cons (AllowsKey path name) a es
+        (plain_allows path name a (subst (AllowsKey path name) (sym plain_is) its)) (h.allow path name all_before);
     at_once = at_once;
     changes_are = ap (λ (cs : List TextChange). with_change cs c) h.changes_are;
     tree_is = tree_of_run now before ms (with_change changes c) made.tree read at_once
@@ -393,6 +424,8 @@ no_changes edits first now = record {
     headers = λ all. All-nil (λ e. IsTrue (runs.is_header e));
     headless = λ all. All-nil (λ e. runs.is_header e ≡ false);
     sets = λ path (k, x, less, is, holds). absurd (omega (arith, less));
+    renames = λ path name (k, x, less, is, holds). absurd (omega (arith, less));
+    allow = λ path name all. All-nil (AllowsKey path name);
     at_once = tt;
     changes_are = refl;
     tree_is = refl;
@@ -427,6 +460,12 @@ pub all_made : (edits : List Edit) (first : ℕ) (now : ProfiledText) (outlines 
 all_made edits first now outlines changes so_far same there s old h =
     subst₂ (λ (n : ℕ) (cs : List TextChange). AreMade s (take n edits) old (changed_text now cs)) (sym there) (sym same)
     (so_far.made s old h).made
+
+-- And the changes are in the text.
+pub all_within : (edits : List Edit) (first : ℕ) (now : ProfiledText) (outlines : List Outline)
+    (changes : List TextChange) → {end : ℕ} {its : List TextChange}
+    → AreMadeTo edits first end now outlines changes → its ≡ changes → All (IsChangeIn now.text) its
+all_within edits first now outlines changes so_far same = subst (All (IsChangeIn now.text)) (sym same) so_far.within
 
 -- A change that is not added leaves the list as it is.
 pub unadded : (P : List TextChange → Type 0) (r : Result Bool AllocError) (old with_it now : List TextChange)

@@ -2,15 +2,16 @@
 -- alone those whose paths they are.
 --
 -- Each path has one number, so a path whose number is none of them is none of those paths. A rename of a path whose
--- number is none of them, nor that of any path above it, is at none of those paths and below none; and if the number of
--- its new path is none of them, it makes another path than those do.
+-- number is none of them, nor that of any path above it, is at none of those paths and below none; and if the number
+-- of its new path is none of them, it makes another path than those do.
 --
 -- Theorems: `text_added`: one more key; `step_more`, `step_past`, `key_more`, `all_keys`, `hashed_beside`: a hasher
 -- that is given steps; `number_added`: one more path; `none_above`: a path that does not begin with another;
--- `rename_alone`, `alone_as`: an edit that leaves alone those seen; `was_added`, `more_seen`: the edits of a list that
--- are seen.
+-- `rename_alone`, `alone_as`: an edit that leaves alone those seen; `key_allowed`, `allowed_as`: one that they allow;
+-- `was_added`, `more_seen`: the edits of a list that are seen.
 use Rattle.std.proofs.Common.{◌≡◌, ◌≤◌, ◌<◌, ◌+◌, ◌-◌, ◌==◌, ◌∷◌, ◌++◌, ◌∙◌, [], ℕ, zero, suc, All, Bool, Bor, List}
-use Rattle.std.proofs.Common.{BuildHasherDefault, FoldHasher, Global, None, Some, String, ap, arith, cond, false, fold}
+use Rattle.std.proofs.Common.{BuildHasherDefault, FoldHasher, Global, None, inl, inr, Some, String, ap, arith, cond}
+use Rattle.std.proofs.Common.{false, fold}
 use Rattle.std.proofs.Common.{get_or, length, map, option_map, refl, slice_get, string_bytes, subst, sym, take, true}
 use Rattle.std.specs.Prelude.{Err, IfOk, IsTrue, Ok, Result, bytes_eq}
 use Rattle.std.specs.Hash.FoldHasher.{initial}
@@ -25,10 +26,11 @@ use Rattle.keep_path.specs.Path.{Part, beside, key, strip, without_last}
 use Rattle.keep_edit_plan.specs.Headers.{key_texts}
 use Rattle.keep_edit.specs.declared.outline.Outline.{Outline}
 use Rattle.keep_edit.specs.declared.outline.Outline.TheVariants.{Element, Insert, Remove, Rename, Set, Table}
-use Rattle.keep_edit.specs.Runs.{LeavesAlone}
+use Rattle.keep_edit.specs.Runs.{Allows, LeavesAlone}
 use Rattle.keep_edit.specs.Seen.{HasPath, HasPathsOf, IsSeen}
 use Rattle.keep_edit.specs.declared.seen.SeenKeys.{SeenKeys}
-use Rattle.keep_edit.proofs.AlikeLaws.{before_last, begins_with, none_unless, read_key}
+use Rattle.keep_edit.proofs.AlikeLaws.{before_last, begins_with, length_before, none_unless, own_or_apart, read_key}
+use Rattle.keep_edit.proofs.AlikeLaws.{take_before}
 
 -- ---- one more key
 
@@ -144,6 +146,29 @@ module _ (seen : SeenKeys) where
   }
   rename_alone f path v name lacks new (Table ks) h = absurd h
   rename_alone f path v name lacks new (Element ks) h = absurd h
+
+  -- each of those allows the new key of a rename
+  pub key_allowed : (f path : List Part) (v name : Bor (List ℕ))
+      → ((n : ℕ) → n ≤ length (without_last path) → ¬ HasPath seen (take n (without_last path)))
+      → ¬ HasPath seen (beside path name.now)
+      → (e : Outline) → HasPathsOf seen (Rename f v) e → Allows e (Rename path name)
+  key_allowed f path v name lacks new (Insert p) h = absurd h
+  key_allowed f path v name lacks new (Remove p) h = absurd h
+  key_allowed f path v name lacks new (Set p) h = absurd h
+  key_allowed f path v name lacks new (Rename p w) (has, its) =
+      elim (own_or_apart (HasPath seen) p path has (λ n is less.
+      (let short : n ≤ length (without_last path) = omega (arith, less, length_before path) in
+      λ there. lacks n short (subst (HasPath seen) (sym (take_before n path (omega (arith, less)))) there)))) [
+        | inl same ↦ inl same
+        | inr below ↦ inr (record { below = below; new = λ same. new (subst (HasPath seen) same its) })
+      ]
+  key_allowed f path v name lacks new (Table ks) h = absurd h
+  key_allowed f path v name lacks new (Element ks) h = absurd h
+
+pub allowed_as : (seen : SeenKeys) (f x y : Outline) → seen.first ≡ f → x ≡ y
+    → ((e : Outline) → HasPathsOf seen f e → Allows e y) → (e : Outline) → IsSeen seen e → Allows e x
+allowed_as seen f x y first is all e h =
+    subst (Allows e) (sym is) (all e (subst (λ g. HasPathsOf seen g e) first h))
 
 -- ---- the edits of a list that were seen
 

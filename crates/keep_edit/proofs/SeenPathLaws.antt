@@ -7,7 +7,7 @@
 --
 -- Theorems: `numbers_kept`, `goes_on`, `all_before`, `no_key_more`: one more; `first_key`: of a header; `insert_alone`,
 -- `remove_alone`, `set_alone`, `rename_alone`, `table_alone`, `element_alone`, `alone_as`: an edit that all of those
--- leave alone; `headless`: where there is no header.
+-- leave alone; `key_allowed`, `allowed_as`: a new key that all of those allow; `headless`: where there is no header.
 use Rattle.std.proofs.Common.{◌≡◌, ◌≢◌, ◌+◌, ◌-◌, ◌<◌, ◌==◌, ◌∷◌, ◌++◌, ◌∙◌, [], ℕ, Bor, FoldHasher, Global, List}
 use Rattle.std.proofs.Common.{None, Option, Some, String, ap, arith, false, fold, inl, inr, length, map, refl}
 use Rattle.std.proofs.Common.{slice_get, string_bytes, subst, sym, take, true}
@@ -23,10 +23,11 @@ use Rattle.keep_edit_spec.specs.Runs.{AreApart, PassesBy}
 use Rattle.keep_edit_plan.specs.Headers.{key_texts}
 use Rattle.keep_edit.specs.declared.outline.Outline.{Outline}
 use Rattle.keep_edit.specs.declared.outline.Outline.TheVariants.{Element, Insert, Remove, Rename, Set, Table}
-use Rattle.keep_edit.specs.Runs.{LeavesAlone, outlined}
+use Rattle.keep_edit.specs.Runs.{Allows, LeavesAlone, outlined}
 use Rattle.keep_edit.specs.SeenPaths.{BeginsInKey, GoesOn, HasBeginning, HasEnd, HasKey, HasPath, IsSeen}
-use Rattle.keep_edit.specs.SeenPaths.{MissesNames, MissesPath, keys_hashed, keys_number, path_to, with_key}
+use Rattle.keep_edit.specs.SeenPaths.{LacksAbove, MissesNames, MissesPath, keys_hashed, keys_number, path_to, with_key}
 use Rattle.keep_edit.specs.declared.seen_paths.SeenPaths.{SeenPaths}
+use Rattle.keep_edit.proofs.AlikeLaws.{own_or_apart}
 use Rattle.keep_edit.proofs.SeenLaws.{HasNumber, Numbers, none_above, number_added, step_more, step_past}
 
 -- ---- one more
@@ -197,6 +198,27 @@ module _ (seen : SeenPaths) where
   rename_alone path name m new lacks (Table ks) (h, header) = later_name (key_texts ks.now) path name.now h m new
   rename_alone path name m new lacks (Element ks) (h, header) = later_name (key_texts ks.now) path name.now h m new
 
+  -- each of those allows the new key of a rename
+  pub key_allowed : (path : List Part) (name : Bor (List ℕ)) → LacksAbove seen path
+      → ¬ HasBeginning seen (beside path name.now) → ¬ HasKey seen name.now
+      → (e : Outline) → IsSeen seen e → Allows e (Rename path name)
+  key_allowed path name m new lacks (Insert p) (h, keys) = λ n is. lacks (keys n name.now is)
+  key_allowed path name m new lacks (Remove p) (h, keys) = λ n is. lacks (keys n name.now is)
+  key_allowed path name m new lacks (Set p) (h, keys) = λ n is. lacks (keys n name.now is)
+  key_allowed path name m new lacks (Rename p w) (h, its) =
+      let own = slice_get_within p 0 (key h.first.0) h.first.1 in
+      elim (own_or_apart (HasEnd seen) p path h.whole (λ n is less.
+      (let more : n ≡ (n - 1) + 1 = omega (arith, is, own) in
+      λ has. m (n - 1) (omega (arith, is, own, less))
+      (subst (λ (k : ℕ). HasEnd seen (take k path)) more has)))) [
+        | inl same ↦ inl same
+        | inr below ↦ inr (record { below = below; new = λ same. new (subst (HasBeginning seen) same its.1) })
+      ]
+  key_allowed path name m new lacks (Table ks) (h, header) =
+      passes_later (key_texts ks.now) (beside path name.now) h (some_pushed (without_last path) name.now) new
+  key_allowed path name m new lacks (Element ks) (h, header) =
+      passes_later (key_texts ks.now) (beside path name.now) h (some_pushed (without_last path) name.now) new
+
   pub table_alone : (more : Bor (List (String Global))) → MissesPath seen (path_to more)
       → (e : Outline) → IsSeen seen e → LeavesAlone e (Table more)
   table_alone more m (Insert p) (h, keys) = earlier (key_texts more.now) p m h
@@ -224,6 +246,10 @@ module _ (seen : SeenPaths) where
   headless none (Rename p w) h = refl
   headless none (Table ks) (h, header) = sym header ∙ none
   headless none (Element ks) (h, header) = sym header ∙ none
+
+  pub allowed_as : (x y : Outline) → x ≡ y → ((e : Outline) → IsSeen seen e → Allows e y)
+      → (e : Outline) → IsSeen seen e → Allows e x
+  allowed_as x y is all e h = subst (Allows e) (sym is) (all e h)
 
   pub alone_as : (x y : Outline) → x ≡ y → ((e : Outline) → IsSeen seen e → LeavesAlone e y)
       → (e : Outline) → IsSeen seen e → LeavesAlone e x

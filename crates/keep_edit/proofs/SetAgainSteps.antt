@@ -21,6 +21,7 @@ use Rattle.keep_edit_spec.specs.Edits.{edited_document, place}
 use Rattle.keep_edit_spec.specs.EntryEdits.{MakesSet}
 use Rattle.keep_edit_spec.specs.Laws.{IsLawfulEdit}
 use Rattle.keep_edit_spec.specs.Refusals.{refusal}
+use Rattle.keep_edit_spec.specs.RenameLists.{AllowsKey, IsRenameIn, IsRenameOf}
 use Rattle.keep_edit_spec.specs.RunLists.{IsRunSetAgain, IsSetIn, MadeEdit, changes_of, edits_of, made}
 use Rattle.keep_edit_spec.specs.Runs as runs
 use Rattle.keep_edit_spec.specs.Runs.{IsRun}
@@ -52,12 +53,23 @@ set_alone path v w (law.append_table ks) h = h
 set_alone path v w (law.append_element ks) h = h
 
 -- A value that one of them sets is set by that one or by the others.
-set_by_one : (q : List Part) (m : MadeEdit) (later earlier : List MadeEdit) → IsSetIn q (later ++ m ∷ earlier)
+pub set_by_one : (q : List Part) (m : MadeEdit) (later earlier : List MadeEdit) → IsSetIn q (later ++ m ∷ earlier)
     → ((v : Value) × (m.edit ≡ law.set q v)) ⊎ IsSetIn q (later ++ earlier)
 set_by_one q m [] earlier (inl its) = inl its
 set_by_one q m [] earlier (inr h) = inr h
 set_by_one q m (x ∷ later) earlier (inl its) = inr (inl its)
 set_by_one q m (x ∷ later) earlier (inr h) = elim (set_by_one q m later earlier h) [
+  | inl its ↦ inl its
+  | inr further ↦ inr (inr further)
+]
+
+-- So is a key that one of them renames.
+pub rename_by_one : (q : List Part) (m : MadeEdit) (later earlier : List MadeEdit)
+    → IsRenameIn q (later ++ m ∷ earlier) → IsRenameOf q m.edit ⊎ IsRenameIn q (later ++ earlier)
+rename_by_one q m [] earlier (inl its) = inl its
+rename_by_one q m [] earlier (inr h) = inr h
+rename_by_one q m (x ∷ later) earlier (inl its) = inr (inl its)
+rename_by_one q m (x ∷ later) earlier (inr h) = elim (rename_by_one q m later earlier h) [
   | inl its ↦ inl its
   | inr further ↦ inr (inr further)
 ]
@@ -182,6 +194,14 @@ module _ (s : Document) (edits : List Edit) (n : ℕ) (old now : ProfiledText) (
         | inr others ↦ inr (subst (IsSetIn q) (sym r.one.others) others)
       ]
 
+  rename_in : (q : List Part) → IsRenameIn q h.ms → IsRenameIn q ms
+  rename_in q there =
+      elim (rename_by_one q (made (law.set again.path r.value) r.c) r.one.later r.one.earlier
+      (subst (IsRenameIn q) r.one.all there)) [
+        | inl (name, same) ↦ absurd cc
+        | inr others ↦ inr (subst (IsRenameIn q) (sym r.one.others) others)
+      ]
+
   pub made_again : IsRunTo s edits (suc n) old now before outlines new
   made_again = record {
     made = all_made;
@@ -192,6 +212,8 @@ module _ (s : Document) (edits : List Edit) (n : ℕ) (old now : ProfiledText) (
     headers = λ all. all_again (λ g. IsTrue (runs.is_header g)) (λ its. its) (h.headers all);
     headless = λ all. all_again (λ g. runs.is_header g ≡ false) (λ its. its) (h.headless all);
     sets = λ q any. set_in q (h.sets q any);
+    renames = λ q name any. rename_in q (h.renames q name any);
+    allow = λ q name all. all_again (AllowsKey q name) (λ its. its) (h.allow q name all);
     at_once = r.still;
     changes_are = sym new_is;
     tree_is = tree_of_run now before ms new all_made.tree read r.still (sym new_is) all_made.read;

@@ -72,7 +72,7 @@ value_there was bytes t is start end =
 
 -- ---- the same entry
 
-keys_utf8 : (path : List Part) → AreUtf8 path → AllByRecursion IsUtf8 (keys_in path)
+pub keys_utf8 : (path : List Part) → AreUtf8 path → AllByRecursion IsUtf8 (keys_in path)
 keys_utf8 [] h = tt
 keys_utf8 (key name ∷ path) h = (h.0, keys_utf8 path h.1)
 keys_utf8 (index n ∷ path) h = keys_utf8 path h
@@ -92,7 +92,7 @@ alone_path path n part (Ok alone) utf8 few there h = record {
   utf8 = keys_utf8 path utf8;
 }
 
-one_step : (a b path : List Part) (p q : Part) → path ≡ a ++ p ∷ [] → path ≡ b ++ q ∷ [] → p ≡ q
+pub one_step : (a b path : List Part) (p q : Part) → path ≡ a ++ p ∷ [] → path ≡ b ++ q ∷ [] → p ≡ q
 one_step a b path p q here there =
     same_Some p q (sym (last_part-snoc a p) ∙ ap last_part (sym here ∙ there) ∙ last_part-snoc b q)
 

@@ -1,17 +1,20 @@
 -- Edits of a list that are made at once: each makes its change of the document before all of them.
 use Rattle.std.specs.Prelude.{◌≡◌, ◌≢◌, ◌⊎◌, ℕ, ◌+◌, Bool, true, false, if◌then◌else◌, ◌||◌, IsTrue, List, [], All}
-use Rattle.std.specs.Prelude.{Any, Option, drop, length, map, take, String, string_bytes}
+use Rattle.std.specs.Prelude.{Any, IsUtf8, Option, drop, length, map, take, String, string_bytes}
 use Rattle.std.specs.Global.{Global}
 use Rattle.std.specs.List.{list_any}
 use Rattle.keep_types.specs.declared.leaf.Profile.{Profile}
+use Rattle.keep_token.specs.Encoded.{encoded_key}
 use Rattle.keep_syntax.specs.Tree.{Document, Value, inline, none, text}
-use Rattle.keep_path.specs.Path.{Part, key, strip, without_last}
+use Rattle.keep_path.specs.Path.{Part, beside, key, strip, without_last}
 use Rattle.keep_edit_spec.specs.AddedItems.{AddsNextItem, IsItemRun, item_path}
 use Rattle.keep_edit_spec.specs.Edits as law
 use Rattle.keep_edit_spec.specs.EntryEdits.{MakesSet}
 use Rattle.keep_edit_spec.specs.Laws.{IsEditable}
 use Rattle.keep_edit_spec.specs.Look.{keys_in}
-use Rattle.keep_edit_spec.specs.RemovedSections.{IsSectionRun, RemovesSection}
+use Rattle.keep_edit_spec.specs.RemovedHeaders.{IsHeaderRun, RemovesHeader, first_path}
+use Rattle.keep_edit_spec.specs.RenameLists.{AllowsKey, IsRenameIn}
+use Rattle.keep_edit_spec.specs.RenamedKeys.{RenamesKey}
 use Rattle.keep_edit_spec.specs.Runs as runs
 use Rattle.keep_edit_spec.specs.RunLists.{AreAtOnce, IsSetIn, MadeEdit, changes_of, document_after, edits_of}
 use Rattle.keep_edit_spec.specs.Runs.{LetsCome, MakesChange, takes_up_to}
@@ -20,6 +23,7 @@ use Rattle.keep_edit_spec.specs.TextChanges.{TextChange, change_at, text_with}
 use Rattle.keep_edit_plan.specs.Headers.{key_texts}
 use Rattle.keep_edit_plan.specs.TextEdits.{HasChange, change_of}
 use Rattle.keep_edit.specs.Answers.{IsSpanOf}
+use Rattle.keep_edit.specs.Gone.{IsGoneWith}
 use Rattle.keep_edit.specs.Lists.{AreMade, IsEdit}
 use Rattle.keep_edit.specs.Reading.{IsTextOfTree, ProfiledText, limit, text_in}
 use Rattle.keep_edit_plan.specs.declared.edit.Edit.{Edit}
@@ -61,6 +65,14 @@ outlined (kind.Element keys) = law.append_element (key_texts keys.now)
 -- The first edit leaves the second alone, which comes after it.
 abbrev pub LeavesAlone : Outline → Outline → Type 0
 LeavesAlone x y = runs.LeavesAlone (outlined x) (outlined y)
+
+-- The second edit is a rename, to a key that the first one allows.
+abbrev pub AllowsRename : law.Edit → law.Edit → Type 0
+AllowsRename e (law.rename path name) = AllowsKey path name e
+AllowsRename e f = ⊥
+
+abbrev pub Allows : Outline → Outline → Type 0
+Allows x y = AllowsRename (outlined x) (outlined y)
 
 -- the edit writes a line or a header with a newline of its own
 abbrev pub writes_anew : Outline → Bool
@@ -113,6 +125,10 @@ pub record MakesInRunHere (now : ProfiledText) (x : Edit) (outline : law.Edit) (
 abbrev pub IsSetBy : List Outline → List Part → Type 0
 IsSetBy outlines path = Any (λ o. outlined o ≡ law.set path no_value) outlines
 
+-- One of the edits with these outlines renames the key of that path to this one.
+abbrev pub IsRenamedBy : List Outline → List Part → List ℕ → Type 0
+IsRenamedBy outlines path name = Any (λ o. outlined o ≡ law.rename path name) outlines
+
 -- One of the changes has the place of this one, and writes the text of a value. Where that is a value's text and this
 -- change sets the value, the edit is of an entry of it and makes what the set makes.
 pub record MakesOfEarlier (profile : Profile) (changes : List TextChange) (e : law.Edit) (path : List Part)
@@ -135,6 +151,22 @@ pub record SetsAgainHere (now : ProfiledText) (x : Edit) (outlines : List Outlin
   pub sets : (s : Document) → IsTextOfTree now s → SetsValue now.profile limit s path value (change_of t)
   pub within : IsSpanOf now.text t.place
 
+-- The edit renames a key to which one of these changes renames another, as an edit with one of these outlines does.
+-- This change of the document of this text renames that other key so; that is what the outline says.
+pub record RenamesAgainHere (now : ProfiledText) (x : Edit) (outlines : List Outline) (changes : List TextChange)
+    (o : Outline) (t : TextEdit) : Type 0 where
+  pub path : List Part
+  pub name : List ℕ
+  pub more : List ℕ
+  pub is : IsEdit x (law.rename (beside path name) more)
+  pub outline_is : outlined o ≡ law.rename path more
+  pub utf8 : IsUtf8 name
+  pub other : name ≢ more
+  pub already : IsRenamedBy outlines path name
+  pub wrote : HasChange changes (change_at (change_of t).at (change_of t).size (encoded_key name))
+  pub renames : (s : Document) → IsTextOfTree now s → RenamesKey now.profile limit s path more (change_of t)
+  pub within : IsSpanOf now.text t.place
+
 -- With the edits up to number `end` made, this is the text with the changes. It is known of the document that it is
 -- after a list of edits that are made at once, which leave alone what each of these outlines does.
 pub record IsRunTo (s : Document) (edits : List Edit) (end : ℕ) (old now : ProfiledText) (before : Document)
@@ -150,6 +182,9 @@ pub record IsRunTo (s : Document) (edits : List Edit) (end : ℕ) (old now : Pro
   pub headless : All (λ x. runs.is_header (outlined x) ≡ false) outlines
       → All (λ e. runs.is_header e ≡ false) (edits_of ms)
   pub sets : (path : List Part) → IsSetBy outlines path → IsSetIn path ms
+  pub renames : (path : List Part) (name : List ℕ) → IsRenamedBy outlines path name → IsRenameIn path ms
+  pub allow : (path : List Part) (name : List ℕ) → All (λ x. AllowsKey path name (outlined x)) outlines
+      → All (AllowsKey path name) (edits_of ms)
   pub at_once : AreAtOnce now.profile limit before ms
   pub changes_are : changes_of ms ≡ changes
   pub tree_is : document_after before ms ≡ made.tree
@@ -173,19 +208,26 @@ pub record IsItemRunTo (s : Document) (edits : List Edit) (first end : ℕ) (old
   pub made : AreMade s (take end edits) old (changed_text now texts)
   pub run : IsItemRun now.profile limit before array n at texts made.tree
 
--- ---- tables
+-- ---- tables and elements
 
--- The edit is the remove of a table that a header defines, and takes this from the document of this text: the header
--- with its body.
-pub record RemovesSectionHere (now : ProfiledText) (edit : Edit) (t : TextEdit) : Type 0 where
+-- The edit is the remove of a table or an element, after those at these paths were removed. It takes this from the
+-- document of this text: the header with its body, which are at another path there. After it the paths lead back to
+-- that document by `next`.
+pub record RemovesHeaderHere (now : ProfiledText) (gone next : List (List Part)) (edit : Edit) (t : TextEdit)
+    : Type 0 where
   pub path : List Part
   pub is : IsEdit edit (law.remove path)
-  pub removes : (s : Document) → IsTextOfTree now s → RemovesSection now.profile limit s path (change_of t)
+  pub removes : (s : Document) → IsTextOfTree now s
+      → RemovesHeader now.profile limit s (first_path gone path) (change_of t)
+  pub gone_with : IsGoneWith gone path next
   pub within : IsSpanOf now.text t.place
 
 -- The edits from number `first` up to number `end` are made, on a document in which those before are: they are removes
--- of tables, and each takes its bytes of that document.
-pub record IsSectionRunTo (s : Document) (edits : List Edit) (first end : ℕ) (old now : ProfiledText)
-    (before : Document) (changes : List TextChange) : Type 0 where
+-- of tables and elements at the paths `all`, and each takes its bytes of that document. Paths lead back to it by `gone`
+-- alone.
+pub record IsHeaderRunTo (s : Document) (edits : List Edit) (first end : ℕ) (old now : ProfiledText)
+    (before : Document) (gone : List (List Part)) (changes : List TextChange) : Type 0 where
   pub made : AreMade s (take end edits) old (changed_text now changes)
-  pub run : IsSectionRun now.profile limit before changes made.tree
+  pub all : List (List Part)
+  pub run : IsHeaderRun now.profile limit before all changes made.tree
+  pub leads : (q : List Part) → first_path all q ≡ first_path gone q

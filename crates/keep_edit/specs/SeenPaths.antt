@@ -1,5 +1,5 @@
 -- Paths of edits of any kinds that are made at once, by which most are known to leave alone those before them.
-use Rattle.std.specs.Prelude.{◌≡◌, ℕ, ◌+◌, ◌<◌, ◌==◌, IsTrue, List, Some, String, bytes_eq, fold, length, map}
+use Rattle.std.specs.Prelude.{◌≡◌, ℕ, ◌+◌, ◌-◌, ◌<◌, ◌==◌, IsTrue, List, Some, String, bytes_eq, fold, length, map}
 use Rattle.std.specs.Prelude.{slice_get, take, true}
 use Rattle.std.specs.Borrow.{Bor}
 use Rattle.std.specs.Global.{Global}
@@ -90,6 +90,10 @@ pub record MissesPath (seen : SeenPaths) (path : List Part) : Type 0 where
   pub first : BeginsInKey path
   pub lacks : ¬ HasBeginning seen path
   pub all : (n : ℕ) → n < length path → ¬ HasEnd seen (take (n + 1) path)
+
+-- none of those is above the path
+abbrev pub LacksAbove : SeenPaths → List Part → Type 0
+LacksAbove seen path = (n : ℕ) → n < length path - 1 → ¬ HasEnd seen (take (n + 1) path)
 
 -- none of its keys is a new one
 abbrev pub MissesNames : SeenPaths → List Part → Type 0

@@ -27,6 +27,10 @@ pub record MakesValue (profile : Profile) (was : List ℕ) (x : Edit) (new : Lis
       → IsEditable profile limit u → SetsValue profile limit u path value d → take d.size (drop d.at (text u)) ≡ was
       → MakesSet profile limit u edit path value d
 
+-- a path with that last step
+abbrev pub EndsInStep : List Part → Part → Type 0
+EndsInStep path part = (before : List Part) × (path ≡ before ++ part ∷ [])
+
 -- ---- in a document that has no more than the value
 
 -- A path of an entry, with its keys in UTF-8, and that of the entry with the same last step in the value at the root's

@@ -36,7 +36,7 @@ pub fn is_same(path: &Steps, other: &Steps) -> bool
 }
 
 /// Whether a path is at another or below it.
-fn is_within(path: &Steps, above: &Steps) -> bool
+pub fn is_within(path: &Steps, above: &Steps) -> bool
     ensures { Decides result (strip above.now path.now ≢ None) }
 {
     above.len() <= path.len() && agree(path, above, above.len())
@@ -48,6 +48,16 @@ fn is_renamed_alike(path: &Steps, key: &str, other: &Steps, other_key: &str) -> 
 {
     let parents = path.len().saturating_sub(1);
     key == other_key && parents == other.len().saturating_sub(1) && agree(path, other, parents)
+}
+
+/// Whether a path is the new one of a rename.
+pub fn is_new_path(path: &Steps, first: &Steps, name: &str) -> bool
+    ensures { IsTrue result → beside first.now name.now ≡ path.now }
+{
+    let Some(Step::Key(own)) = path.step(path.len().saturating_sub(1)) else {
+        return false;
+    };
+    is_renamed_alike(first, name, path, own.as_str())
 }
 
 /// Whether a rename of the second path can be made as if the first were not renamed before it.

@@ -4,10 +4,12 @@ ghost use Rattle.std.specs.Bool.{Decides};
 ghost use Rattle.keep_edit_spec.specs.Runs.{IsPlain};
 ghost use Rattle.keep_edit_spec.specs.TextChanges.{IsBeside, with_change};
 ghost use Rattle.keep_edit_plan.specs.TextEdits.{HasChange, IsOrdered, IsReplaced, change_of};
-ghost use Rattle.keep_edit.specs.Runs.{IsSetBy};
+ghost use Rattle.keep_path.specs.Path.{beside};
+ghost use Rattle.keep_edit.specs.Runs.{IsRenamedBy, IsSetBy};
 
-use crate::alike::is_same;
+use crate::alike::{is_new_path, is_same};
 use crate::outline::{Outline, Steps};
+use crate::seen::{number_beside, number_of};
 use keep_edit_plan::{TextEdit, TextEdits};
 use memchr::memchr;
 use std::alloc::Global;
@@ -30,6 +32,8 @@ pub struct AtOnce<'a> {
     pub are_plain: bool,
     /// The number of the outline whose change begins at a byte. It only tells where to look.
     numbers: HashMap<usize, usize>,
+    /// The same of the rename whose new path has a number.
+    renames: HashMap<u64, usize>,
 }
 
 /// Whether a text has no carriage return.
@@ -49,6 +53,7 @@ impl<'a> AtOnce<'a> {
             changes: TextEdits::new(alloc),
             are_plain: true,
             numbers: HashMap::new(alloc),
+            renames: HashMap::new(alloc),
         }
     }
 
@@ -78,6 +83,21 @@ impl<'a> AtOnce<'a> {
         self.changes.beginning_at(start)
     }
 
+    /// The path and the new key of one of these edits, if it is known to be a rename of which a path is the new one.
+    pub fn renaming(&self, path: &Steps) -> Option<(Steps<'a>, &'a str)>
+        ensures by { IfSome result (λ first. IsRenamedBy self.now.outlines.items first.0 first.1.now) }
+        ensures new { IfSome result (λ first. beside first.0 first.1.now ≡ path.now) }
+    {
+        let number = *self.renames.get(&number_of(path))?;
+        let Outline::Rename(first, name) = self.outlines.get(number)? else {
+            return None;
+        };
+        if !is_new_path(path, first, name) {
+            return None;
+        }
+        Some((first.same(), *name))
+    }
+
     /// Puts a change in the place of one that replaces the same bytes. Returns whether there is one; if not, nothing
     /// has changed.
     pub fn overwrite(&mut self, change: TextEdit) -> bool
@@ -95,6 +115,40 @@ impl<'a> AtOnce<'a> {
         true
     }
 
+    /// Adds an edit that comes in the place of another, with its change in the place of that one's. Returns whether it
+    /// does; if not, no change has come in the place of one.
+    pub fn rename(&mut self, outline: Outline<'a>, change: TextEdit) -> bool
+        ensures changes { IsTrue result → IsReplaced self.old.changes (change_of change) self.new.changes }
+        ensures outlines { IsTrue result → self.new.outlines.items ≡ self.old.outlines.items ++ outline.entry ∷ [] }
+        ensures plain { IsTrue result → self.new.are_plain ≡ true
+            → (self.old.are_plain ≡ true) × IsPlain (string_bytes change.new) }
+        ensures refused { result ≡ false → self.new.changes ≡ self.old.changes }
+    {
+        if !self.add_outline(outline) {
+            return false;
+        }
+        self.overwrite(change)
+    }
+
+    /// Adds what an edit does. Returns whether it was added; it is not where memory is refused.
+    fn add_outline(&mut self, outline: Outline<'a>) -> bool
+        ensures outlines { IsTrue result → self.new.outlines.items ≡ self.old.outlines.items ++ outline.entry ∷ [] }
+        ensures changes { self.new.changes ≡ self.old.changes }
+        ensures plain { self.new.are_plain ≡ self.old.are_plain }
+    {
+        if let Outline::Rename(path, key) = &outline {
+            let number = self.outlines.len();
+            if self
+                .renames
+                .insert(number_beside(path, key), number)
+                .is_err()
+            {
+                return false;
+            }
+        }
+        self.outlines.push(outline).is_ok()
+    }
+
     /// Adds an edit. Returns whether it was added: one whose change overlaps another is not, nor is any where memory is
     /// refused. Then no change was added.
     pub fn add(&mut self, outline: Outline<'a>, change: TextEdit) -> bool
@@ -108,7 +162,7 @@ impl<'a> AtOnce<'a> {
     {
         let start = change.place.start;
         let number = self.outlines.len();
-        if self.numbers.insert(start, number).is_err() || self.outlines.push(outline).is_err() {
+        if self.numbers.insert(start, number).is_err() || !self.add_outline(outline) {
             return false;
         }
         self.are_plain = self.are_plain && is_plain(change.new.as_str());

@@ -1,11 +1,12 @@
 //! What edits do, as far as it tells which others they leave alone.
-ghost use Rattle.std.specs.Prelude.{◌≡◌, length, option_copied, option_map, slice_get};
+ghost use Rattle.std.specs.Prelude.{◌≡◌, ◌↔◌, ℕ, IfSome, Some, length, option_copied, option_map, slice_get};
 ghost use Rattle.keep_edit.specs.Runs.{outline, outlined, writes_anew};
-ghost use Rattle.keep_path.specs.Path.{without_last};
+ghost use Rattle.keep_path.specs.Path.{index, without_last};
 ghost use Rattle.keep_path.specs.Step.{part_of};
 
-use keep_edit_plan::Edit;
+use keep_edit_plan::{Edit, first_steps};
 use keep_rules::{Path, Step};
+use std::alloc::Global;
 use std::marker::Model;
 
 /// No edit of a longer path, in bytes, is made at once with others where its path is compared, so that this takes no
@@ -69,9 +70,46 @@ impl<'a> Steps<'a> {
         }
     }
 
+    /// The same steps.
+    pub fn same(&self) -> Steps<'a>
+        ensures { result ≡ self.now }
+    {
+        Steps {
+            path: self.path,
+            count: self.count,
+        }
+    }
+
+    /// All of these but the last.
+    pub fn parent(&self) -> Steps<'a>
+        ensures { result ≡ without_last self.now }
+    {
+        Steps {
+            path: self.path,
+            count: self.count.saturating_sub(1),
+        }
+    }
+
+    /// A path of these steps; None where memory was refused.
+    pub fn to_path(&self, alloc: Global) -> Option<Path>
+        ensures { IfSome result (λ path. path ≡ self.now) }
+    {
+        first_steps(alloc, self.path, self.count).ok()
+    }
+
     /// Whether their path would take long to compare with others.
     pub fn are_long(&self) -> bool {
         self.path.encoded_len() > LONGEST_PATH
+    }
+}
+
+/// The number that is the step of a path with that number; None where another step is there, or none.
+pub fn index_at(path: &Path, number: usize) -> Option<usize>
+    ensures { (n : ℕ) → (result ≡ Some n) ↔ (slice_get path.now number ≡ Some (index n)) }
+{
+    match path.step(number)? {
+        Step::Key(_) => None,
+        Step::Index(n) => Some(*n),
     }
 }
 

@@ -1,28 +1,34 @@
 //! Edits of a list in their order. Where many come in a row that each make their change elsewhere, and leave one
 //! another alone, they are made at once: each is known by the document before all of them.
-ghost use Rattle.std.specs.Prelude.{◌≡◌, ◌+◌, ◌++◌, ◌∷◌, ◌<◌, ◌≤◌, ◌↔◌, [], ℕ, All, IfErr, IfOk, IfSome, IsTrue};
-ghost use Rattle.std.specs.Prelude.{List, MatchResult, Some, length, slice_get, take, true};
+ghost use Rattle.std.specs.Prelude.{◌≡◌, ◌+◌, ◌++◌, ◌∷◌, ◌<◌, ◌≤◌, [], ℕ, All, IfErr, IfOk, IfSome, IsTrue};
+ghost use Rattle.std.specs.Prelude.{List, MatchResult, Some, length, take, true};
 ghost use Rattle.std.specs.Bool.{Decides};
 ghost use Rattle.keep_syntax.specs.Tree as tree;
 ghost use Rattle.keep_edit.specs.Lists.{AreMade, StopsAt};
-ghost use Rattle.keep_edit.specs.Reading.{ProfiledText};
+ghost use Rattle.keep_edit.specs.Answers.{IsSpanOf};
+ghost use Rattle.keep_edit.specs.Reading.{IsTextOfTree, ProfiledText, limit};
 ghost use Rattle.keep_edit.specs.Runs.{AddsItemHere, IsPlaceKept, MakeChanges, MakesInRunHere};
-ghost use Rattle.keep_edit.specs.Runs.{RemovesSectionHere, SetsAgainHere, changed_text, outline};
-ghost use Rattle.keep_edit_plan.specs.TextEdits.{IsChangeIn};
+ghost use Rattle.keep_edit.specs.Runs.{RemovesHeaderHere, SetsAgainHere, changed_text, outline};
+ghost use Rattle.keep_edit.specs.ValueAfter.{MakesValue};
+ghost use Rattle.keep_edit_plan.specs.TextEdits.{IsChangeIn, change_of};
 ghost use Rattle.keep_edit_spec.specs.AddedItems.{item_path};
-ghost use Rattle.keep_path.specs.Path.{Part, index};
+ghost use Rattle.keep_edit_spec.specs.RemovedHeaders.{RemovesHeader, first_path};
+ghost use Rattle.keep_path.specs.Path.{Part};
 
 use crate::alike::{agree, is_same, leave_alone_within};
 use crate::at_once::{AtOnce, Run, is_plain};
 use crate::document::Document;
-use crate::outline::{Outline, Steps};
+use crate::gone::GoneElements;
+use crate::opened::OpenValues;
+use crate::outline::{Outline, Steps, index_at};
 use crate::seen::SeenKeys;
 use crate::seen_paths::SeenPaths;
 use crate::value_after::value_after;
 use keep_edit_plan::{Edit, TextEdit, TextEdits, first_steps};
 use keep_edit_spec::EditFault;
-use keep_rules::{Origin, Path, Step, ValueText};
+use keep_rules::{Origin, Path, ValueText};
 use keep_syntax::Span;
+use memchr::memchr;
 use std::alloc::Global;
 
 /// No more edits than these are made at once.
@@ -32,7 +38,8 @@ const MOST_AT_ONCE: usize = 1000;
 const PAIRS: usize = 5000;
 /// What it takes to read a text anew, in parts of it.
 const READING: usize = 1000;
-/// A value of no more bytes is read anew for each edit of an entry of it, whatever the length of the text.
+/// A value of no more bytes is read anew for an edit of an entry of it where the entries' places don't tell what it
+/// makes, whatever the length of the text.
 const SHORT_VALUE: usize = 1000;
 
 /// Whether the second edit is there, and both are inserts or removes whose paths differ in their last step alone. Of
@@ -56,16 +63,6 @@ fn holder_path(alloc: Global, path: &Path) -> Option<Path>
         return None;
     }
     first_steps(alloc, path, len - 1).ok()
-}
-
-/// The number that is the step of a path with that number; None where another step is there, or none.
-fn index_at(path: &Path, number: usize) -> Option<usize>
-    ensures { (n : ℕ) → (result ≡ Some n) ↔ (slice_get path.now number ≡ Some (index n)) }
-{
-    match path.step(number)? {
-        Step::Key(_) => None,
-        Step::Index(n) => Some(*n),
-    }
 }
 
 /// Whether a path is that of the item so many numbers after the one of another path, in the same array.
@@ -172,9 +169,9 @@ impl Document {
     }
 
     /// What it takes to make an edit alone, in parts of what it takes to read the text anew: that takes as long as two
-    /// removes of tables with their headers, as 12 to 24 inserts, other removes or sets of a list, and as 27 renames or
-    /// sets of a scalar at 10 KB, 88 at 100 KB and some 190 from 256 KB on; new headers are so cheap that they are
-    /// worth it in small texts alone.
+    /// removes of tables or elements with their headers, as 12 to 24 inserts, other removes or sets of a list, and as
+    /// 27 renames or sets of a scalar at 10 KB, 88 at 100 KB and some 190 from 256 KB on; new headers are so cheap that
+    /// they are worth it in small texts alone.
     fn part_of_reading(&self, edit: &Edit) -> usize {
         let len = self.text.len();
         let as_many = match edit {
@@ -187,10 +184,13 @@ impl Document {
         READING / as_many
     }
 
-    /// Whether a header defines the table at a path.
+    /// Whether a header defines the table at a path, or begins the element there.
     fn has_header(&self, path: &Path) -> bool {
         match self.index.find(path) {
-            Some(id) => matches!(self.index.node(id).origin, Origin::Header(_)),
+            Some(id) => matches!(
+                self.index.node(id).origin,
+                Origin::Header(_) | Origin::Element(_)
+            ),
             None => false,
         }
     }
@@ -230,7 +230,7 @@ impl Document {
     }
 
     /// The same as far as they are of several kinds, if the first is known to leave others alone; else as far as they
-    /// remove tables with their headers.
+    /// remove tables and elements with their headers.
     fn others_by(&self, edits: &[Edit], first: usize, is_known: bool) -> Run
         requires { first < length edits.now }
         ensures few { (first ≤ result.end) × (result.end ≤ length edits.now) }
@@ -249,7 +249,8 @@ impl Document {
     }
 
     /// What the edits from number `first` on change in the text, as far as all are of one kind and each makes its
-    /// change beside those before it, or sets a value again. Where memory is refused, there are fewer.
+    /// change beside those before it, or sets a value or renames a key again. Where memory is refused, there are
+    /// fewer.
     fn changes_by(&self, edits: &[Edit], first: usize) -> Run
         requires { first < length edits.now }
         ensures few { (first ≤ result.end) × (result.end ≤ length edits.now) }
@@ -257,6 +258,7 @@ impl Document {
         ensures within { All (IsChangeIn self.now.text) result.changes }
     {
         let mut so_far = AtOnce::new(self.alloc());
+        let mut opened = OpenValues::new(self.alloc());
         let mut keys = SeenKeys::new(self.alloc(), self.outline_of(&edits[first]));
         let mut left = self.most_pairs();
         let end = edits.len().min(first.saturating_add(MOST_AT_ONCE));
@@ -264,8 +266,17 @@ impl Document {
             let edit = &edits[number];
             let is_entry = self.is_entry(edit);
             let outline = Outline::of(edit, is_entry);
-            if let Some(change) = self.change_again(&so_far, edit) {
+            if let Some(change) = self.change_again(&so_far, &mut opened, edit) {
                 if !so_far.overwrite(change) {
+                    return so_far.up_to(number);
+                }
+                continue;
+            }
+            if let Some((outline, change)) = self.rename_again(&so_far, edit) {
+                if !keys.allow(&outline) || !keys.add(&outline).unwrap_or(false) {
+                    return so_far.up_to(number);
+                }
+                if !so_far.rename(outline, change) {
                     return so_far.up_to(number);
                 }
                 continue;
@@ -297,6 +308,7 @@ impl Document {
         ensures within { All (IsChangeIn self.now.text) result.changes }
     {
         let mut so_far = AtOnce::new(self.alloc());
+        let mut opened = OpenValues::new(self.alloc());
         let mut paths = SeenPaths::new(self.alloc());
         let mut left = self.most_pairs();
         let mut is_text_plain = false;
@@ -305,8 +317,17 @@ impl Document {
             let edit = &edits[number];
             let is_entry = self.is_entry(edit);
             let outline = Outline::of(edit, is_entry);
-            if let Some(change) = self.change_again(&so_far, edit) {
+            if let Some(change) = self.change_again(&so_far, &mut opened, edit) {
                 if !so_far.overwrite(change) {
+                    return so_far.up_to(number);
+                }
+                continue;
+            }
+            if let Some((outline, change)) = self.rename_again(&so_far, edit) {
+                if !paths.allow(&outline) || !paths.add(&outline).unwrap_or(false) {
+                    return so_far.up_to(number);
+                }
+                if !so_far.rename(outline, change) {
                     return so_far.up_to(number);
                 }
                 continue;
@@ -337,13 +358,18 @@ impl Document {
 
     /// What an edit changes of the text, if it sets a value that these edits are known to set, or is of an entry of
     /// one: that comes in the place of what they change there.
-    fn change_again(&self, so_far: &AtOnce, edit: &Edit) -> Option<TextEdit>
+    fn change_again(
+        &self,
+        so_far: &AtOnce,
+        opened: &mut OpenValues,
+        edit: &Edit,
+    ) -> Option<TextEdit>
         ensures { IfSome result
             (SetsAgainHere self.now edit.now so_far.now.outlines.items so_far.now.changes) }
     {
         match edit {
             Edit::Set(_, _) => self.value_again(so_far, edit),
-            Edit::Insert(_, _) | Edit::Remove(_) => self.entry_again(so_far, edit),
+            Edit::Insert(_, _) | Edit::Remove(_) => self.entry_again(so_far, opened, edit),
             _ => None,
         }
     }
@@ -363,8 +389,8 @@ impl Document {
     }
 
     /// The same of an insert or a remove of an entry: the value that holds it is set to what the edit makes of the
-    /// value that it was set to before. None where that one is long.
-    fn entry_again(&self, so_far: &AtOnce, edit: &Edit) -> Option<TextEdit>
+    /// value that it was set to before.
+    fn entry_again(&self, so_far: &AtOnce, opened: &mut OpenValues, edit: &Edit) -> Option<TextEdit>
         ensures { IfSome result
             (SetsAgainHere self.now edit.now so_far.now.outlines.items so_far.now.changes) }
     {
@@ -373,18 +399,36 @@ impl Document {
         };
         let start = self.holder_span(path)?.start;
         let earlier = so_far.setting(&Steps::before_last(path), start)?;
-        if self.is_long(earlier.new.len()) {
-            return None;
-        }
+        let value = self.value_made(opened, start, earlier.new.as_str(), edit)?;
         let alloc = self.alloc();
-        let new = value_after(alloc, self.profile, earlier.new.as_str(), edit)?;
-        let value = ValueText::read_in(alloc, new.as_str(), self.profile).ok()?;
         let holder = holder_path(alloc, path)?;
         let change = self.as_ref().change_by(alloc, &Edit::Set(holder, value))?;
         if change.place != earlier.place {
             return None;
         }
         Some(change)
+    }
+
+    /// What an edit of an entry makes of the value with this text, which begins at this byte. None where only a reading
+    /// tells it and the text is long, and where memory was refused.
+    fn value_made(
+        &self,
+        opened: &mut OpenValues,
+        start: usize,
+        was: &str,
+        edit: &Edit,
+    ) -> Option<ValueText>
+        ensures { IfSome result (λ value. MakesValue self.now.profile was.now edit.now value) }
+    {
+        let alloc = self.alloc();
+        if let Some(value) = opened.after(alloc, start, was, edit) {
+            return Some(value);
+        }
+        if self.is_long(was.len()) {
+            return None;
+        }
+        let new = value_after(alloc, self.profile, was, edit)?;
+        ValueText::read_in(alloc, new.as_str(), self.profile).ok()
     }
 
     /// Where the value is from which the last step of a path leads; None where there is none.
@@ -426,27 +470,38 @@ impl Document {
         }
     }
 
-    /// Whether an edit is of an entry of a long value.
-    fn has_long_holder(&self, edit: &Edit) -> bool {
-        let (Edit::Insert(path, _) | Edit::Remove(path)) = edit else {
+    /// Whether the next edit may have a long value read anew, if this one is made in a run: it removes an entry of the
+    /// same value, in which there may be an array or an inline table.
+    fn leaves_long_reading(&self, edit: &Edit, next: Option<&Edit>) -> bool {
+        let (Edit::Insert(path, _) | Edit::Remove(path), Some(Edit::Remove(_))) = (edit, next)
+        else {
             return false;
         };
-        match self.holder_span(path) {
-            Some(span) => self.is_long(span.end.saturating_sub(span.start)),
-            None => false,
+        if !is_in_holder_of(edit, next) {
+            return false;
         }
+        let Some(span) = self.holder_span(path) else {
+            return false;
+        };
+        let inside = self
+            .text
+            .as_bytes()
+            .get(span.start.saturating_add(1)..span.end)
+            .unwrap_or(&[]);
+        self.is_long(inside.len())
+            && (memchr(b'[', inside).is_some() || memchr(b'{', inside).is_some())
     }
 
     /// What an edit changes of the text in a run, by itself, or as the set of the value that holds its entry. None if
-    /// that value is long and the next edit is of an entry of it too, which would end the run: to make the value for
-    /// each of many takes as long as they take alone.
+    /// that value is long and the next edit would end the run to read it anew: to do so for each of many takes longer
+    /// than they take alone.
     fn change_in_run(&self, edit: &Edit, next: Option<&Edit>, is_entry: bool) -> Option<TextEdit>
         ensures { IfSome result (MakesInRunHere self.now edit.now (outline edit.now is_entry)) }
     {
         if !is_entry {
             return self.as_ref().change_by(self.alloc(), edit);
         }
-        if is_in_holder_of(edit, next) && self.has_long_holder(edit) {
+        if self.leaves_long_reading(edit, next) {
             return None;
         }
         self.as_ref().change_of_holder(self.alloc(), edit)
@@ -511,8 +566,9 @@ impl Document {
         self.as_ref().added_item(self.alloc(), path, before, value)
     }
 
-    /// What the edits from number `first` on take from the text, as far as they are removes of tables with their
-    /// headers, each beside those before it. Where memory is refused, there are fewer.
+    /// What the edits from number `first` on take from the text, as far as they are removes of tables and of elements
+    /// of one array of tables with their headers, each beside those before it. Where memory is refused, there are
+    /// fewer.
     fn sections_by(&self, edits: &[Edit], first: usize) -> TextEdits
         requires { first < length edits.now }
         ensures few { first + length result ≤ length edits.now }
@@ -520,9 +576,10 @@ impl Document {
         ensures within { All (IsChangeIn self.now.text) result }
     {
         let mut sections = TextEdits::new(self.alloc());
+        let mut gone = GoneElements::new(self.alloc());
         let end = edits.len().min(first.saturating_add(MOST_AT_ONCE));
         for number in first..end {
-            let Some(section) = self.section_by(&edits[number]) else {
+            let Some(section) = self.section_by(&mut gone, &edits[number]) else {
                 return sections;
             };
             if !sections.add(section).unwrap_or(false) {
@@ -532,14 +589,34 @@ impl Document {
         sections
     }
 
-    /// What an edit takes from the text, if it is the remove of a table with its header.
-    fn section_by(&self, edit: &Edit) -> Option<TextEdit>
-        ensures { IfSome result (RemovesSectionHere self.now edit.now) }
+    /// What an edit takes from the text after those elements went, if it is the remove of a table or an element with
+    /// its header. Then that is gone too.
+    fn section_by(&self, gone: &mut GoneElements, edit: &Edit) -> Option<TextEdit>
+        ensures { IfSome result (RemovesHeaderHere self.now gone.old gone.new edit.now) }
     {
         let Edit::Remove(path) = edit else {
             return None;
         };
-        self.as_ref().removed_section(self.alloc(), path)
+        let section = self.section_at(gone, path)?;
+        if !gone.add(self.alloc(), path) {
+            return None;
+        }
+        Some(section)
+    }
+
+    /// What the remove of a path takes from the text after those elements went, if a table or an element goes with its
+    /// header.
+    fn section_at(&self, gone: &GoneElements, path: &Path) -> Option<TextEdit>
+        ensures removed { (s : tree.Document) → IsTextOfTree self.now s
+            → IfSome result (λ made. RemovesHeader self.now.profile limit s (first_path gone.now path.now)
+            (change_of made)) }
+        ensures within { IfSome result (λ made. IsSpanOf self.now.text made.place) }
+    {
+        if gone.leave(path) {
+            return self.as_ref().removed_section(self.alloc(), path);
+        }
+        let first = gone.first_path(self.alloc(), path)?;
+        self.as_ref().removed_section(self.alloc(), &first)
     }
 
     /// The document of the text with these changes, which is read anew. None where memory was refused.

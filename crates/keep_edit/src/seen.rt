@@ -1,7 +1,7 @@
 //! The paths of edits of one kind that are made at once, by which most are known to leave alone those before them.
 ghost use Rattle.std.specs.Prelude.{◌≡◌, ◌+◌, ◌≤◌, ℕ, IfOk, IsTrue, List, OnOk, length, map, take};
 ghost use Rattle.keep_edit.specs.declared.outline.Outline.{Outline};
-ghost use Rattle.keep_edit.specs.Runs.{LeavesAlone};
+ghost use Rattle.keep_edit.specs.Runs.{Allows, LeavesAlone};
 ghost use Rattle.keep_edit.specs.Seen.{GoesOn, HasPath, IsSeen, hashed, number_of};
 ghost use Rattle.keep_edit_plan.specs.Headers.{key_texts};
 ghost use Rattle.keep_path.specs.Path.{Part, beside, key};
@@ -36,14 +36,14 @@ fn hashed(path: &Steps, count: usize) -> FoldHasher
 }
 
 /// The number that stands for a path.
-fn number_of(path: &Steps) -> u64
+pub fn number_of(path: &Steps) -> u64
     ensures { result ≡ number_of path.now }
 {
     hashed(path, path.len()).finish()
 }
 
 /// That of the path with another key in place of its last step.
-fn number_beside(path: &Steps, key: &str) -> u64
+pub fn number_beside(path: &Steps, key: &str) -> u64
     ensures { result ≡ number_of (beside path.now key.now) }
 {
     let mut hasher = hashed(path, path.len().saturating_sub(1));
@@ -127,6 +127,19 @@ impl<'a> SeenKeys<'a> {
             }
             (Outline::Table(_), Outline::Table(keys)) => self.lacks(number_of_keys(keys)),
             (Outline::Remove(_), Outline::Remove(_)) | (Outline::Set(_), Outline::Set(_)) => true,
+            _ => false,
+        }
+    }
+
+    /// Whether each edit whose paths were added is known by these to allow the new key of a rename, the path of which
+    /// may be one of them.
+    pub fn allow(&self, outline: &Outline) -> bool
+        ensures { IsTrue result → (other : Outline) → IsSeen self.now other → Allows other outline.now }
+    {
+        match (&self.first, outline) {
+            (Outline::Rename(_, _), Outline::Rename(path, key)) => {
+                self.lacks(number_beside(path, key)) && self.lacks_all_above(&path.parent())
+            }
             _ => false,
         }
     }

@@ -2,9 +2,9 @@
 ghost use Rattle.std.specs.Prelude.{◌≡◌, ◌+◌, ℕ, IfOk, IsTrue, List, OnOk, map, take};
 ghost use Rattle.keep_edit.specs.declared.outline.Outline.{Outline};
 ghost use Rattle.keep_edit_plan.specs.Headers.{key_texts};
-ghost use Rattle.keep_edit.specs.Runs.{LeavesAlone};
+ghost use Rattle.keep_edit.specs.Runs.{Allows, LeavesAlone};
 ghost use Rattle.keep_edit.specs.SeenPaths.{BeginsInKey, GoesOn, HasBeginning, HasEnd, HasKey, HasKeys, HasName};
-ghost use Rattle.keep_edit.specs.SeenPaths.{HasNew, HasPath, IsSeen};
+ghost use Rattle.keep_edit.specs.SeenPaths.{HasNew, HasPath, IsSeen, LacksAbove};
 ghost use Rattle.keep_edit.specs.SeenPaths.{MissesNames, MissesPath, keys_hashed, keys_number};
 ghost use Rattle.keep_path.specs.Path.{Part, beside, key};
 
@@ -241,6 +241,31 @@ impl<'a> SeenPaths<'a> {
             Outline::Rename(path, key) => self.misses_path(path) && self.misses_new(path, key),
             Outline::Table(keys) | Outline::Element(keys) => self.misses_keys(keys),
         }
+    }
+
+    /// Whether each edit whose paths were added is known by these to allow the new key of a rename, the path of which
+    /// may be one of them.
+    pub fn allow(&self, outline: &Outline) -> bool
+        ensures { IsTrue result → (other : Outline) → IsSeen self.now other → Allows other outline.now }
+    {
+        match outline {
+            Outline::Rename(path, key) => self.lacks_ends_above(path) && self.misses_new(path, key),
+            _ => false,
+        }
+    }
+
+    /// Whether none of these is above a path.
+    fn lacks_ends_above(&self, path: &Steps) -> bool
+        ensures { IsTrue result → LacksAbove self.now path.now }
+    {
+        let mut hasher = FoldHasher::default();
+        for number in 0..path.len().saturating_sub(1) {
+            write_key(&mut hasher, path, number);
+            if !self.lacks_end(hasher.finish()) {
+                return false;
+            }
+        }
+        true
     }
 
     /// Whether none of these begins with a path, nor the path with one of these.

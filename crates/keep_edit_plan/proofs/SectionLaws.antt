@@ -1,33 +1,28 @@
--- A table that a remove takes with its header, in a text that ends in a newline.
+-- A table or an element that a remove takes with its header, in a text that ends in a newline.
 --
 -- What is taken is a section, so it is cut where the edit's place is, and nothing is put back (`section_arm`). The
--- index has the node of the path, and the node comes from a header only where a statement defines the path
--- (`header_fits`).
+-- number of its header is that of a statement that defines the path, or begins it.
 --
--- Theorems: `section_found`: what is known of a section that may be removed; `id_within` and `number_within`: its node
--- is in the index, and its header in the syntax; `section_is_removed`, and `section_span`: it is cut from character to
--- character.
-use Rattle.std.proofs.Common.{◌≡◌, ℕ, ◌+◌, ◌-◌, ◌<◌, true, List, [], length, drop, slice_get, refl, sym, ap, subst}
-use Rattle.std.proofs.Common.{◌∙◌, arith, Some, None, Result, Ok}
+-- Theorems: `section_found`: what is known of a section that may be removed; `number_within`: its header is in the
+-- syntax; `section_is_removed`, and `section_span`: it is cut from character to character.
+use Rattle.std.proofs.Common.{◌≡◌, ℕ, ◌+◌, ◌-◌, ◌<◌, true, List, [], length, drop, refl, sym, ap, subst}
+use Rattle.std.proofs.Common.{◌∙◌, arith, None, Result, Ok, inl, inr}
 use Rattle.keep_types.specs.declared.leaf.Profile.{Profile}
-use Rattle.keep_types.specs.declared.node.NodeInfo.{NodeInfo}
-use Rattle.keep_types.specs.declared.node.Origin.TheVariants as origin
 use Rattle.keep_syntax.specs.declared.syntax.Syntax.{Syntax}
 use Rattle.keep_syntax.specs.Contract.{statements_of}
 use Rattle.keep_syntax.specs.Numbered.{span}
 use Rattle.keep_syntax.specs.Tree.{Document}
 use Rattle.keep_meaning.specs.KeyText.{text_at}
-use Rattle.keep_meaning.specs.Meaning.{mentions_in}
-use Rattle.keep_meaning.specs.Nodes.{has, is_define, statement_number}
+use Rattle.keep_meaning.specs.Nodes.{is_begun, is_define, statement_number}
 use Rattle.keep_path.specs.NodeInfos.{NodeInfos}
 use Rattle.keep_path.specs.Path.{Part}
 use Rattle.keep_rules.specs.declared.index.NodeId.{NodeId}
 use Rattle.keep_edit_spec.specs.declared.fault.EditFault.{EditFault}
-use Rattle.keep_edit_spec.specs.Edits.{remove}
+use Rattle.keep_edit_spec.specs.Edits.{place, remove}
 use Rattle.keep_edit_spec.specs.Refusals.{refusal}
-use Rattle.keep_edit_spec.specs.RemovedSections.{RemovesSection}
 use Rattle.keep_edit_spec.specs.Removal.{section_place}
-use Rattle.keep_edit_spec.specs.TextChanges.{change_at}
+use Rattle.keep_edit_spec.specs.RemovedHeaders.{RemovesHeader}
+use Rattle.keep_edit_spec.specs.TextChanges.{TextChange, change_at, place_of_change}
 use Rattle.keep_edit_spec.specs.TextEnds.{ends_in_newline}
 use Rattle.keep_edit_spec.proofs.Shared.{same_place}
 use Rattle.keep_edit_plan.specs.Answers.{IsSpanOf, value_number_of}
@@ -37,10 +32,8 @@ use Rattle.keep_edit_plan.specs.Removing.{IsCutAt, IsHeaded, IsRemovalFound, Kee
 use Rattle.keep_edit_plan.specs.declared.remove.Cut.{Cut}
 use Rattle.keep_edit_plan.specs.declared.remove.Piece.{Piece}
 use Rattle.keep_edit_plan.specs.declared.remove.Piece.TheVariants.{Section}
-use Rattle.keep_edit_plan.proofs.AimLaws.{number_nested, stated_here}
-use Rattle.keep_edit_plan.proofs.FoundLaws.{IsStated}
 use Rattle.keep_edit_plan.proofs.RemoveCut.{IsSectionArm, section_arm}
-use Rattle.keep_edit_plan.proofs.RemoveNode.{has_of, header_fits}
+use Rattle.keep_edit_plan.proofs.RemoveNode.{has_of}
 use Rattle.keep_edit_plan.proofs.RemoveSteps.{text_none}
 
 -- a section that may be removed
@@ -65,19 +58,8 @@ module _ (d : ProfiledText) (syntax : Syntax) (index : NodeInfos) (path : List P
   arm : IsSectionArm d syntax index path s holds read found.allowed number
   arm = section_arm d syntax index path s holds read found.allowed number found.no_value found.headed
 
-  pub id_within : id.0 < length index.paths
-  id_within = number_nested d syntax index path s holds read id found.node
-
   pub number_within : number < length (statements_of syntax)
   number_within = arm.within
-
-  -- where its node comes from a header
-  table_defined : (info : NodeInfo) → slice_get index.infos id.0 ≡ Some info → (n : ℕ) → info.origin ≡ origin.Header n
-      → has is_define path (mentions_in s) ≡ true
-  table_defined info stored n from =
-      let stated : IsStated path s info = stated_here d syntax index path s holds read id found.node info stored in
-      has_of path s read.obeys is_define statement_number n
-      (header_fits _ _ _ _ _ _ n (sym (ap (λ (i : NodeInfo). i.origin) stated.is) ∙ from)).1.1
 
   module _ (cut : Cut) (at : cut_place d.text cut ≡ section_place (drop number (statements_of syntax)))
       (keeps : KeepsNothing cut) where
@@ -87,18 +69,34 @@ module _ (d : ProfiledText) (syntax : Syntax) (index : NodeInfos) (path : List P
     pub section_span : IsSpanOf d.text cut.span
     section_span = cut_is.1
 
-    pub section_is_removed : (info : NodeInfo) → slice_get index.infos id.0 ≡ Some info → (n : ℕ)
-        → info.origin ≡ origin.Header n → ends_in_newline d.text ≡ true → (new : List ℕ) → new ≡ []
-        → RemovesSection d.profile limit s path (change_at cut.span.start (cut.span.end - cut.span.start) new)
-    section_is_removed info stored n from closed new none =
+    abbrev taken : List ℕ → TextChange
+    taken new = change_at cut.span.start (cut.span.end - cut.span.start) new
+
+    place_is : (new : List ℕ) → new ≡ [] → place s (remove path) ≡ place_of_change (taken new)
+    place_is new none =
         let kept : text_at d.text cut.preserved ≡ [] =
         subst (λ (end : ℕ). text_at d.text (span cut.preserved.start end) ≡ []) (keeps.0 ∙ sym keeps.1)
         (text_none d.text cut.preserved.start) in
         let end : cut.span.end ≡ cut.span.start + (cut.span.end - cut.span.start) =
         omega (arith, cut_is.1.ordered) in
-        record {
-          allowed = found.allowed;
-          defined = table_defined info stored n from;
-          closed = ap ends_in_newline (sym read.reads.spelled) ∙ closed;
-          is = cut_is.0 ∙ same_place _ _ _ _ _ _ refl end (kept ∙ sym none);
-        }
+        cut_is.0 ∙ same_place _ _ _ _ _ _ refl end (kept ∙ sym none)
+
+    pub section_is_removed : ends_in_newline d.text ≡ true → (new : List ℕ) → new ≡ []
+        → RemovesHeader d.profile limit s path (taken new)
+    section_is_removed closed new none = by found.headed
+      where
+        by : IsHeaded path s number → RemovesHeader d.profile limit s path (taken new)
+        by (inl (defined, other)) =
+            inl (record {
+              allowed = found.allowed;
+              defined = has_of path s read.obeys is_define statement_number number defined;
+              closed = ap ends_in_newline (sym read.reads.spelled) ∙ closed;
+              is = place_is new none;
+            })
+        by (inr (begun, other)) =
+            inr (record {
+              allowed = found.allowed;
+              begun = has_of path s read.obeys is_begun statement_number number begun;
+              closed = ap ends_in_newline (sym read.reads.spelled) ∙ closed;
+              is = place_is new none;
+            })

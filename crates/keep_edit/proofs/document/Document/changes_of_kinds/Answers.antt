@@ -7,11 +7,12 @@ use Rattle.keep_edit_spec.specs.TextChanges.{TextChange}
 use Rattle.keep_edit_spec.proofs.Shared.{all_with}
 use Rattle.keep_edit_plan.specs.TextEdits.{change_of}
 use Rattle.keep_edit.specs.Reading.{ProfiledText}
-use Rattle.keep_edit.specs.Runs.{IsPlaceKept, LeavesAlone, MakesInRunHere, outlined}
+use Rattle.keep_edit.specs.Runs.{Allows, IsPlaceKept, LeavesAlone, MakesInRunHere, outlined}
 use Rattle.keep_edit.specs.SeenPaths.{IsSeen}
 use Rattle.keep_edit.specs.declared.outline.Outline.{Outline}
 use Rattle.keep_edit.proofs.KindLaws.{placed_plain}
-use Rattle.keep_edit.proofs.RunSteps.{AreMadeTo, IsPlaced, all_made, more_changes, no_changes}
+use Rattle.keep_edit.proofs.RenameAgainSteps.{renamed_again}
+use Rattle.keep_edit.proofs.RunSteps.{AreMadeTo, IsPlaced, all_made, all_within, more_changes, no_changes}
 use Rattle.keep_edit.proofs.SeenPathLaws.{headless}
 use Rattle.keep_edit.proofs.SeenLaws.{more_seen, was_added}
 use Rattle.keep_edit.proofs.SetAgainSteps.{changes_again, each_replaced}
@@ -94,6 +95,90 @@ loop-number-preserved-in-Some c =
           (were_plain before) (its c.if-not-overwrite.false),
     )
 
+pub returns-then-not-allow-clause-made : goal.returns-then-not-allow-clause-made
+returns-then-not-allow-clause-made c =
+    all_made c.args.edits.now c.args.first c.args.self.now _ _ c.loop-number.invariant.0
+    c.up_to-then-not-allow.ensures.0 c.up_to-then-not-allow.ensures.1
+
+pub returns-then-not-rename-clause-made : goal.returns-then-not-rename-clause-made
+returns-then-not-rename-clause-made c =
+    all_made c.args.edits.now c.args.first c.args.self.now _ _ c.loop-number.invariant.0
+    (c.up_to-then-not-rename.ensures.0 ∙ c.if-not-rename.ensures.refused refl) c.up_to-then-not-rename.ensures.1
+
+pub returns-clause-within : goal.returns-clause-within
+returns-clause-within c =
+    all_within c.args.edits.now c.args.first c.args.self.now _ _ c.loop-number.invariant.0
+    c.up_to-2.ensures.0
+
+pub returns-then-has_long_path_among_all-clause-within : goal.returns-then-has_long_path_among_all-clause-within
+returns-then-has_long_path_among_all-clause-within c =
+    all_within c.args.edits.now c.args.first c.args.self.now _ _ c.loop-number.invariant.0
+    c.up_to-then-has_long_path_among_all.ensures.0
+
+pub returns-in_default-change_in_run-clause-within : goal.returns-in_default-change_in_run-clause-within
+returns-in_default-change_in_run-clause-within c =
+    all_within c.args.edits.now c.args.first c.args.self.now _ _ c.loop-number.invariant.0
+    c.up_to-in_default-change_in_run.ensures.0
+
+pub returns-then-not-is_text_plain-clause-within : goal.returns-then-not-is_text_plain-clause-within
+returns-then-not-is_text_plain-clause-within c =
+    all_within c.args.edits.now c.args.first c.args.self.now _ _ c.loop-number.invariant.0
+    c.up_to-then-not-is_text_plain.ensures.0
+
+pub returns-then-not-overwrite-clause-within : goal.returns-then-not-overwrite-clause-within
+returns-then-not-overwrite-clause-within c =
+    all_within c.args.edits.now c.args.first c.args.self.now _ _ c.loop-number.invariant.0
+    (c.up_to.ensures.0 ∙ c.if-not-overwrite.ensures.refused refl)
+
+pub returns-then-not-allow-clause-within : goal.returns-then-not-allow-clause-within
+returns-then-not-allow-clause-within c =
+    all_within c.args.edits.now c.args.first c.args.self.now _ _ c.loop-number.invariant.0
+    c.up_to-then-not-allow.ensures.0
+
+pub returns-then-not-rename-clause-within : goal.returns-then-not-rename-clause-within
+returns-then-not-rename-clause-within c =
+    all_within c.args.edits.now c.args.first c.args.self.now _ _ c.loop-number.invariant.0
+    (c.up_to-then-not-rename.ensures.0 ∙ c.if-not-rename.ensures.refused refl)
+
+pub returns-then-not-add-clause-within : goal.returns-then-not-add-clause-within
+returns-then-not-add-clause-within c =
+    all_within c.args.edits.now c.args.first c.args.self.now _ _ c.loop-number.invariant.0
+    (c.up_to-then-not-add.ensures.0 ∙ c.if-not-add.ensures.refused refl)
+
+pub loop-number-preserved-in-Some-rename_again : goal.loop-number-preserved-in-Some-rename_again
+loop-number-preserved-in-Some-rename_again c =
+    let edits = c.args.edits.now in
+    let first = c.args.first in
+    let now = c.args.self.now in
+    let number = c.loop-number.number in
+    let x = c.index-edits-number.result in
+    let o = c.in-Some-rename_again.outline in
+    let change = c.in-Some-rename_again.change in
+    let outlines = c.loop-number.so_far.outlines.items in
+    let changes = c.loop-number.so_far.changes in
+    let (so_far, seen, was_text, were_plain) = c.loop-number.invariant in
+    let low : number < length edits = omega (arith, c.loop-number-test.true, c.min-end.ensures) in
+    let one : suc number ≡ number + 1 = omega arith in
+    let allowed : All (λ y. Allows y o) outlines =
+    All-weaker (IsSeen c.loop-number.paths) (λ y. Allows y o) (c.allow.ensures c.if-not-allow.false) outlines seen in
+    let here : IsSeen c.add.new.self o =
+    was_added (IsSeen c.add.new.self o) c.add.result c.add.ensures.seen
+    (sym c.unwrap_or.ensures ∙ c.if-not-unwrap_or.false) in
+    let replaced = c.rename.ensures.changes c.if-not-rename.false in
+    let pushed = c.rename.ensures.outlines c.if-not-rename.false in (
+      subst₂ (λ (n : ℕ) (os : List Outline). AreMadeTo edits first n now os c.rename.new.self.changes) one (sym pushed)
+          (renamed_again edits first number now outlines changes c.rename.new.self.changes x x o change so_far low
+          (sym c.index-edits-number.is) c.in-Some-rename_again.ensures allowed replaced),
+      subst (All (IsSeen c.add.new.self)) (sym pushed)
+          (more_seen (IsSeen c.loop-number.paths) (IsSeen c.add.new.self) outlines o c.add.ensures.others here seen),
+      was_text,
+      λ yes.
+          let (before, its) = c.rename.ensures.plain c.if-not-rename.false yes in
+          each_replaced (λ (d : TextChange). IsPlain d.new) changes c.rename.new.self.changes (change_of change)
+          replaced
+          (were_plain before) its,
+    )
+
 pub loop-number-preserved : goal.loop-number-preserved
 loop-number-preserved c =
     let edits = c.args.edits.now in
@@ -108,9 +193,10 @@ loop-number-preserved c =
     let (so_far, seen, was_text, were_plain) = c.loop-number.invariant in
     let low : number < length edits = omega (arith, c.loop-number-test.true, c.min-end.ensures) in
     let one : suc number ≡ number + 1 = omega arith in
-    let here : IsSeen c.add.new.self o =
-    was_added (IsSeen c.add.new.self o) c.add.result c.add.ensures.seen
-    (sym c.unwrap_or.ensures ∙ c.if-not-unwrap_or.false) in
+    let here : IsSeen c.add-else-not-leave_alone_within.new.self o =
+    was_added (IsSeen c.add-else-not-leave_alone_within.new.self o) c.add-else-not-leave_alone_within.result
+    c.add-else-not-leave_alone_within.ensures.seen
+    (sym c.unwrap_or-else-not-leave_alone_within.ensures ∙ c.if-not-unwrap_or-2.false) in
     let alone : All (λ y. LeavesAlone y o) outlines = elim c.if-leave_alone.branch [
       | then-leave_alone w ↦
           All-weaker (IsSeen c.loop-number.paths) (λ y. LeavesAlone y o) (c.leave_alone.ensures w.if-leave_alone.true)
@@ -132,9 +218,11 @@ loop-number-preserved c =
       | else-writes_anew w ↦ was_text (sym w.is_text_plain-is ∙ yes)
     ] in
     let placed : IsPlaced outlines now.text changes o (change_of change).at =
-    placed_plain outlines now.text changes o (change_of change).at c.add.new.self.has_header c.writes_anew.result
+    placed_plain outlines now.text changes o (change_of change).at
+    c.add-else-not-leave_alone_within.new.self.has_header c.writes_anew.result
     (λ none. All-weaker (IsSeen c.loop-number.paths) (λ y. runs.is_header (outlined y) ≡ false)
-    (λ y k. headless c.add.new.self none y (c.add.ensures.others y k)) outlines seen)
+    (λ y k. headless c.add-else-not-leave_alone_within.new.self none y
+    (c.add-else-not-leave_alone_within.ensures.others y k)) outlines seen)
     c.writes_anew.ensures (λ writes. elim c.if-writes_anew.branch [
       | then-writes_anew+else-not-is_text_plain+else-not-keeps_place w ↦ (
         (
@@ -155,8 +243,9 @@ loop-number-preserved c =
           (more_changes edits first number now outlines changes x x o change so_far low (sym c.index-edits-number.is)
           (subst (λ a. MakesInRunHere now x a change) (sym c.of-outline.ensures) c.in-Some-change_in_run.ensures) alone
           beside placed)),
-      subst (All (IsSeen c.add.new.self)) (sym pushed)
-          (more_seen (IsSeen c.loop-number.paths) (IsSeen c.add.new.self) outlines o c.add.ensures.others here seen),
+      subst (All (IsSeen c.add-else-not-leave_alone_within.new.self)) (sym pushed)
+          (more_seen (IsSeen c.loop-number.paths) (IsSeen c.add-else-not-leave_alone_within.new.self) outlines o
+          c.add-else-not-leave_alone_within.ensures.others here seen),
       text_plain,
       λ yes.
           let (before, its) = c.add-in-loop-number.ensures.plain c.if-not-add.false yes in

@@ -1,13 +1,10 @@
-use Rattle.std.proofs.Common.{◌≡◌, ◌∙◌, List, ap, string_bytes, subst, subst₂, sym, ℕ}
-use Rattle.std.specs.Prelude.{IfOk}
+use Rattle.std.proofs.Common.{◌≡◌, List, ap, string_bytes, subst, sym, ℕ}
 use Rattle.keep_path.specs.Path.{Part}
 use Rattle.keep_edit_plan.specs.TextEdits.{MakesChangeHere}
 use Rattle.keep_edit_plan.specs.declared.edit.Edit.TheVariants.{Set}
-use Rattle.keep_edit.specs.Reading.{ProfiledText}
 use Rattle.keep_edit.specs.Runs.{IsSetBy}
 use Rattle.keep_edit.specs.ValueAfter.{MakesValue}
 use Rattle.keep_edit.proofs.InRuns.{HasPath, entry_again, has_path, same_place}
-use Rattle.keep_edit.proofs.ValueAfterLaws.{ok_there}
 use Rattle.keep_edit.proofs.document.Document.entry_again.Goals as goal
 use Rattle.keep_edit.proofs.document.Document.entry_again.Goals.{in-Insert, in-Insert-2}
 
@@ -18,7 +15,7 @@ returns c =
     let outlines = c.args.so_far.now.outlines.items in
     let path = c.match-edit.path.now in
     let was = c.in_ok-earlier.earlier.now in
-    let new : List ℕ = string_bytes c.in_ok-new.new in
+    let value : List ℕ = c.in_ok-value.value in
     let holder : List Part = c.in_ok-holder.holder in
     let t = c.in_ok-change.change in
     let has : HasPath x path = elim c.match-edit.branch [
@@ -29,14 +26,8 @@ returns c =
     ] in
     let (part, whole) = c.in_ok-holder.ensures in
     let made =
-    subst₂ (λ profile (text : List ℕ). MakesValue profile text x new)
-    (ap (λ (d : ProfiledText). d.profile) c.self.view_is) c.as_str.ensures.value c.in_ok-new.ensures in
-    let value_is : c.in_ok-value.value ≡ new =
-    ok_there (λ r. IfOk r (λ v. v ≡ c.as_str-2.result.now)) c.read_in.result c.in_ok-value.value
-    c.in_ok-value.ensures.value c.read_in.ensures.text
-    ∙ c.as_str-2.ensures.value in
-    entry_again now outlines c.args.so_far.now.changes x path holder part was new t has whole
+    subst (λ (text : List ℕ). MakesValue now.profile text x value) c.as_str.ensures.value c.in_ok-value.ensures in
+    entry_again now outlines c.args.so_far.now.changes x path holder part was value t has whole
     (subst (IsSetBy outlines) c.before_last.ensures c.in_ok-earlier.ensures.set) c.in_ok-earlier.ensures.change
     (same_place c.ne.result t.place was.place c.ne.ensures c.if-ne.false) made
-    (subst₂ (λ (d : ProfiledText) (v : List ℕ). MakesChangeHere d (Set holder v) t) c.as_ref.ensures value_is
-    c.in_ok-change.ensures)
+    (subst (λ d. MakesChangeHere d (Set holder value) t) c.as_ref.ensures c.in_ok-change.ensures)

@@ -1,0 +1,22 @@
+-- The numbers that elements of an array of tables had before others of it were removed, one after another.
+use Rattle.std.specs.Prelude.{◌≡◌, ℕ, ◌+◌, nat_lt, if◌then◌else◌, List, [], ◌∷◌, map}
+use Rattle.keep_path.specs.Path.{Part}
+use Rattle.keep_edit_spec.specs.AddedItems.{item_path}
+use Rattle.keep_edit_spec.specs.RemovedHeaders.{first_path, path_before}
+
+-- the number that an element had before the one with this number was taken out
+abbrev pub number_before : ℕ → ℕ → ℕ
+number_before gone n = if nat_lt n gone then n else n + 1
+
+-- before those with these numbers were, one after another
+abbrev pub first_number : List ℕ → ℕ → ℕ
+first_number [] n = n
+first_number (gone ∷ more) n = number_before gone (first_number more n)
+
+-- the paths of elements of one array
+abbrev pub element_paths : List Part → List ℕ → List (List Part)
+element_paths array numbers = map (item_path array) numbers
+
+-- The second paths lead back as the first do after this one: so they are gone, and then this one.
+abbrev pub IsGoneWith : List (List Part) → List Part → List (List Part) → Type 0
+IsGoneWith gone path more = (q : List Part) → first_path more q ≡ first_path gone (path_before path q)
