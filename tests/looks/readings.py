@@ -9,7 +9,8 @@ document's text for a list of edits, once, and `with_changes` the text after man
 where a value changes the index, its own text is read once more: that of a given value by `nodes_of_value` or `set_value`, that
 of a touched line's value by `set_inside`. For a list of edits `holder_set` reads the text that a value has with an entry more or less, and
 where an edit of the list has set a short value and another one is of an entry of it, `value_after` reads that value, `edit_alone`
-the one that is inserted, and `entry_again` the text that the first has then.
+the one that is inserted, and `value_made` the text that the first has then. That is where the places of its entries don't tell it:
+`take` reads such a value with these places, once for all edits of it, and of an inline table the keys are read where they stand.
 
 Comments, contracts and proofs are not looked at. The functions are found by the layout of `rt fmt` (bodies.py).
 """
@@ -26,18 +27,27 @@ from bodies import functions_of, types_in
 CRATES = ("keep_edit", "keep_edit_plan", "keep_rules")
 DOCUMENT = "keep_edit document::Document::"
 INDEX = "keep_rules index::Index::"
+OPEN_VALUE = "keep_edit_plan open_value::OpenValue::"
 # Where the texts of single values are read, which are no document's.
 OF_VALUES = "keep_rules", "src/value.rt"
 READ_BY = {
     # what reads a text, in these crates and below them (`Index::read` goes along a syntax)
-    "read": [DOCUMENT + "of_text", INDEX + "build", INDEX + "rebuilt", "keep_rules index::values::nodes_in_text"],
+    "read": [
+        DOCUMENT + "of_text",
+        *(INDEX + it for it in ("build", "rebuilt")),
+        "keep_rules index::values::nodes_in_text",
+        # a value whose entries are known by their places
+        OPEN_VALUE + "read",
+        "keep_edit opened::OpenValues::take",
+    ],
     "replace": ["keep_edit lines::put_lines"],
     "build": [DOCUMENT + "of_syntax"],
     "text_of": [DOCUMENT + "read_in", DOCUMENT + "read_owned_in"],
-    "check_value": [],
+    "check_value": [OPEN_VALUE + "read"],
     "scan_gap": [],
     "ws_end": [],
-    "scan_key": [],
+    # the keys of an inline table whose entries are known by their places
+    "scan_key": ["keep_edit_plan open_value::keys::is_other_key", "keep_edit_plan open_value::keys::is_own_key"],
     "scan_scalar": [],
     # what reads a document
     "of_syntax": [DOCUMENT + "of_text"],
@@ -52,7 +62,7 @@ READ_BY = {
         DOCUMENT + "read",
         # what a value is with an entry more or less, of its own text
         "keep_edit_plan document::DocumentRef::holder_set",
-        DOCUMENT + "entry_again",
+        DOCUMENT + "value_made",
         # and the value that is inserted there
         "keep_edit value_after::edit_alone",
     ],

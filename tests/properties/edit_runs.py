@@ -3,13 +3,14 @@
 
     tests/properties/edit_runs.py KEEP_TOML [RUNS [SEED]]
 
-Edits that come in a row are made at once, from some 20 of them on, or from three removes of tables with their headers, and up
-to 1,000, by the document before all of them. So each list (of 80 edits, one in twenty of 1,100; RUNS of them, 100 if not
-given) is given to the program as one script, and then in scripts of 10, or of 2 where tables are removed, each on what the
-one before gave, where every edit is made by itself. Texts, faults and the number of the refused edit have to be the same.
+Edits that come in a row are made at once, from some 20 of them on, or from three removes of tables or elements with their
+headers, and up to 1,000, by the document before all of them. So each list (of 80 edits, one in twenty of 1,100; RUNS of them,
+100 if not given) is given to the program as one script, and then in scripts of 10, or of 2 where tables or elements are
+removed, each on what the one before gave, where every edit is made by itself. Texts, faults and the number of the refused edit
+have to be the same.
 Most lists are of edits of one kind, a quarter of them of edits of all kinds in turn. A fifth of the lines that are changed have
-a comment. Values are set again, and edits of entries come back to a value, which goes on in the row. Among the edits are some
-that end it: one that is refused, any other of a path that was there before, one that is in another's.
+a comment. Values are set and keys renamed again, and edits of entries come back to a value, which goes on in the row. Among the
+edits are some that end it: one that is refused, any other of a path that was there before, one that is in another's.
 """
 import sys
 from pathlib import Path
@@ -44,6 +45,7 @@ class Run:
         self.text = document_of(self.random, lambda it: not self.ran([b"check"], it).returncode)
         self.entries = [tuple(it.rsplit(b"\t", 1)) for it in self.ran([b"list"], self.text).stdout.split(b"\n")[:-1]]
         kinds = (self.inserts, self.items, self.removes, self.sections, self.sets, self.renames, self.tables, self.elements)
+        kinds += (self.gone_elements,)
         kinds += (self.parts,) + 3 * (self.all_kinds,)
         self.edits = self.random.choice(kinds)()
 
@@ -134,6 +136,43 @@ class Run:
             edits.insert(random.randrange(len(edits) + 1), edit_of(b"insert", b"between_%d" % number, value_of(random)))
         return edits
 
+    def with_elements(self):
+        """New elements of two arrays of tables at the end of the text, with tables between them: how many each array has, and the
+        paths of the tables. Now and then a header goes through an element."""
+        random, counts, tables, more = self.random, {b"els": 0, b"outer.els": 0}, [], b""
+        for number in range(self.many):
+            lines = b"".join(b"%s_%d = %s\n" % (random.choice(KEYS), it, value_of(random)) for it in range(random.choice((1, 2))))
+            if random.random() < 0.1:
+                tables.append(b"s_%d" % number)
+                more += random.choice(GAPS) + b"[%s]\n" % tables[-1] + lines
+            else:
+                array = random.choice((b"els", b"els", b"els", b"outer.els"))
+                counts[array] += 1
+                below = b"[%s.below]\n" % array if random.random() < 0.003 else b""
+                more += random.choice(GAPS) + b"[[%s]]\n" % array + lines + below
+        end = b"" if self.text.endswith(b"\n") or not self.text else b"\n"
+        if self.ran([b"check"], self.text + end + more).returncode:
+            return {}, []
+        self.text += end + more
+        return counts, tables
+
+    def gone_elements(self):
+        """Elements of an array of tables, in a third of the lists of two, each by the number that it has then; tables between."""
+        random, edits = self.random, []
+        self.few = FEW_TABLES
+        counts, tables = self.with_elements()
+        if random.random() < 0.7:
+            counts.pop(b"outer.els", None)
+        while len(edits) < self.many and any(counts.values()):
+            if tables and random.random() < 0.1:
+                edits.append(edit_of(b"remove", tables.pop(random.randrange(len(tables)))))
+                continue
+            array = random.choice([it for it in counts if counts[it]])
+            number = random.choice((0, counts[array] - 1, random.randrange(counts[array])))
+            counts[array] -= 1
+            edits.append(edit_of(b"remove", b"%s[%d]" % (array, number)))
+        return edits
+
     def sets(self):
         """Values that are there, in half of the lists few of them again and again, now and then one that is in another; often with
         fewer or more bytes."""
@@ -145,12 +184,20 @@ class Run:
         return [edit_of(b"set", it, value_of(random)) for it in paths]
 
     def renames(self):
-        """Keys that are there; now and then one that was renamed before or is above another, or to a key that is there."""
+        """Keys that are there, in half of the lists few of them again and again; now and then one that was renamed before or is
+        above another, or to a key that is there."""
         random, paths = self.random, self.with_lines()
         paths += self.some_of() + random.sample(paths, random.choice((0, 0, 2)))
         random.shuffle(paths)
-        new = lambda number: random.choice(KEYS) + b"_new_%d" % (number if random.random() < 0.998 else number // 2)
-        return [edit_of(b"rename", it, key=new(number)) for number, it in enumerate(paths)]
+        few = len(paths) // 5 if random.random() < 0.5 else len(paths)
+        edits, renamed = [], []
+        for number, path in enumerate(paths):
+            if len(renamed) > few:
+                path = renamed.pop(random.randrange(len(renamed)))
+            key = random.choice(KEYS) + b"_new_%d" % (number if random.random() < 0.998 else number // 2)
+            edits.append(edit_of(b"rename", path, key=key))
+            renamed.append(b".".join([*path.split(b".")[:-1], key]))
+        return edits
 
     def headers(self, op, keys_of):
         """Headers at the end of the text, now and then of a path that is there."""
@@ -237,7 +284,7 @@ class Run:
             self.text = self.text.replace(b"\n", b"\r\n", random.choice((1, 3, -1)))
             if self.ran([b"check"], self.text).returncode:
                 self.text = self.text.replace(b"\r\n", b"\n")
-        edits, are_set = [], []
+        edits, are_set, renamed = [], [], []
         for number, path in enumerate(paths):
             kind = random.choice((b"insert", b"insert", b"remove", b"remove", b"set", b"rename", b"table", b"element"))
             if holders and random.random() < 0.3:
@@ -249,7 +296,11 @@ class Run:
             elif kind == b"element":
                 edits.append(edit_of(kind, b"elements_%d" % (number if random.random() < 0.9 else number // 2)))
             elif kind == b"rename":
-                edits.append(edit_of(kind, path, key=random.choice(KEYS) + b"_new_%d" % number))
+                if renamed and random.random() < 0.4:
+                    path = renamed.pop(random.randrange(len(renamed)))
+                key = random.choice(KEYS) + b"_new_%d" % number
+                edits.append(edit_of(kind, path, key=key))
+                renamed.append(b".".join([*path.split(b".")[:-1], key]))
             elif kind == b"insert":
                 edits.append(edit_of(kind, new(path, number), value_of(random)))
             elif kind == b"set":
