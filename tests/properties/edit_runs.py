@@ -223,11 +223,12 @@ class Run:
             count, gap = random.choice((0, 1, 2, 3)), random.choice((b"", b" "))
             values = [value_of(random) for _ in range(count)]
             if random.random() < 0.6:
-                between = random.choice((b", ", b",", b",\n  ", b" , # one\n  "))
+                between = random.choice((b", ", b",", b",\n  ", b" , # one\n  ", b", # one, two\n  ", b",\n\n\t"))
                 text = b"[" + gap + between.join(values) + random.choice((gap, b",\n" if count else b"\n", b" # end\n")) + b"]"
                 holders.append((b"held.h_%d" % number, count, True))
             else:
-                text = b"{" + gap + b", ".join(b"k%d = %s" % it for it in enumerate(values)) + gap + b"}"
+                keyval = random.choice((b"k%d = %s", b'"k%d"=%s', b"'k%d' = %s", b'"\\u006B%d" = %s'))
+                text = b"{" + gap + random.choice((b", ", b",", b" , ")).join(keyval % it for it in enumerate(values)) + gap + b"}"
                 holders.append((b"held.h_%d" % number, count, False))
             lines += b"h_%d = %s%s\n" % (number, text, random.choice((b"", b"", b"  # some")))
         text = self.text + (b"" if self.text.endswith(b"\n") or not self.text else b"\n") + lines
