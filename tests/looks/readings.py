@@ -47,7 +47,7 @@ READ_BY = {
     "scan_gap": [],
     "ws_end": [],
     # the keys of an inline table whose entries are known by their places
-    "scan_key": ["keep_edit_plan open_value::keys::is_other_key", "keep_edit_plan open_value::keys::is_own_key"],
+    "scan_key": ["keep_edit_plan open_value::keys::key_at", "keep_edit_plan open_value::keys::is_own_key"],
     "scan_scalar": [],
     # what reads a document
     "of_syntax": [DOCUMENT + "of_text"],

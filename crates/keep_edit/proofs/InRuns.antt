@@ -2,22 +2,24 @@
 --
 -- The holder's path is that of the entry without its last step.
 --
--- Theorems: `by_itself`, `by_set`; `again`: a set of a value that is set already; `entry_again`: an edit of an entry of
--- one; `holder_first`, `has_path`, `same_place`: the holder's path, the edit's, and its place.
+-- Theorems: `by_itself`, `by_set`, `by_places`; `again`: a set of a value that is set already; `entry_again`: an edit
+-- of an entry of one; `holder_first`, `has_path`, `same_place`: the holder's path, the edit's, and its place.
 use Rattle.std.proofs.Common.{◌≡◌, ◌∷◌, ◌++◌, [], List, refl, sym, ap, subst, ◌∙◌, inl, inr, Option, Some, None}
 use Rattle.std.proofs.Common.{false, true, string_bytes, ℕ, suc, ◌-◌, arith, length, take, get_or, Bool, not, ap₂}
-use Rattle.std.proofs.Common.{eqb-true, take-suc, take_all}
-use Rattle.std.specs.Prelude.{◌⊎◌, ◌&&◌, ◌==◌, Err, IfOk, IfSome, Ok, Result}
+use Rattle.std.proofs.Common.{eqb-true, take-suc, take_all, drop}
+use Rattle.std.specs.Prelude.{◌⊎◌, ◌&&◌, ◌==◌, Err, IfOk, IfSome, Ok, Result, slice_range}
 use Rattle.std.specs.Result.{result_ok}
 use Rattle.keep_types.specs.declared.leaf.Profile.TheVariants.{Wide}
 use Rattle.keep_types.specs.declared.syntax.Span.{Span}
-use Rattle.keep_syntax.specs.Tree.{Document, Value}
+use Rattle.keep_syntax.specs.Tree.{Document, Value, text}
 use Rattle.keep_syntax.proofs.Shared.{one_value}
 use Rattle.keep_path.specs.Path.{Part, without_last}
 use Rattle.keep_edit_spec.specs.Edits as law
-use Rattle.keep_edit_spec.specs.EntryEdits.{IsOfEntry}
+use Rattle.keep_edit_spec.specs.EntryEdits.{IsOfEntry, MakesSet}
 use Rattle.keep_edit_spec.proofs.Shared.{without_last-snoc}
 use Rattle.keep_edit_plan.specs.Headers.{key_texts}
+use Rattle.keep_edit_plan.proofs.Shared.{editable}
+use Rattle.keep_edit_spec.specs.Runs as runs
 use Rattle.keep_edit_spec.specs.Runs.{MakesChange, path_of}
 use Rattle.keep_edit_spec.specs.TextChanges.{TextChange, change_at}
 use Rattle.keep_edit_plan.specs.TextEdits.{HasChange, MakesChangeHere, MakesSetHere, change_of}
@@ -25,21 +27,32 @@ use Rattle.keep_edit_plan.specs.declared.edit.Edit.{Edit}
 use Rattle.keep_edit_plan.specs.declared.edit.Edit.TheVariants as edit
 use Rattle.keep_edit_plan.specs.declared.text_edit.TextEdit.{TextEdit}
 use Rattle.keep_edit.specs.Lists.{IsEdit}
-use Rattle.keep_edit.specs.Reading.{ProfiledText, limit}
-use Rattle.keep_edit.specs.Runs.{IsSetBy, MakesInRunHere, SetsAgainHere, no_value, outline, plain}
+use Rattle.keep_edit.specs.Reading.{IsTextOfTree, ProfiledText, limit}
+use Rattle.keep_edit.specs.Runs.{IsSeenAs, IsSetBy, MakesInRunHere, SetsAgainHere, SetsHolderHere, no_value, outline}
+use Rattle.keep_edit.specs.Runs.{plain}
 use Rattle.keep_edit.specs.ValueAfter.{MakesValue}
 use Rattle.keep_edit.specs.declared.outline.Outline.{Outline}
+use Rattle.keep_edit.specs.declared.outline.SeenAs.{SeenAs}
+use Rattle.keep_edit.specs.declared.outline.SeenAs.TheVariants.{Entry, FirstKey, Itself}
 
-plain_as : (e a : law.Edit) → e ≡ a → plain e ≡ plain a
-plain_as e a is = ap plain is
+module _ (now : ProfiledText) (s : Document) (read : IsTextOfTree now s) where
+  plain_seen : (e a : law.Edit) → e ≡ a → plain (runs.seen s e) ≡ plain (runs.seen s a)
+  plain_seen e a is = ap (λ (f : law.Edit). plain (runs.seen s f)) is
 
-plain_itself : (x : Edit) (e : law.Edit) → IsEdit x e → plain e ≡ outline x false
-plain_itself (edit.Insert p w) e (v, text, is) = plain_as e (law.insert p v) is
-plain_itself (edit.Remove p) e is = plain_as e (law.remove p) is
-plain_itself (edit.Set p w) e (v, text, is) = plain_as e (law.set p v) is
-plain_itself (edit.Rename p w) e is = plain_as e (law.rename p (string_bytes w)) is
-plain_itself (edit.Table ks) e is = plain_as e (law.append_table (key_texts ks.items)) is
-plain_itself (edit.Element ks) e is = plain_as e (law.append_element (key_texts ks.items)) is
+  -- an edit that is not seen as the set of a value
+  plain_itself : (x : Edit) (e : law.Edit) (how : SeenAs) → (how ≡ Entry → ⊥) → IsSeenAs now x how → IsEdit x e
+      → plain (runs.seen s e) ≡ outline x how
+  plain_itself (edit.Insert p w) e Itself other h (v, text, is) = absurd h
+  plain_itself (edit.Insert p w) e Entry other h (v, text, is) = absurd (other refl)
+  plain_itself (edit.Insert p w) e (FirstKey n) other h (v, text, is) =
+      plain_seen e (law.insert p v) is ∙ ap (λ (k : ℕ). law.insert (take k p) no_value) (sym (h s read))
+  plain_itself (edit.Remove p) e Itself other h is = plain_seen e (law.remove p) is
+  plain_itself (edit.Remove p) e Entry other h is = absurd (other refl)
+  plain_itself (edit.Remove p) e (FirstKey n) other h is = plain_seen e (law.remove p) is
+  plain_itself (edit.Set p w) e how other h (v, text, is) = plain_seen e (law.set p v) is
+  plain_itself (edit.Rename p w) e how other h is = plain_seen e (law.rename p (string_bytes w)) is
+  plain_itself (edit.Table ks) e how other h is = plain_seen e (law.append_table (key_texts ks.items)) is
+  plain_itself (edit.Element ks) e how other h is = plain_seen e (law.append_element (key_texts ks.items)) is
 
 set_at : (holder path : List Part) (part : Part) → path ≡ holder ++ part ∷ []
     → law.set holder no_value ≡ law.set (without_last path) no_value
@@ -48,7 +61,7 @@ set_at holder path part is =
 
 module _ (s : Document) (holder : List Part) where
   plain_set : (x : Edit) (e : law.Edit) → IsEdit x e → IsOfEntry s holder e
-      → law.set holder no_value ≡ outline x true
+      → law.set holder no_value ≡ outline x Entry
   plain_set (edit.Insert p w) e (v, text, is) h =
       let entry : IsOfEntry s holder (law.insert p v) = subst (IsOfEntry s holder) is h in
       set_at holder p entry.part entry.is
@@ -66,29 +79,71 @@ module _ (s : Document) (holder : List Part) where
       let no : IsOfEntry s holder (law.append_element (key_texts ks.items)) = subst (IsOfEntry s holder) is h in
       absurd no
 
-pub by_itself : (now : ProfiledText) (x : Edit) (r : Option TextEdit) → IfSome r (MakesChangeHere now x)
-    → IfSome r (MakesInRunHere now x (outline x false))
-by_itself now x None h = tt
-by_itself now x (Some t) h = record {
+pub by_itself : (now : ProfiledText) (x : Edit) (how : SeenAs) (r : Option TextEdit) → (how ≡ Entry → ⊥)
+    → IsSeenAs now x how → IfSome r (MakesChangeHere now x) → IfSome r (MakesInRunHere now x (outline x how))
+by_itself now x how None other seen h = tt
+by_itself now x how (Some t) other seen h = record {
   edit = h.edit;
   is = h.is;
-  in_run = h.edit;
-  outline_is = λ s read. plain_itself x h.edit h.is;
+  in_run = λ s. runs.seen s h.edit;
+  outline_is = λ s read. plain_itself now s read x h.edit how other seen h.is;
   makes = λ s read. inl (refl, h.makes s read);
   within = h.within;
 }
 
 pub by_set : (now : ProfiledText) (x : Edit) (r : Option TextEdit) → IfSome r (MakesSetHere now x)
-    → IfSome r (MakesInRunHere now x (outline x true))
+    → IfSome r (MakesInRunHere now x (outline x Entry))
 by_set now x None h = tt
 by_set now x (Some t) h = record {
   edit = h.edit;
   is = h.is;
-  in_run = law.set h.holder h.value;
+  in_run = λ s. law.set h.holder h.value;
   outline_is = λ s read. plain_set s h.holder x h.edit h.is (h.makes s read).of_entry;
   makes = λ s read. inr (h.holder, h.value, refl, h.makes s read);
   within = h.within;
 }
+
+-- the edit has that path
+abbrev pub HasPath : Edit → List Part → Type 0
+HasPath x path = (e : law.Edit) → IsEdit x e → path_of e ≡ path
+
+pub has_path : (x : Edit) (path : List Part)
+    → ((value : List ℕ) × (x ≡ edit.Insert path value)) ⊎ (x ≡ edit.Remove path) → HasPath x path
+has_path x path (inl (value, is)) e h =
+    let (v, text, same) = subst (λ (y : Edit). IsEdit y e) is h in ap path_of same
+has_path x path (inr is) e h =
+    let same : e ≡ law.remove path = subst (λ (y : Edit). IsEdit y e) is h in ap path_of same
+
+-- an edit of an entry of the value in this place, by the set of the value to what it makes of that
+pub by_places : (now : ProfiledText) (x : Edit) (path : List Part) (place : Span) (was new : List ℕ)
+    (r : Option TextEdit) → HasPath x path → slice_range now.text place.start place.end ≡ was
+    → MakesValue now.profile was x new → IfSome r (SetsHolderHere now path new) → IfSome r (λ t. t.place ≡ place)
+    → IfSome r (MakesInRunHere now x (outline x Entry))
+by_places now x path place was new None has given made by same = tt
+by_places now x path place was new (Some t) has given made by same =
+    let (v, text_is, is_set) = by.sets.is in
+    let same_value : v ≡ made.value =
+    one_value Wide v made.value text_is.reads.valid made.text_is.reads.valid
+    (sym text_is.reads.spelled ∙ made.text_is.reads.spelled) in
+    let is : by.sets.edit ≡ law.set by.holder made.value = is_set ∙ ap (law.set by.holder) same_value in
+    let there : (s : Document) → IsTextOfTree now s
+    → take (change_of t).size (drop (change_of t).at (text s)) ≡ was =
+    λ s read.
+    subst (λ (p : Span). take (p.end - p.start) (drop p.start (text s)) ≡ was) (sym same)
+    (ap (λ b. slice_range b place.start place.end) (sym read.reads.spelled) ∙ given) in
+    let makes : (s : Document) → IsTextOfTree now s
+    → MakesSet now.profile limit s made.edit by.holder made.value (change_of t) =
+    λ s read. made.makes s by.holder by.part (change_of t) (has made.edit made.is ∙ by.whole) (editable now s read)
+    (subst (λ (e : law.Edit). MakesChange now.profile limit s e (change_of t)) is (by.sets.makes s read))
+    (there s read) in
+    record {
+      edit = made.edit;
+      is = made.is;
+      in_run = λ s. law.set by.holder made.value;
+      outline_is = λ s read. plain_set s by.holder x made.edit made.is (makes s read).of_entry;
+      makes = λ s read. inr (by.holder, made.value, refl, makes s read);
+      within = by.sets.within;
+    }
 
 -- a set of a value that an edit with one of these outlines sets
 pub again : (now : ProfiledText) (outlines : List Outline) (changes : List TextChange) (x : Edit) (path : List Part)
@@ -127,17 +182,6 @@ pub holder_first : {E : Type 0} (path : List Part) (n : ℕ) (r : Result (List P
 holder_first path n (Err f) count h = tt
 holder_first path n (Ok first) count h = ends_in path first n count h
 
--- the edit has that path
-abbrev pub HasPath : Edit → List Part → Type 0
-HasPath x path = (e : law.Edit) → IsEdit x e → path_of e ≡ path
-
-pub has_path : (x : Edit) (path : List Part)
-    → ((value : List ℕ) × (x ≡ edit.Insert path value)) ⊎ (x ≡ edit.Remove path) → HasPath x path
-has_path x path (inl (value, is)) e h =
-    let (v, text, same) = subst (λ (y : Edit). IsEdit y e) is h in ap path_of same
-has_path x path (inr is) e h =
-    let same : e ≡ law.remove path = subst (λ (y : Edit). IsEdit y e) is h in ap path_of same
-
 -- places that are told to be the same
 pub same_place : (differ : Bool) (p q : Span) → differ ≡ not ((p.start == q.start) && (p.end == q.end))
     → differ ≡ false → p ≡ q
@@ -150,32 +194,34 @@ same_place differ p q is same =
     both_true r true false e f = absurd cc
     both_true r false y e f = absurd cc
 
+-- an edit of an entry of a value that an edit with one of these outlines sets
 pub entry_again : (now : ProfiledText) (outlines : List Outline) (changes : List TextChange) (x : Edit)
-    (path holder : List Part) (part : Part) (was : TextEdit) (new : List ℕ) (t : TextEdit)
-    → HasPath x path → path ≡ holder ++ part ∷ [] → IsSetBy outlines (without_last path)
-    → HasChange changes (change_of was) → t.place ≡ was.place
-    → MakesValue now.profile (string_bytes was.new) x new → MakesChangeHere now (edit.Set holder new) t
-    → SetsAgainHere now x outlines changes t
-entry_again now outlines changes x path holder part was new t has whole already earlier place made set =
-    let (v, text_is, is_set) = set.is in
+    (path : List Part) (was : TextEdit) (new : List ℕ) (r : Option TextEdit) → HasPath x path
+    → IsSetBy outlines (without_last path) → HasChange changes (change_of was)
+    → MakesValue now.profile (string_bytes was.new) x new → IfSome r (SetsHolderHere now path new)
+    → IfSome r (λ t. t.place ≡ was.place) → IfSome r (SetsAgainHere now x outlines changes)
+entry_again now outlines changes x path was new None has already earlier made by place = tt
+entry_again now outlines changes x path was new (Some t) has already earlier made by place =
+    let (v, text_is, is_set) = by.sets.is in
     let same : v ≡ made.value =
     one_value Wide v made.value text_is.reads.valid made.text_is.reads.valid
     (sym text_is.reads.spelled ∙ made.text_is.reads.spelled) in
-    let is : set.edit ≡ law.set holder made.value = is_set ∙ ap (law.set holder) same in
-    let before : without_last path ≡ holder = ap without_last whole ∙ without_last-snoc holder part in
+    let is : by.sets.edit ≡ law.set by.holder made.value = is_set ∙ ap (law.set by.holder) same in
+    let before : without_last path ≡ by.holder = ap without_last by.whole ∙ without_last-snoc by.holder by.part in
     record {
       edit = made.edit;
       is = made.is;
-      path = holder;
+      path = by.holder;
       value = made.value;
       makes = inr (record {
         was = string_bytes was.new;
         earlier = subst (λ (p : Span). HasChange changes (change_at p.start (p.end - p.start) (string_bytes was.new)))
             (sym place) earlier;
         makes = λ u d fine sets there.
-            made.makes u holder part d (has made.edit made.is ∙ whole) fine sets there;
+            made.makes u by.holder by.part d (has made.edit made.is ∙ by.whole) fine sets there;
       });
       already = subst (IsSetBy outlines) before already;
-      sets = λ s read. subst (λ (e : law.Edit). MakesChange now.profile limit s e (change_of t)) is (set.makes s read);
-      within = set.within;
+      sets = λ s read.
+          subst (λ (e : law.Edit). MakesChange now.profile limit s e (change_of t)) is (by.sets.makes s read);
+      within = by.sets.within;
     }

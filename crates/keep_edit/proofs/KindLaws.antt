@@ -23,7 +23,7 @@ abbrev IsOfKind : Outline → Outline → Type 0
 IsOfKind x f = (runs.is_insert (outlined x) ≡ runs.is_insert (outlined f))
     × (runs.is_header (outlined x) ≡ runs.is_header (outlined f))
 
-of_kind : (seen : SeenKeys) (f x : Outline) → HasPathsOf seen f x → IsOfKind x f
+pub of_kind : (seen : SeenKeys) (f x : Outline) → HasPathsOf seen f x → IsOfKind x f
 of_kind seen (Insert f) (Insert p) h = (refl, refl)
 of_kind seen (Insert f) (Remove p) h = absurd h
 of_kind seen (Insert f) (Set p) h = absurd h

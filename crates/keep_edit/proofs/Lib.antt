@@ -20,8 +20,11 @@ mod InRuns
 mod RunSteps
 mod SetAgainSteps
 mod RenameAgainSteps
+mod InsertAgainSteps
+mod AgainSteps
 mod ItemSteps
 mod GoneLaws
+mod GoneFound
 mod SectionSteps
 mod ValueAfterLaws
 mod OpenedLaws

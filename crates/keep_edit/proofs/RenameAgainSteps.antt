@@ -10,7 +10,7 @@
 --
 -- Theorem: `renamed_again`.
 use Rattle.std.proofs.Common.{◌≡◌, ◌<◌, ◌∷◌, ◌++◌, [], ℕ, suc, List, length, take, get_or, refl, sym}
-use Rattle.std.proofs.Common.{ap, subst, ◌∙◌, All, IsUtf8, inl, inr, None, false, true}
+use Rattle.std.proofs.Common.{ap, subst, ◌∙◌, All, IsUtf8, inl, inr, false, true}
 use Rattle.std.specs.Prelude.{IsTrue}
 use Rattle.std.proofs.lemmas.List.Elements.{All-cons}
 use Rattle.std.proofs.lemmas.Str.{IsUtf8-string_bytes}
@@ -23,7 +23,7 @@ use Rattle.keep_edit_spec.specs.Edits.{edited_document, place}
 use Rattle.keep_edit_spec.specs.Laws.{IsLawfulEdit}
 use Rattle.keep_edit_spec.specs.RenameLists.{AllowsKey, IsRenameIn, IsRunRenamedAgain}
 use Rattle.keep_edit_spec.specs.RenamedKeys.{RenamesKey}
-use Rattle.keep_edit_spec.specs.RunLists.{IsSetIn, MadeEdit, changes_of, document_after, edits_of, made}
+use Rattle.keep_edit_spec.specs.RunLists.{IsSetIn, MadeEdit, changes_of, document_after, made, seen_of}
 use Rattle.keep_edit_spec.specs.Runs as runs
 use Rattle.keep_edit_spec.specs.Runs.{IsRun}
 use Rattle.keep_edit_spec.specs.TextChanges.{Follow, TextChange, change_at, moved_by_all, text_with}
@@ -69,10 +69,10 @@ module _ (s : Document) (edits : List Edit) (n : ℕ) (old now : ProfiledText) (
   abbrev ms : List MadeEdit
   ms = made e c ∷ r.rest
 
-  so_far : IsRun now.profile limit before (edits_of h.ms) changes h.made.tree
+  so_far : IsRun now.profile limit before (seen_of before h.ms) changes h.made.tree
   so_far = run_so_far s edits n old now before outlines changes read h
 
-  goes_on : IsRun now.profile limit before (edits_of ms) (changes_of ms) (document_after before ms)
+  goes_on : IsRun now.profile limit before (seen_of before ms) (changes_of ms) (document_after before ms)
   goes_on = run_is_known now.profile limit before ms (editable now before read) r.still
 
   new_is : new ≡ changes_of ms
@@ -143,10 +143,10 @@ module _ (s : Document) (edits : List Edit) (n : ℕ) (old now : ProfiledText) (
   -- ---- the edits in the list
 
   -- what holds of the edits so far, and of the one more, holds of those that are there
-  all_again : (P : law.Edit → Type 0) → P e → All P (edits_of h.ms) → All P (edits_of ms)
+  all_again : (P : law.Edit → Type 0) → P e → All P (seen_of before h.ms) → All P (seen_of before ms)
   all_again P its all =
-      All-cons P e (edits_of r.rest) its
-      (each_of_others P (made (law.rename again.path r.text) r.c) h.ms r.rest r.one all).1
+      All-cons P e (seen_of before r.rest) its
+      (each_of_others before P (made (law.rename again.path r.text) r.c) h.ms r.rest r.one all).1
 
   set_in : (q : List Part) → IsSetBy (outlines ++ o ∷ []) q → IsSetIn q ms
   set_in q any = elim (one_or_more (λ y. outlined y ≡ law.set q no_value) outlines o any) [

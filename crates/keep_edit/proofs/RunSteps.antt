@@ -31,7 +31,7 @@ use Rattle.keep_edit_spec.specs.Laws.{IsLawfulEdit}
 use Rattle.keep_edit_spec.specs.Refusals.{refusal}
 use Rattle.keep_edit_spec.specs.RenameLists.{AllowsKey, IsRenameIn}
 use Rattle.keep_edit_spec.specs.Runs as runs
-use Rattle.keep_edit_spec.specs.RunLists.{AreAtOnce, IsSetIn, MadeEdit, changes_of, document_after, edits_of}
+use Rattle.keep_edit_spec.specs.RunLists.{AreAtOnce, IsSetIn, MadeEdit, changes_of, document_after, seen_of}
 use Rattle.keep_edit_spec.specs.Runs.{ArePlain, IsBeforeHeaders, IsPlainBefore, IsRun, IsRunLonger, KeepsPlace}
 use Rattle.keep_edit_spec.specs.Runs.{LetsCome, MakesChange}
 use Rattle.keep_edit_spec.specs.TextChanges.{Follow, IsBeside, TextChange, moved_past, text_with, with_change}
@@ -160,10 +160,11 @@ text_utf8 bytes cs utf8 = text_utf8_from 0 bytes cs utf8 (IsCharBoundary-start b
 module _ (s : Document) (edits : List Edit) (n : ℕ) (old now : ProfiledText) (before : Document)
     (outlines : List Outline) (changes : List TextChange) (read : IsTextOfTree now before)
     (h : IsRunTo s edits n old now before outlines changes) where
-  pub run_so_far : IsRun now.profile limit before (edits_of h.ms) changes h.made.tree
+  pub run_so_far : IsRun now.profile limit before (seen_of before h.ms) changes h.made.tree
   run_so_far =
-      subst (IsRun now.profile limit before (edits_of h.ms) changes) h.tree_is
-      (subst (λ (cs : List TextChange). IsRun now.profile limit before (edits_of h.ms) cs (document_after before h.ms))
+      subst (IsRun now.profile limit before (seen_of before h.ms) changes) h.tree_is
+      (subst
+      (λ (cs : List TextChange). IsRun now.profile limit before (seen_of before h.ms) cs (document_after before h.ms))
       h.changes_are
       (run_is_known now.profile limit before h.ms (editable now before read) h.at_once))
 
@@ -173,7 +174,7 @@ pub tree_of_run : (now : ProfiledText) (before : Document) (ms : List MadeEdit) 
     → IsTextOfTree now before → AreAtOnce now.profile limit before ms → changes_of ms ≡ changes
     → IsTextOfTree (changed_text now changes) u → document_after before ms ≡ u
 tree_of_run now before ms changes u read at_once same made =
-    let r : IsRun now.profile limit before (edits_of ms) (changes_of ms) (document_after before ms) =
+    let r : IsRun now.profile limit before (seen_of before ms) (changes_of ms) (document_after before ms) =
     run_is_known now.profile limit before ms (editable now before read) at_once in
     let spelled : text_with 0 now.text changes ≡ text (document_after before ms) =
     ap (λ (bytes : List ℕ). text_with 0 bytes changes) read.reads.spelled
@@ -214,19 +215,41 @@ set_of (law.remove p) path is = absurd cc
 set_of (law.append_table ks) path is = absurd cc
 set_of (law.append_element ks) path is = absurd cc
 
-rename_of : (e : law.Edit) (path : List Part) (name : List ℕ) → plain e ≡ law.rename path name
-    → e ≡ law.rename path name
-rename_of (law.set p v) path name is = absurd cc
-rename_of (law.insert p v) path name is = absurd cc
-rename_of (law.rename p more) path name is = is
-rename_of (law.remove p) path name is = absurd cc
-rename_of (law.append_table ks) path name is = absurd cc
-rename_of (law.append_element ks) path name is = absurd cc
+-- a set is seen as itself, and so is a rename
+set_seen : (s : Document) (e : law.Edit) (path : List Part) → plain (runs.seen s e) ≡ law.set path no_value
+    → (value : Value) × (e ≡ law.set path value)
+set_seen s (law.set p v) path is = set_of (law.set p v) path is
+set_seen s (law.insert p v) path is = absurd cc
+set_seen s (law.rename p name) path is = absurd cc
+set_seen s (law.remove p) path is = absurd cc
+set_seen s (law.append_table ks) path is = absurd cc
+set_seen s (law.append_element ks) path is = absurd cc
 
--- one edit more, for which another stands in the run
+rename_seen : (s : Document) (e : law.Edit) (path : List Part) (name : List ℕ)
+    → plain (runs.seen s e) ≡ law.rename path name → e ≡ law.rename path name
+rename_seen s (law.set p v) path name is = absurd cc
+rename_seen s (law.insert p v) path name is = absurd cc
+rename_seen s (law.rename p more) path name is = is
+rename_seen s (law.remove p) path name is = absurd cc
+rename_seen s (law.append_table ks) path name is = absurd cc
+rename_seen s (law.append_element ks) path name is = absurd cc
+
+-- where an insert comes does not hang on its path
+keeps_seen : (s : Document) (bytes : List ℕ) (es : List law.Edit) (cs : List TextChange) (e : law.Edit)
+    (c : TextChange) → KeepsPlace bytes es cs (runs.seen s e) c → KeepsPlace bytes es cs e c
+keeps_seen s bytes es cs (law.set p v) c h = h
+keeps_seen s bytes es cs (law.insert p v) c h = h
+keeps_seen s bytes es cs (law.rename p more) c h = h
+keeps_seen s bytes es cs (law.remove p) c h = h
+keeps_seen s bytes es cs (law.append_table ks) c h = h
+keeps_seen s bytes es cs (law.append_element ks) c h = h
+
+-- one edit more, which others see so: another edit, which makes this change, makes of the first document what it makes
 record IsLonger (profile : Profile) (s : Document) (es : List law.Edit) (changes : List TextChange) (now : Document)
     (e a : law.Edit) (c : TextChange) : Type 0 where
-  makes : MakesChange profile limit s a c
+  edit : law.Edit
+  seen_is : runs.seen s edit ≡ a
+  makes : MakesChange profile limit s edit c
   allowed : refusal profile limit now e ≡ None
   lawful : IsLawfulEdit profile limit now e
   run : IsRun profile limit s (a ∷ es) (with_change changes c) (edited_document now e)
@@ -235,17 +258,22 @@ module _ (profile : Profile) (s : Document) (es : List law.Edit) (changes : List
     (e a : law.Edit) (c : TextChange) (r : IsRun profile limit s es changes now)
     (alone : All (λ f. runs.LeavesAlone f a) es) (beside : All (λ d. IsBeside d c) changes)
     (keeps : KeepsPlace (text s) es changes a c) where
-  longer_by_itself : a ≡ e → MakesChange profile limit s e c → IsLonger profile s es changes now e a c
-  longer_by_itself is h =
-      let makes : MakesChange profile limit s a c =
-      subst (λ (f : law.Edit). MakesChange profile limit s f c) (sym is) h in
-      let longer : IsRunLonger profile limit s es changes now a c =
-      run_goes_on profile limit s es changes now a c r makes alone beside keeps in
-      subst (λ (f : law.Edit). IsLonger profile s es changes now f a c) is (record {
+  longer_by_itself : a ≡ runs.seen s e → MakesChange profile limit s e c → IsLonger profile s es changes now e a c
+  longer_by_itself is makes =
+      let others : All (λ f. runs.LeavesAlone f (runs.seen s e)) es =
+      subst (λ (b : law.Edit). All (λ f. runs.LeavesAlone f b) es) is alone in
+      let placed : KeepsPlace (text s) es changes e c =
+      keeps_seen s (text s) es changes e c
+      (subst (λ (b : law.Edit). KeepsPlace (text s) es changes b c) is keeps) in
+      let longer : IsRunLonger profile limit s es changes now e c =
+      run_goes_on profile limit s es changes now e c r makes others beside placed in
+      subst (λ (b : law.Edit). IsLonger profile s es changes now e b c) (sym is) (record {
+        edit = e;
+        seen_is = refl;
         makes = makes;
         allowed = longer.allowed;
-        lawful = change_lawful profile limit now a (moved_past changes c) r.editable
-            (r.later a c makes alone beside keeps);
+        lawful = change_lawful profile limit now e (moved_past changes c) r.editable
+            (r.later e c makes others beside placed).0;
         run = longer.run;
       })
 
@@ -256,7 +284,14 @@ module _ (profile : Profile) (s : Document) (es : List law.Edit) (changes : List
       run_goes_on_by_entry profile limit s es changes now e holder value c r h
       (subst (λ (g : law.Edit). All (λ f. runs.LeavesAlone f g) es) is alone) beside in
       subst (λ (g : law.Edit). IsLonger profile s es changes now e g c) (sym is)
-      (record { makes = h.sets; allowed = longer.allowed; lawful = longer.lawful; run = longer.run })
+      (record {
+        edit = law.set holder value;
+        seen_is = refl;
+        makes = h.sets;
+        allowed = longer.allowed;
+        lawful = longer.lawful;
+        run = longer.run;
+      })
 
   goes_on_by : MakesInRun profile s e a c → IsLonger profile s es changes now e a c
   goes_on_by (inl (is, h)) = longer_by_itself is h
@@ -274,7 +309,7 @@ module _ (s : Document) (edits : List Edit) (n : ℕ) (old now : ProfiledText) (
   t = h.made.tree
 
   abbrev es : List law.Edit
-  es = edits_of h.ms
+  es = seen_of before h.ms
 
   so_far : IsRun now.profile limit before es changes t
   so_far = run_so_far s edits n old now before outlines changes read h
@@ -345,30 +380,39 @@ module _ (s : Document) (edits : List Edit) (n : ℕ) (old now : ProfiledText) (
 
   -- with it in front
   abbrev ms : List MadeEdit
-  ms = record { edit = a; change = c } ∷ h.ms
+  ms = record { edit = longer.edit; change = c } ∷ h.ms
 
   at_once : AreAtOnce now.profile limit before ms
   at_once = (
     longer.makes,
     (
-      others,
+      subst (λ (g : law.Edit). All (λ f. runs.LeavesAlone f g) es) (sym longer.seen_is) others,
       (
         subst (All (λ b. IsBeside b c)) (sym h.changes_are) beside,
-        (subst (λ (cs : List TextChange). KeepsPlace (text before) es cs a c) (sym h.changes_are) keeps, h.at_once),
+        (
+          keeps_seen before (text before) es (changes_of h.ms) longer.edit c
+              (subst₂ (λ (g : law.Edit) (cs : List TextChange). KeepsPlace (text before) es cs g c)
+              (sym longer.seen_is) (sym h.changes_are) keeps),
+          h.at_once,
+        ),
       ),
     ),
   )
 
+  -- of all edits as they are seen
+  all_seen : (P : law.Edit → Type 0) → P a → All P es → All P (seen_of before ms)
+  all_seen P its others = All-cons P (runs.seen before longer.edit) es (subst P (sym longer.seen_is) its) others
+
   set_in : (path : List Part) → IsSetBy (outlines ++ o ∷ []) path → IsSetIn path ms
   set_in path any = elim (one_or_more (λ y. outlined y ≡ law.set path no_value) outlines o any) [
     | inl earlier ↦ inr (h.sets path earlier)
-    | inr its ↦ inl (set_of a path (plain_is ∙ its))
+    | inr its ↦ inl (set_seen before longer.edit path (ap plain longer.seen_is ∙ plain_is ∙ its))
   ]
 
   rename_in : (path : List Part) (name : List ℕ) → IsRenamedBy (outlines ++ o ∷ []) path name → IsRenameIn path ms
   rename_in path name any = elim (one_or_more (λ y. outlined y ≡ law.rename path name) outlines o any) [
     | inl earlier ↦ inr (h.renames path name earlier)
-    | inr its ↦ inl (name, rename_of a path name (plain_is ∙ its))
+    | inr its ↦ inl (name, rename_seen before longer.edit path name (ap plain longer.seen_is ∙ plain_is ∙ its))
   ]
 
   pub one_made_more : IsRunTo s edits (suc n) old now before (outlines ++ o ∷ []) (with_change changes c)
@@ -377,26 +421,26 @@ module _ (s : Document) (edits : List Edit) (n : ℕ) (old now : ProfiledText) (
     ms = ms;
     alone = λ f all.
         let (all_before, its) = parts (λ y. runs.LeavesAlone (outlined y) (plain f)) outlines o all in
-        All-cons (λ g. runs.LeavesAlone g f) a es
+        all_seen (λ g. runs.LeavesAlone g f)
         (plain_alone a f (subst (λ (g : law.Edit). runs.LeavesAlone g (plain f)) (sym plain_is) its))
         (h.alone f all_before);
     inserts = λ all.
         let (all_before, its) = parts (λ y. runs.is_insert (outlined y) ≡ true) outlines o all in
-        All-cons (λ g. IsTrue (runs.is_insert g)) a es
+        all_seen (λ g. IsTrue (runs.is_insert g))
         (sym (plain_insert a) ∙ ap runs.is_insert plain_is ∙ its) (h.inserts all_before);
     headers = λ all.
         let (all_before, its) = parts (λ y. runs.is_header (outlined y) ≡ true) outlines o all in
-        All-cons (λ g. IsTrue (runs.is_header g)) a es
+        all_seen (λ g. IsTrue (runs.is_header g))
         (sym (plain_header a) ∙ ap runs.is_header plain_is ∙ its) (h.headers all_before);
     headless = λ all.
         let (all_before, its) = parts (λ y. runs.is_header (outlined y) ≡ false) outlines o all in
-        All-cons (λ g. runs.is_header g ≡ false) a es
+        all_seen (λ g. runs.is_header g ≡ false)
         (sym (plain_header a) ∙ ap runs.is_header plain_is ∙ its) (h.headless all_before);
     sets = set_in;
     renames = rename_in;
     allow = λ path name all.
         let (all_before, its) = parts (λ y. AllowsKey path name (outlined y)) outlines o all in
-        All-cons (AllowsKey path name) a es
+        all_seen (AllowsKey path name)
         (plain_allows path name a (subst (AllowsKey path name) (sym plain_is) its)) (h.allow path name all_before);
     at_once = at_once;
     changes_are = ap (λ (cs : List TextChange). with_change cs c) h.changes_are;
@@ -446,7 +490,8 @@ more_changes edits first end now outlines changes d x o t so_far lt here makes a
     let within = all_with (IsChangeIn now.text) changes c so_far.within (change_in now.text t makes.within) in
     record {
       made = λ s old h. one_made_more s edits end old now h.tree outlines changes h.read (so_far.made s old h) d x lt
-          here o makes.edit makes.in_run makes.is (makes.outline_is h.tree h.read) c (makes.makes h.tree h.read) alone
+          here o makes.edit (makes.in_run h.tree) makes.is (makes.outline_is h.tree h.read) c
+          (makes.makes h.tree h.read) alone
           beside placed utf8 within;
       within = within;
       utf8 = utf8;

@@ -7,8 +7,8 @@
 --
 -- Theorems: `text_added`: one more key; `step_more`, `step_past`, `key_more`, `all_keys`, `hashed_beside`: a hasher
 -- that is given steps; `number_added`: one more path; `none_above`: a path that does not begin with another;
--- `rename_alone`, `alone_as`: an edit that leaves alone those seen; `key_allowed`, `allowed_as`: one that they allow;
--- `was_added`, `more_seen`: the edits of a list that are seen.
+-- `rename_alone`, `element_alone`, `alone_as`: an edit that leaves alone those seen; `key_allowed`, `allowed_as`: one
+-- that they allow; `was_added`, `more_seen`: the edits of a list that are seen.
 use Rattle.std.proofs.Common.{◌≡◌, ◌≤◌, ◌<◌, ◌+◌, ◌-◌, ◌==◌, ◌∷◌, ◌++◌, ◌∙◌, [], ℕ, zero, suc, All, Bool, Bor, List}
 use Rattle.std.proofs.Common.{BuildHasherDefault, FoldHasher, Global, None, inl, inr, Some, String, ap, arith, cond}
 use Rattle.std.proofs.Common.{false, fold}
@@ -30,7 +30,7 @@ use Rattle.keep_edit.specs.Runs.{Allows, LeavesAlone}
 use Rattle.keep_edit.specs.Seen.{HasPath, HasPathsOf, IsSeen}
 use Rattle.keep_edit.specs.declared.seen.SeenKeys.{SeenKeys}
 use Rattle.keep_edit.proofs.AlikeLaws.{before_last, begins_with, length_before, none_unless, own_or_apart, read_key}
-use Rattle.keep_edit.proofs.AlikeLaws.{take_before}
+use Rattle.keep_edit.proofs.AlikeLaws.{same_or_apart, take_before}
 
 -- ---- one more key
 
@@ -164,6 +164,19 @@ module _ (seen : SeenKeys) where
       ]
   key_allowed f path v name lacks new (Table ks) h = absurd h
   key_allowed f path v name lacks new (Element ks) h = absurd h
+
+-- elements with as many keys
+pub element_alone : (seen : SeenKeys) (first more : Bor (List (String Global))) → IsTrue seen.are_alike
+    → length first.now ≡ length more.now → (e : Outline) → HasPathsOf seen (Element first) e
+    → LeavesAlone e (Element more)
+element_alone seen first more alike same (Insert p) h = absurd h
+element_alone seen first more alike same (Remove p) h = absurd h
+element_alone seen first more alike same (Set p) h = absurd h
+element_alone seen first more alike same (Rename p w) h = absurd h
+element_alone seen first more alike same (Table ks) h = absurd h
+element_alone seen first more alike same (Element ks) h =
+    same_or_apart (key_texts ks.now) (key_texts more.now)
+    (omega (arith, h alike, same, length-map ks.now string_bytes, length-map more.now string_bytes))
 
 pub allowed_as : (seen : SeenKeys) (f x y : Outline) → seen.first ≡ f → x ≡ y
     → ((e : Outline) → HasPathsOf seen f e → Allows e y) → (e : Outline) → IsSeen seen e → Allows e x

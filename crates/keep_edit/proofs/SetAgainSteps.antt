@@ -7,7 +7,8 @@
 -- An edit of an entry is known by the text of the value, which is what the earlier change writes: two changes of one
 -- place are one (`wrote`). So it makes what the set makes (`as_set`).
 --
--- Theorems: `each_replaced`: what holds of each change holds with one in the place of another; `changes_again`.
+-- Theorems: `all_but`, `each_replaced`: what holds of each change holds with one in the place of another;
+-- `changes_again`.
 use Rattle.std.proofs.Common.{◌≡◌, ◌<◌, ◌∷◌, ◌++◌, [], ℕ, suc, List, length, take, drop, get_or, refl, sym}
 use Rattle.std.proofs.Common.{ap, subst, ◌∙◌, All, IsUtf8, inl, inr, None, false}
 use Rattle.std.specs.Prelude.{◌⊎◌, IsTrue}
@@ -22,7 +23,7 @@ use Rattle.keep_edit_spec.specs.EntryEdits.{MakesSet}
 use Rattle.keep_edit_spec.specs.Laws.{IsLawfulEdit}
 use Rattle.keep_edit_spec.specs.Refusals.{refusal}
 use Rattle.keep_edit_spec.specs.RenameLists.{AllowsKey, IsRenameIn, IsRenameOf}
-use Rattle.keep_edit_spec.specs.RunLists.{IsRunSetAgain, IsSetIn, MadeEdit, changes_of, edits_of, made}
+use Rattle.keep_edit_spec.specs.RunLists.{IsRunSetAgain, IsSetIn, MadeEdit, changes_of, made, seen_of}
 use Rattle.keep_edit_spec.specs.Runs as runs
 use Rattle.keep_edit_spec.specs.Runs.{IsRun}
 use Rattle.keep_edit_spec.specs.SetValues.{SetsValue}
@@ -96,12 +97,12 @@ module _ (s : Document) (edits : List Edit) (n : ℕ) (old now : ProfiledText) (
   abbrev ms : List MadeEdit
   ms = made e c ∷ r.rest
 
-  so_far : IsRun now.profile limit before (edits_of h.ms) changes h.made.tree
+  so_far : IsRun now.profile limit before (seen_of before h.ms) changes h.made.tree
   so_far = run_so_far s edits n old now before outlines changes read h
 
-  goes_on : IsRun now.profile limit before (edits_of ms) (changes_of ms) (edited_document h.made.tree e)
+  goes_on : IsRun now.profile limit before (seen_of before ms) (changes_of ms) (edited_document h.made.tree e)
   goes_on =
-      subst (IsRun now.profile limit before (edits_of ms) (changes_of ms))
+      subst (IsRun now.profile limit before (seen_of before ms) (changes_of ms))
       (sym r.same ∙ ap (λ (u : Document). edited_document u e) h.tree_is)
       (run_is_known now.profile limit before ms (editable now before read) r.still)
 
@@ -180,11 +181,11 @@ module _ (s : Document) (edits : List Edit) (n : ℕ) (old now : ProfiledText) (
       edits n old d x lt here again.is h.made refl as_set.allowed
 
   -- what holds of the edits holds of them with the later set, where it does not hang on the value
-  all_again : (P : law.Edit → Type 0) → (P (law.set again.path r.value) → P e) → All P (edits_of h.ms)
-      → All P (edits_of ms)
+  all_again : (P : law.Edit → Type 0) → (P (law.set again.path r.value) → P e) → All P (seen_of before h.ms)
+      → All P (seen_of before ms)
   all_again P on all =
-      let (its, others) = each_of_others P (made (law.set again.path r.value) r.c) h.ms r.rest r.one all in
-      All-cons P e (edits_of r.rest) (on its) others
+      let (its, others) = each_of_others before P (made (law.set again.path r.value) r.c) h.ms r.rest r.one all in
+      All-cons P e (seen_of before r.rest) (on its) others
 
   set_in : (q : List Part) → IsSetIn q h.ms → IsSetIn q ms
   set_in q there =
@@ -222,8 +223,8 @@ module _ (s : Document) (edits : List Edit) (n : ℕ) (old now : ProfiledText) (
 -- ---- as the code goes
 
 -- what holds of each change holds where one gives place to another of which it holds
-all_but : (P : TextChange → Type 0) (before after : List TextChange) (x c : TextChange) → All P (before ++ x ∷ after)
-    → P c → All P (before ++ c ∷ after)
+pub all_but : (P : TextChange → Type 0) (before after : List TextChange) (x c : TextChange)
+    → All P (before ++ x ∷ after) → P c → All P (before ++ c ∷ after)
 all_but P [] after x c all its = All-cons P c after its (All-tail P x after all)
 all_but P (b ∷ before) after x c all its =
     All-cons P b (before ++ c ∷ after) (All-head P b (before ++ x ∷ after) all)

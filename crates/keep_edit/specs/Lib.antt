@@ -10,3 +10,4 @@ pub mod Children
 pub mod Seen
 pub mod SeenPaths
 pub mod ValueAfter
+pub mod Again

@@ -1,27 +1,28 @@
 -- Edits of a list that are made at once: each makes its change of the document before all of them.
-use Rattle.std.specs.Prelude.{◌≡◌, ◌≢◌, ◌⊎◌, ℕ, ◌+◌, Bool, true, false, if◌then◌else◌, ◌||◌, IsTrue, List, [], All}
-use Rattle.std.specs.Prelude.{Any, IsUtf8, Option, drop, length, map, take, String, string_bytes}
+use Rattle.std.specs.Prelude.{◌≡◌, ◌≢◌, ◌⊎◌, ⊤, ℕ, suc, ◌+◌, Bool, true, false, ◌||◌, IsTrue, List, [], ◌∷◌}
+use Rattle.std.specs.Prelude.{◌++◌, All, Any, IsUtf8, Option, drop, length, map, take, String, string_bytes}
 use Rattle.std.specs.Global.{Global}
 use Rattle.std.specs.List.{list_any}
 use Rattle.keep_types.specs.declared.leaf.Profile.{Profile}
 use Rattle.keep_token.specs.Encoded.{encoded_key}
 use Rattle.keep_syntax.specs.Tree.{Document, Value, inline, none, text}
 use Rattle.keep_path.specs.Path.{Part, beside, key, strip, without_last}
+use Rattle.keep_meaning.specs.Meaning.{mentions_in}
 use Rattle.keep_edit_spec.specs.AddedItems.{AddsNextItem, IsItemRun, item_path}
 use Rattle.keep_edit_spec.specs.Edits as law
 use Rattle.keep_edit_spec.specs.EntryEdits.{MakesSet}
 use Rattle.keep_edit_spec.specs.Laws.{IsEditable}
-use Rattle.keep_edit_spec.specs.Look.{keys_in}
+use Rattle.keep_edit_spec.specs.Look.{holder, keys_in}
 use Rattle.keep_edit_spec.specs.RemovedHeaders.{IsHeaderRun, RemovesHeader, first_path}
 use Rattle.keep_edit_spec.specs.RenameLists.{AllowsKey, IsRenameIn}
 use Rattle.keep_edit_spec.specs.RenamedKeys.{RenamesKey}
 use Rattle.keep_edit_spec.specs.Runs as runs
-use Rattle.keep_edit_spec.specs.RunLists.{AreAtOnce, IsSetIn, MadeEdit, changes_of, document_after, edits_of}
+use Rattle.keep_edit_spec.specs.RunLists.{AreAtOnce, IsSetIn, MadeEdit, changes_of, document_after, seen_of}
 use Rattle.keep_edit_spec.specs.Runs.{LetsCome, MakesChange, takes_up_to}
 use Rattle.keep_edit_spec.specs.SetValues.{SetsValue}
 use Rattle.keep_edit_spec.specs.TextChanges.{TextChange, change_at, text_with}
 use Rattle.keep_edit_plan.specs.Headers.{key_texts}
-use Rattle.keep_edit_plan.specs.TextEdits.{HasChange, change_of}
+use Rattle.keep_edit_plan.specs.TextEdits.{HasChange, MakesChangeHere, change_of}
 use Rattle.keep_edit.specs.Answers.{IsSpanOf}
 use Rattle.keep_edit.specs.Gone.{IsGoneWith}
 use Rattle.keep_edit.specs.Lists.{AreMade, IsEdit}
@@ -31,6 +32,8 @@ use Rattle.keep_edit_plan.specs.declared.text_edit.TextEdit.{TextEdit}
 use Rattle.keep_edit_plan.specs.declared.edit.Edit.TheVariants.{Element, Insert, Remove, Rename, Set, Table}
 use Rattle.keep_edit.specs.declared.outline.Outline.{Outline}
 use Rattle.keep_edit.specs.declared.outline.Outline.TheVariants as kind
+use Rattle.keep_edit.specs.declared.outline.SeenAs.{SeenAs}
+use Rattle.keep_edit.specs.declared.outline.SeenAs.TheVariants.{Entry, FirstKey, Itself}
 
 -- a value that stands for any
 abbrev pub no_value : Value
@@ -43,15 +46,30 @@ plain (law.insert path value) = law.insert path no_value
 plain e = e
 
 -- An edit, as far as it tells which others it leaves alone: what it does, and its path and keys. One of an entry of a
--- value sets that value.
-abbrev pub outline : Edit → Bool → law.Edit
-outline (Set path value) entry = law.set path no_value
-outline (Insert path value) entry =
-    (if entry then law.set (without_last path) no_value else law.insert path no_value)
-outline (Rename path name) entry = law.rename path (string_bytes name)
-outline (Remove path) entry = (if entry then law.set (without_last path) no_value else law.remove path)
-outline (Table keys) entry = law.append_table (key_texts keys.items)
-outline (Element keys) entry = law.append_element (key_texts keys.items)
+-- value sets that value, and an insert is that of its first new key.
+abbrev pub outline : Edit → SeenAs → law.Edit
+outline (Set path value) how = law.set path no_value
+outline (Insert path value) how = elim how [
+  | Itself ↦ law.insert path no_value
+  | Entry ↦ law.set (without_last path) no_value
+  | FirstKey n ↦ law.insert (take n path) no_value
+]
+outline (Rename path name) how = law.rename path (string_bytes name)
+outline (Remove path) how = elim how [
+  | Entry ↦ law.set (without_last path) no_value
+  | _ ↦ law.remove path
+]
+outline (Table keys) how = law.append_table (key_texts keys.items)
+outline (Element keys) how = law.append_element (key_texts keys.items)
+
+-- So others see it in the document of this text: an insert of a line by the path of its first new key.
+abbrev pub IsSeenAs : ProfiledText → Edit → SeenAs → Type 0
+IsSeenAs now (Insert path value) how = elim how [
+  | Itself ↦ ⊥
+  | Entry ↦ ⊤
+  | FirstKey n ↦ ((s : Document) → IsTextOfTree now s → n ≡ suc (length (holder path (mentions_in s))))
+]
+IsSeenAs now x how = ⊤
 
 -- what is stored of it
 abbrev pub outlined : Outline → law.Edit
@@ -105,20 +123,27 @@ MakeChanges edits first end now changes =
     (s : Document) (old : ProfiledText) → AreMade s (take first edits) old now
     → AreMade s (take end edits) old (changed_text now changes)
 
--- The edit makes its own change, or is of an entry and makes what the set of a value makes, and this stands for it in a
+-- This change of the document of this text sets the value from which the last step of a path leads.
+pub record SetsHolderHere (now : ProfiledText) (path : List Part) (value : List ℕ) (t : TextEdit) : Type 0 where
+  pub holder : List Part
+  pub part : Part
+  pub whole : path ≡ holder ++ part ∷ []
+  pub sets : MakesChangeHere now (Set holder value) t
+
+-- The edit makes its own change, or is of an entry and makes what the set of a value makes, and so others see it in a
 -- run. That changes the text so.
 abbrev pub MakesInRun : Profile → Document → law.Edit → law.Edit → TextChange → Type 0
 MakesInRun profile s e a c =
-    ((a ≡ e) × MakesChange profile limit s e c)
+    ((a ≡ runs.seen s e) × MakesChange profile limit s e c)
     ⊎ ((holder : List Part) × (value : Value) × (a ≡ law.set holder value) × MakesSet profile limit s e holder value c)
 
--- so it does in the document of this text, and what stands for it has that outline
+-- so it does in the document of this text, and as it is seen it has that outline
 pub record MakesInRunHere (now : ProfiledText) (x : Edit) (outline : law.Edit) (t : TextEdit) : Type 0 where
   pub edit : law.Edit
   pub is : IsEdit x edit
-  pub in_run : law.Edit
-  pub outline_is : (s : Document) → IsTextOfTree now s → plain in_run ≡ outline
-  pub makes : (s : Document) → IsTextOfTree now s → MakesInRun now.profile s edit in_run (change_of t)
+  pub in_run : Document → law.Edit
+  pub outline_is : (s : Document) → IsTextOfTree now s → plain (in_run s) ≡ outline
+  pub makes : (s : Document) → IsTextOfTree now s → MakesInRun now.profile s edit (in_run s) (change_of t)
   pub within : IsSpanOf now.text t.place
 
 -- One of the edits with these outlines sets the value at that path.
@@ -174,17 +199,17 @@ pub record IsRunTo (s : Document) (edits : List Edit) (end : ℕ) (old now : Pro
   pub made : AreMade s (take end edits) old (changed_text now changes)
   pub ms : List MadeEdit
   pub alone : (f : law.Edit) → All (λ x. runs.LeavesAlone (outlined x) (plain f)) outlines
-      → All (λ e. runs.LeavesAlone e f) (edits_of ms)
+      → All (λ e. runs.LeavesAlone e f) (seen_of before ms)
   pub inserts : All (λ x. runs.is_insert (outlined x) ≡ true) outlines
-      → All (λ e. IsTrue (runs.is_insert e)) (edits_of ms)
+      → All (λ e. IsTrue (runs.is_insert e)) (seen_of before ms)
   pub headers : All (λ x. runs.is_header (outlined x) ≡ true) outlines
-      → All (λ e. IsTrue (runs.is_header e)) (edits_of ms)
+      → All (λ e. IsTrue (runs.is_header e)) (seen_of before ms)
   pub headless : All (λ x. runs.is_header (outlined x) ≡ false) outlines
-      → All (λ e. runs.is_header e ≡ false) (edits_of ms)
+      → All (λ e. runs.is_header e ≡ false) (seen_of before ms)
   pub sets : (path : List Part) → IsSetBy outlines path → IsSetIn path ms
   pub renames : (path : List Part) (name : List ℕ) → IsRenamedBy outlines path name → IsRenameIn path ms
   pub allow : (path : List Part) (name : List ℕ) → All (λ x. AllowsKey path name (outlined x)) outlines
-      → All (AllowsKey path name) (edits_of ms)
+      → All (AllowsKey path name) (seen_of before ms)
   pub at_once : AreAtOnce now.profile limit before ms
   pub changes_are : changes_of ms ≡ changes
   pub tree_is : document_after before ms ≡ made.tree

@@ -1,5 +1,5 @@
 -- Paths of edits that are made at once, by which most are known to leave alone those before them.
-use Rattle.std.specs.Prelude.{◌≡◌, ⊤, ℕ, ◌==◌, IsTrue, List, fold, map}
+use Rattle.std.specs.Prelude.{◌≡◌, ⊤, ℕ, ◌==◌, IsTrue, List, fold, length, map}
 use Rattle.std.specs.Hash as fed
 use Rattle.std.specs.Hash.FoldHasher as folding
 use Rattle.std.specs.declared.hash.FoldHasher.{FoldHasher}
@@ -32,19 +32,21 @@ abbrev pub HasPath : SeenKeys → List Part → Type 0
 HasPath seen path = IsTrue (contains_by (λ n. number_of path == n) seen.paths)
 
 -- The edit is of the kind of the first one, and its paths are among those: that of an insert, of a rename or of a
--- header, and the new one of a rename.
+-- table's header, and the new one of a rename. An element has as many keys as the first, if all are said to have.
 abbrev pub HasPathsOf : SeenKeys → Outline → Outline → Type 0
 HasPathsOf seen (Insert first) (Insert path) = HasPath seen path
 HasPathsOf seen (Rename first new) (Rename path name) = HasPath seen path × HasPath seen (beside path name.now)
 HasPathsOf seen (Table first) (Table keys) = HasPath seen (map key (key_texts keys.now))
 HasPathsOf seen (Remove first) (Remove path) = ⊤
 HasPathsOf seen (Set first) (Set path) = ⊤
-HasPathsOf seen (Element first) (Element keys) = ⊤
+HasPathsOf seen (Element first) (Element keys) = IsTrue seen.are_alike → length keys.now ≡ length first.now
 HasPathsOf seen first edit = ⊥
 
 abbrev pub IsSeen : SeenKeys → Outline → Type 0
 IsSeen seen edit = HasPathsOf seen seen.first edit
 
--- the new ones are for edits of the same kind, with all paths of the old ones
+-- the new ones are for edits of the same kind, with all paths of the old ones, and elements are as alike
 abbrev pub GoesOn : SeenKeys → SeenKeys → Type 0
-GoesOn old new = (new.first ≡ old.first) × ((path : List Part) → HasPath old path → HasPath new path)
+GoesOn old new =
+    (new.first ≡ old.first) × ((new.are_alike ≡ old.are_alike)
+    × ((path : List Part) → HasPath old path → HasPath new path))

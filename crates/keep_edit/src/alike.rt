@@ -68,7 +68,7 @@ fn are_renamed_apart(path: &Steps, key: &str, other: &Steps, other_key: &str) ->
 }
 
 /// Whether neither of two paths is the other or below it.
-fn are_apart(path: &Steps, other: &Steps) -> bool
+pub fn are_apart(path: &Steps, other: &Steps) -> bool
     ensures { Decides result (AreApart path.now other.now) }
 {
     !agree(path, other, path.len().min(other.len()))

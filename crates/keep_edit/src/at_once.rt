@@ -3,7 +3,7 @@ ghost use Rattle.std.specs.Prelude.{◌≡◌, ◌++◌, ◌∷◌, [], All, IfS
 ghost use Rattle.std.specs.Bool.{Decides};
 ghost use Rattle.keep_edit_spec.specs.Runs.{IsPlain};
 ghost use Rattle.keep_edit_spec.specs.TextChanges.{IsBeside, with_change};
-ghost use Rattle.keep_edit_plan.specs.TextEdits.{HasChange, IsOrdered, IsReplaced, change_of};
+ghost use Rattle.keep_edit_plan.specs.TextEdits.{HasChange, HasInstead, IsOrdered, IsReplaced, change_of};
 ghost use Rattle.keep_path.specs.Path.{beside};
 ghost use Rattle.keep_edit.specs.Runs.{IsRenamedBy, IsSetBy};
 
@@ -34,6 +34,9 @@ pub struct AtOnce<'a> {
     numbers: HashMap<usize, usize>,
     /// The same of the rename whose new path has a number.
     renames: HashMap<u64, usize>,
+    /// The number in the list of the edit that gave the value of an added line, by that of the line's path. It only
+    /// tells where to look, too.
+    values: HashMap<u64, usize>,
 }
 
 /// Whether a text has no carriage return.
@@ -54,6 +57,7 @@ impl<'a> AtOnce<'a> {
             are_plain: true,
             numbers: HashMap::new(alloc),
             renames: HashMap::new(alloc),
+            values: HashMap::new(alloc),
         }
     }
 
@@ -98,6 +102,16 @@ impl<'a> AtOnce<'a> {
         Some((first.same(), *name))
     }
 
+    /// The number that stands for a path at which one of these edits adds a line, and the number in the list of the
+    /// edit that gave its value, as far as is known.
+    pub fn giving(&self, path: &Steps) -> Option<(u64, usize)> {
+        if self.values.is_empty() {
+            return None;
+        }
+        let number = number_of(path);
+        Some((number, *self.values.get(&number)?))
+    }
+
     /// Puts a change in the place of one that replaces the same bytes. Returns whether there is one; if not, nothing
     /// has changed.
     pub fn overwrite(&mut self, change: TextEdit) -> bool
@@ -117,41 +131,68 @@ impl<'a> AtOnce<'a> {
 
     /// Adds an edit that comes in the place of another, with its change in the place of that one's. Returns whether it
     /// does; if not, no change has come in the place of one.
-    pub fn rename(&mut self, outline: Outline<'a>, change: TextEdit) -> bool
+    pub fn rename(&mut self, number: usize, outline: Outline<'a>, change: TextEdit) -> bool
         ensures changes { IsTrue result → IsReplaced self.old.changes (change_of change) self.new.changes }
         ensures outlines { IsTrue result → self.new.outlines.items ≡ self.old.outlines.items ++ outline.entry ∷ [] }
         ensures plain { IsTrue result → self.new.are_plain ≡ true
             → (self.old.are_plain ≡ true) × IsPlain (string_bytes change.new) }
         ensures refused { result ≡ false → self.new.changes ≡ self.old.changes }
     {
-        if !self.add_outline(outline) {
+        if !self.add_outline(number, outline) {
             return false;
         }
         self.overwrite(change)
     }
 
-    /// Adds what an edit does. Returns whether it was added; it is not where memory is refused.
-    fn add_outline(&mut self, outline: Outline<'a>) -> bool
+    /// Puts a change in the place of another, by the edit with this number in the list: it gives another value to the
+    /// line at a path, for which a number stands. Returns whether the other is there; if not, no change has come in the
+    /// place of one.
+    pub fn exchange(
+        &mut self,
+        number: usize,
+        path: u64,
+        earlier: &TextEdit,
+        change: TextEdit,
+    ) -> bool
+        ensures changes { IsTrue result
+            → HasInstead self.old.changes (change_of earlier.now) (change_of change) self.new.changes }
+        ensures outlines { self.new.outlines.items ≡ self.old.outlines.items }
+        ensures plain { IsTrue result → self.new.are_plain ≡ true
+            → (self.old.are_plain ≡ true) × IsPlain (string_bytes change.new) }
+        ensures refused { result ≡ false → self.new.changes ≡ self.old.changes }
+    {
+        let is_plain = is_plain(change.new.as_str());
+        if self.values.insert(path, number).is_err() || !self.changes.exchange(earlier, change) {
+            return false;
+        }
+        if !is_plain {
+            self.are_plain = false;
+        }
+        true
+    }
+
+    /// Adds what an edit does, which has this number in the list. Returns whether it was added; it is not where memory
+    /// is refused.
+    fn add_outline(&mut self, number: usize, outline: Outline<'a>) -> bool
         ensures outlines { IsTrue result → self.new.outlines.items ≡ self.old.outlines.items ++ outline.entry ∷ [] }
         ensures changes { self.new.changes ≡ self.old.changes }
         ensures plain { self.new.are_plain ≡ self.old.are_plain }
     {
-        if let Outline::Rename(path, key) = &outline {
-            let number = self.outlines.len();
-            if self
+        let own = self.outlines.len();
+        let noted = match &outline {
+            Outline::Rename(path, key) => self
                 .renames
-                .insert(number_beside(path, key), number)
-                .is_err()
-            {
-                return false;
-            }
-        }
-        self.outlines.push(outline).is_ok()
+                .insert(number_beside(path, key), own)
+                .is_ok(),
+            Outline::Insert(path) => self.values.insert(number_of(path), number).is_ok(),
+            _ => true,
+        };
+        noted && self.outlines.push(outline).is_ok()
     }
 
-    /// Adds an edit. Returns whether it was added: one whose change overlaps another is not, nor is any where memory is
-    /// refused. Then no change was added.
-    pub fn add(&mut self, outline: Outline<'a>, change: TextEdit) -> bool
+    /// Adds an edit, which has this number in the list. Returns whether it was added: one whose change overlaps another
+    /// is not, nor is any where memory is refused. Then no change was added.
+    pub fn add(&mut self, number: usize, outline: Outline<'a>, change: TextEdit) -> bool
         requires { IsOrdered change }
         ensures changes { IsTrue result → All (λ c. IsBeside c (change_of change)) self.old.changes
             × (self.new.changes ≡ with_change self.old.changes (change_of change)) }
@@ -161,8 +202,8 @@ impl<'a> AtOnce<'a> {
         ensures refused { result ≡ false → self.new.changes ≡ self.old.changes }
     {
         let start = change.place.start;
-        let number = self.outlines.len();
-        if self.numbers.insert(start, number).is_err() || !self.add_outline(outline) {
+        let own = self.outlines.len();
+        if self.numbers.insert(start, own).is_err() || !self.add_outline(number, outline) {
             return false;
         }
         self.are_plain = self.are_plain && is_plain(change.new.as_str());

@@ -41,6 +41,7 @@
 //! own (`Memory`, or `AllocError`), after which nothing that was borrowed has changed.
 #![tactic(auto)]
 
+mod again;
 mod alike;
 mod at_once;
 mod changes;
@@ -48,6 +49,7 @@ mod document;
 mod edits;
 mod gone;
 mod index_change;
+mod inserted;
 mod lines;
 mod opened;
 mod outline;
@@ -58,6 +60,7 @@ mod runs;
 mod seen;
 mod seen_paths;
 mod value_after;
+mod worth;
 
 pub use document::{Counts, Document, Entry};
 pub use keep_edit_plan::{Edit, TextEdit};

@@ -1,5 +1,5 @@
 //! What edits do, as far as it tells which others they leave alone.
-ghost use Rattle.std.specs.Prelude.{◌≡◌, ◌↔◌, ℕ, IfSome, Some, length, option_copied, option_map, slice_get};
+ghost use Rattle.std.specs.Prelude.{◌≡◌, ◌↔◌, ℕ, IfSome, Some, length, option_copied, option_map, slice_get, take};
 ghost use Rattle.keep_edit.specs.Runs.{outline, outlined, writes_anew};
 ghost use Rattle.keep_path.specs.Path.{index, without_last};
 ghost use Rattle.keep_path.specs.Step.{part_of};
@@ -49,6 +49,16 @@ impl<'a> Steps<'a> {
         Steps {
             path,
             count: path.len().saturating_sub(1),
+        }
+    }
+
+    /// So many steps of a path from the first on, or all where it has fewer.
+    pub fn first(path: &'a Path, count: usize) -> Steps<'a>
+        ensures { result ≡ take count path.now }
+    {
+        Steps {
+            path,
+            count: count.min(path.len()),
         }
     }
 
@@ -113,7 +123,19 @@ pub fn index_at(path: &Path, number: usize) -> Option<usize>
     }
 }
 
-/// What an edit does, with its path or keys. An insert or a remove of an entry of a value sets that value.
+/// How an edit of a document is seen by those that are made at once with it.
+#[derive(Clone, Copy)]
+pub enum SeenAs {
+    /// As what it is.
+    Itself,
+    /// It is of an entry of a value, and is seen as the set of that value.
+    Entry,
+    /// It inserts a line, and is seen as the insert of the path's first steps, so many: the last is the first new key.
+    FirstKey(usize),
+}
+
+/// What an edit does, with its path or keys. An insert or a remove of an entry of a value sets that value, and an
+/// insert of several keys inserts the first.
 #[derive(Drop)]
 pub enum Outline<'a> {
     Insert(Steps<'a>),
@@ -125,20 +147,23 @@ pub enum Outline<'a> {
 }
 
 impl<'a> Outline<'a> {
-    /// That of an edit, which is of an entry of a value or not.
-    pub fn of(edit: &'a Edit, is_entry: bool) -> Outline<'a>
-        ensures { outlined result ≡ outline edit.now is_entry }
+    /// That of an edit, which is seen so.
+    pub fn of(edit: &'a Edit, seen: SeenAs) -> Outline<'a>
+        ensures { outlined result ≡ outline edit.now seen }
     {
-        match edit {
-            Edit::Insert(path, _) | Edit::Remove(path) if is_entry => {
+        match (edit, seen) {
+            (Edit::Insert(path, _) | Edit::Remove(path), SeenAs::Entry) => {
                 Outline::Set(Steps::before_last(path))
             }
-            Edit::Insert(path, _) => Outline::Insert(Steps::of(path)),
-            Edit::Remove(path) => Outline::Remove(Steps::of(path)),
-            Edit::Set(path, _) => Outline::Set(Steps::of(path)),
-            Edit::Rename(path, key) => Outline::Rename(Steps::of(path), key.as_str()),
-            Edit::Table(keys) => Outline::Table(keys.as_slice()),
-            Edit::Element(keys) => Outline::Element(keys.as_slice()),
+            (Edit::Insert(path, _), SeenAs::FirstKey(count)) => {
+                Outline::Insert(Steps::first(path, count))
+            }
+            (Edit::Insert(path, _), SeenAs::Itself) => Outline::Insert(Steps::of(path)),
+            (Edit::Remove(path), _) => Outline::Remove(Steps::of(path)),
+            (Edit::Set(path, _), _) => Outline::Set(Steps::of(path)),
+            (Edit::Rename(path, key), _) => Outline::Rename(Steps::of(path), key.as_str()),
+            (Edit::Table(keys), _) => Outline::Table(keys.as_slice()),
+            (Edit::Element(keys), _) => Outline::Element(keys.as_slice()),
         }
     }
 

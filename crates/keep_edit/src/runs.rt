@@ -7,8 +7,9 @@ ghost use Rattle.keep_syntax.specs.Tree as tree;
 ghost use Rattle.keep_edit.specs.Lists.{AreMade, StopsAt};
 ghost use Rattle.keep_edit.specs.Answers.{IsSpanOf};
 ghost use Rattle.keep_edit.specs.Reading.{IsTextOfTree, ProfiledText, limit};
-ghost use Rattle.keep_edit.specs.Runs.{AddsItemHere, IsPlaceKept, MakeChanges, MakesInRunHere};
-ghost use Rattle.keep_edit.specs.Runs.{RemovesHeaderHere, SetsAgainHere, changed_text, outline};
+ghost use Rattle.keep_edit.specs.Runs.{AddsItemHere, IsPlaceKept, IsSeenAs, MakeChanges, MakesInRunHere};
+ghost use Rattle.keep_edit.specs.Runs.{RemovesHeaderHere, SetsAgainHere, SetsHolderHere, changed_text, outline};
+ghost use Rattle.keep_edit.specs.declared.outline.SeenAs.TheVariants.{Entry};
 ghost use Rattle.keep_edit.specs.ValueAfter.{MakesValue};
 ghost use Rattle.keep_edit_plan.specs.TextEdits.{IsChangeIn, change_of};
 ghost use Rattle.keep_edit_spec.specs.AddedItems.{item_path};
@@ -20,11 +21,11 @@ use crate::at_once::{AtOnce, Run, is_plain};
 use crate::document::Document;
 use crate::gone::GoneElements;
 use crate::opened::OpenValues;
-use crate::outline::{Outline, Steps, index_at};
+use crate::outline::{Outline, SeenAs, Steps, index_at};
 use crate::seen::SeenKeys;
 use crate::seen_paths::SeenPaths;
 use crate::value_after::value_after;
-use keep_edit_plan::{Edit, TextEdit, TextEdits, first_steps};
+use keep_edit_plan::{Edit, Planner, TextEdit, TextEdits, first_steps};
 use keep_edit_spec::EditFault;
 use keep_rules::{Origin, Path, ValueText};
 use keep_syntax::Span;
@@ -36,8 +37,6 @@ const MOST_AT_ONCE: usize = 1000;
 /// So many pairs of edits are compared in a run, and one more for each byte of the text: to compare more takes longer
 /// than to read the text anew.
 const PAIRS: usize = 5000;
-/// What it takes to read a text anew, in parts of it.
-const READING: usize = 1000;
 /// A value of no more bytes is read anew for an edit of an entry of it where the entries' places don't tell what it
 /// makes, whatever the length of the text.
 const SHORT_VALUE: usize = 1000;
@@ -155,46 +154,6 @@ impl Document {
         Ok(end)
     }
 
-    /// Whether edits take longer one by one than to read the text anew after all of them. It looks at no more of them
-    /// than that takes.
-    fn is_worth_reading(&self, edits: &[Edit]) -> bool {
-        let mut taken = 0usize;
-        for edit in edits {
-            taken = taken.saturating_add(self.part_of_reading(edit));
-            if taken > READING {
-                return true;
-            }
-        }
-        false
-    }
-
-    /// What it takes to make an edit alone, in parts of what it takes to read the text anew: that takes as long as two
-    /// removes of tables or elements with their headers, as 12 to 24 inserts, other removes or sets of a list, and as
-    /// 27 renames or sets of a scalar at 10 KB, 88 at 100 KB and some 190 from 256 KB on; new headers are so cheap that
-    /// they are worth it in small texts alone.
-    fn part_of_reading(&self, edit: &Edit) -> usize {
-        let len = self.text.len();
-        let as_many = match edit {
-            Edit::Set(_, value) if value.depth() > 0 => 23,
-            Edit::Set(_, _) | Edit::Rename(_, _) => 20 + (len / 1500).min(170),
-            Edit::Table(_) | Edit::Element(_) => 25 + len / 600,
-            Edit::Remove(path) if self.has_header(path) => 2,
-            Edit::Insert(_, _) | Edit::Remove(_) => 23,
-        };
-        READING / as_many
-    }
-
-    /// Whether a header defines the table at a path, or begins the element there.
-    fn has_header(&self, path: &Path) -> bool {
-        match self.index.find(path) {
-            Some(id) => matches!(
-                self.index.node(id).origin,
-                Origin::Header(_) | Origin::Element(_)
-            ),
-            None => false,
-        }
-    }
-
     /// How many pairs of edits may be compared in a run.
     fn most_pairs(&self) -> usize {
         PAIRS + self.text.len()
@@ -249,8 +208,7 @@ impl Document {
     }
 
     /// What the edits from number `first` on change in the text, as far as all are of one kind and each makes its
-    /// change beside those before it, or sets a value or renames a key again. Where memory is refused, there are
-    /// fewer.
+    /// change beside those before it, or does again what one of them does. Where memory is refused, there are fewer.
     fn changes_by(&self, edits: &[Edit], first: usize) -> Run
         requires { first < length edits.now }
         ensures few { (first ≤ result.end) × (result.end ≤ length edits.now) }
@@ -259,24 +217,19 @@ impl Document {
     {
         let mut so_far = AtOnce::new(self.alloc());
         let mut opened = OpenValues::new(self.alloc());
+        let mut planner = Planner::new(self.alloc(), self.as_ref());
         let mut keys = SeenKeys::new(self.alloc(), self.outline_of(&edits[first]));
         let mut left = self.most_pairs();
         let end = edits.len().min(first.saturating_add(MOST_AT_ONCE));
         for number in first..end {
             let edit = &edits[number];
-            let is_entry = self.is_entry(edit);
-            let outline = Outline::of(edit, is_entry);
-            if let Some(change) = self.change_again(&so_far, &mut opened, edit) {
-                if !so_far.overwrite(change) {
+            let seen = self.seen_as(edit);
+            let outline = Outline::of(edit, seen);
+            if let Some(again) = self.again(&so_far, &mut opened, &mut planner, edits, edit) {
+                if !keys.allow_again(&again) {
                     return so_far.up_to(number);
                 }
-                continue;
-            }
-            if let Some((outline, change)) = self.rename_again(&so_far, edit) {
-                if !keys.allow(&outline) || !keys.add(&outline).unwrap_or(false) {
-                    return so_far.up_to(number);
-                }
-                if !so_far.rename(outline, change) {
+                if !so_far.put_again(number, again) {
                     return so_far.up_to(number);
                 }
                 continue;
@@ -288,10 +241,12 @@ impl Document {
             {
                 return so_far.up_to(number);
             }
-            let Some(change) = self.change_in_run(edit, edits.get(number + 1), is_entry) else {
+            let next = edits.get(number + 1);
+            let Some(change) = self.change_in_run(&mut planner, &mut opened, edit, next, seen)
+            else {
                 return so_far.up_to(number);
             };
-            if !so_far.add(outline, change) {
+            if !so_far.add(number, outline, change) {
                 return so_far.up_to(number);
             }
         }
@@ -299,8 +254,8 @@ impl Document {
     }
 
     /// What the edits from number `first` on change in the text, as far as they leave one another alone, of whatever
-    /// kinds, and each makes its change beside those before it, or sets a value again. Where memory is refused, there
-    /// are fewer.
+    /// kinds, and each makes its change beside those before it, or does again what one of them does. Where memory is
+    /// refused, there are fewer.
     fn changes_of_kinds(&self, edits: &[Edit], first: usize) -> Run
         requires { first < length edits.now }
         ensures few { (first ≤ result.end) × (result.end ≤ length edits.now) }
@@ -309,25 +264,20 @@ impl Document {
     {
         let mut so_far = AtOnce::new(self.alloc());
         let mut opened = OpenValues::new(self.alloc());
+        let mut planner = Planner::new(self.alloc(), self.as_ref());
         let mut paths = SeenPaths::new(self.alloc());
         let mut left = self.most_pairs();
         let mut is_text_plain = false;
         let end = edits.len().min(first.saturating_add(MOST_AT_ONCE));
         for number in first..end {
             let edit = &edits[number];
-            let is_entry = self.is_entry(edit);
-            let outline = Outline::of(edit, is_entry);
-            if let Some(change) = self.change_again(&so_far, &mut opened, edit) {
-                if !so_far.overwrite(change) {
+            let seen = self.seen_as(edit);
+            let outline = Outline::of(edit, seen);
+            if let Some(again) = self.again(&so_far, &mut opened, &mut planner, edits, edit) {
+                if !paths.allow_again(&again) {
                     return so_far.up_to(number);
                 }
-                continue;
-            }
-            if let Some((outline, change)) = self.rename_again(&so_far, edit) {
-                if !paths.allow(&outline) || !paths.add(&outline).unwrap_or(false) {
-                    return so_far.up_to(number);
-                }
-                if !so_far.rename(outline, change) {
+                if !so_far.put_again(number, again) {
                     return so_far.up_to(number);
                 }
                 continue;
@@ -339,7 +289,9 @@ impl Document {
             {
                 return so_far.up_to(number);
             }
-            let Some(change) = self.change_in_run(edit, edits.get(number + 1), is_entry) else {
+            let next = edits.get(number + 1);
+            let Some(change) = self.change_in_run(&mut planner, &mut opened, edit, next, seen)
+            else {
                 return so_far.up_to(number);
             };
             if outline.writes_anew() {
@@ -349,7 +301,7 @@ impl Document {
                     return so_far.up_to(number);
                 }
             }
-            if !so_far.add(outline, change) {
+            if !so_far.add(number, outline, change) {
                 return so_far.up_to(number);
             }
         }
@@ -358,7 +310,7 @@ impl Document {
 
     /// What an edit changes of the text, if it sets a value that these edits are known to set, or is of an entry of
     /// one: that comes in the place of what they change there.
-    fn change_again(
+    pub(crate) fn change_again(
         &self,
         so_far: &AtOnce,
         opened: &mut OpenValues,
@@ -400,10 +352,19 @@ impl Document {
         let start = self.holder_span(path)?.start;
         let earlier = so_far.setting(&Steps::before_last(path), start)?;
         let value = self.value_made(opened, start, earlier.new.as_str(), edit)?;
+        self.set_of_holder(path, value, earlier.place)
+    }
+
+    /// The set of the value from which the last step of a path leads, if that replaces this place of the text. None
+    /// where it is not there, and where memory was refused.
+    fn set_of_holder(&self, path: &Path, value: ValueText, place: Span) -> Option<TextEdit>
+        ensures made { IfSome result (SetsHolderHere self.now path.now value) }
+        ensures place { IfSome result (λ change. change.place ≡ place) }
+    {
         let alloc = self.alloc();
         let holder = holder_path(alloc, path)?;
         let change = self.as_ref().change_by(alloc, &Edit::Set(holder, value))?;
-        if change.place != earlier.place {
+        if change.place != place {
             return None;
         }
         Some(change)
@@ -443,23 +404,29 @@ impl Document {
         len > SHORT_VALUE.max(self.text.len() / 64)
     }
 
-    /// Whether an edit is the insert or the remove of an entry of a value.
-    fn is_entry(&self, edit: &Edit) -> bool {
-        let (Edit::Insert(path, _) | Edit::Remove(path)) = edit else {
-            return false;
-        };
-        if path.len() == 0 {
-            return false;
-        }
-        match self.index.find_first(path, path.len() - 1) {
-            Some(id) => matches!(self.index.node(id).origin, Origin::Value(_)),
-            None => false,
+    /// How an edit is seen by those that are made at once with it.
+    fn seen_as(&self, edit: &Edit) -> SeenAs
+        ensures { IsSeenAs self.now edit.now result }
+    {
+        match edit {
+            Edit::Insert(path, _) => {
+                let len = path.len();
+                let reach = self.as_ref().reach(path);
+                let first_key = reach.steps + 1;
+                if reach.is_value && first_key == len {
+                    SeenAs::Entry
+                } else {
+                    SeenAs::FirstKey(first_key)
+                }
+            }
+            Edit::Remove(path) if self.holder_span(path).is_some() => SeenAs::Entry,
+            _ => SeenAs::Itself,
         }
     }
 
     /// The outline of an edit of this document.
     fn outline_of<'a>(&self, edit: &'a Edit) -> Outline<'a> {
-        Outline::of(edit, self.is_entry(edit))
+        Outline::of(edit, self.seen_as(edit))
     }
 
     /// Whether the second edit is there and of another kind.
@@ -495,16 +462,43 @@ impl Document {
     /// What an edit changes of the text in a run, by itself, or as the set of the value that holds its entry. None if
     /// that value is long and the next edit would end the run to read it anew: to do so for each of many takes longer
     /// than they take alone.
-    fn change_in_run(&self, edit: &Edit, next: Option<&Edit>, is_entry: bool) -> Option<TextEdit>
-        ensures { IfSome result (MakesInRunHere self.now edit.now (outline edit.now is_entry)) }
+    fn change_in_run(
+        &self,
+        planner: &mut Planner,
+        opened: &mut OpenValues,
+        edit: &Edit,
+        next: Option<&Edit>,
+        seen: SeenAs,
+    ) -> Option<TextEdit>
+        requires planner { planner.old ≡ self.now }
+        requires seen { IsSeenAs self.now edit.now seen }
+        ensures made { IfSome result (MakesInRunHere self.now edit.now (outline edit.now seen)) }
+        ensures planner { planner.new ≡ planner.old }
     {
-        if !is_entry {
-            return self.as_ref().change_by(self.alloc(), edit);
-        }
+        let SeenAs::Entry = seen else {
+            return planner.change_by(self.alloc(), edit);
+        };
         if self.leaves_long_reading(edit, next) {
             return None;
         }
+        if let Some(change) = self.change_by_places(opened, edit) {
+            return Some(change);
+        }
         self.as_ref().change_of_holder(self.alloc(), edit)
+    }
+
+    /// What an edit of an entry changes of the text, as the set of the value that holds the entry, if the places of
+    /// that value's entries tell it.
+    fn change_by_places(&self, opened: &mut OpenValues, edit: &Edit) -> Option<TextEdit>
+        ensures { IfSome result (MakesInRunHere self.now edit.now (outline edit.now Entry)) }
+    {
+        let (Edit::Insert(path, _) | Edit::Remove(path)) = edit else {
+            return None;
+        };
+        let span = self.holder_span(path)?;
+        let was = self.text.as_str().get(span.start..span.end)?;
+        let value = opened.after(self.alloc(), span.start, was, edit)?;
+        self.set_of_holder(path, value, span)
     }
 
     /// Whether an edit that writes a line or a header at a byte can do so after these changes as before them. They
@@ -567,8 +561,7 @@ impl Document {
     }
 
     /// What the edits from number `first` on take from the text, as far as they are removes of tables and of elements
-    /// of one array of tables with their headers, each beside those before it. Where memory is refused, there are
-    /// fewer.
+    /// of arrays of tables with their headers, each beside those before it. Where memory is refused, there are fewer.
     fn sections_by(&self, edits: &[Edit], first: usize) -> TextEdits
         requires { first < length edits.now }
         ensures few { first + length result ≤ length edits.now }

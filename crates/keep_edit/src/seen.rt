@@ -1,9 +1,10 @@
 //! The paths of edits of one kind that are made at once, by which most are known to leave alone those before them.
-ghost use Rattle.std.specs.Prelude.{◌≡◌, ◌+◌, ◌≤◌, ℕ, IfOk, IsTrue, List, OnOk, length, map, take};
+ghost use Rattle.std.specs.Prelude.{◌≡◌, ◌+◌, ◌≤◌, ℕ, IfOk, IsTrue, List, OnOk, length, map, take, true};
 ghost use Rattle.keep_edit.specs.declared.outline.Outline.{Outline};
-ghost use Rattle.keep_edit.specs.Runs.{Allows, LeavesAlone};
+ghost use Rattle.keep_edit.specs.Runs.{Allows, LeavesAlone, outlined};
 ghost use Rattle.keep_edit.specs.Seen.{GoesOn, HasPath, IsSeen, hashed, number_of};
 ghost use Rattle.keep_edit_plan.specs.Headers.{key_texts};
+ghost use Rattle.keep_edit_spec.specs.Runs.{is_insert};
 ghost use Rattle.keep_path.specs.Path.{Part, beside, key};
 
 use crate::outline::{Outline, Steps};
@@ -63,12 +64,15 @@ fn number_of_keys(keys: &[String]) -> u64
 }
 
 /// The paths that tell apart edits of one kind, each by a number that stands for it: those of inserts, renames and
-/// headers, and the new ones of renames. Paths with other numbers are other paths. There are at most 2,000, so that
-/// paths made to collide take little time.
+/// headers of tables, and the new ones of renames. Paths with other numbers are other paths. There are at most 2,000,
+/// so that paths made to collide take little time. Elements with as many keys leave one another alone, whatever these
+/// are.
 #[derive(Drop)]
 pub struct SeenKeys<'a> {
     first: Outline<'a>,
     paths: HashSet<u64>,
+    /// Whether all elements that were added have as many keys as the first.
+    are_alike: bool,
 }
 
 impl<'a> SeenKeys<'a> {
@@ -77,6 +81,7 @@ impl<'a> SeenKeys<'a> {
         SeenKeys {
             first,
             paths: HashSet::new(alloc),
+            are_alike: true,
         }
     }
 
@@ -96,9 +101,13 @@ impl<'a> SeenKeys<'a> {
                 self.add_number(number_beside(path, key))
             }
             (Outline::Table(_), Outline::Table(keys)) => self.add_number(number_of_keys(keys)),
-            (Outline::Remove(_), Outline::Remove(_))
-            | (Outline::Set(_), Outline::Set(_))
-            | (Outline::Element(_), Outline::Element(_)) => Ok(true),
+            (Outline::Element(keys), Outline::Element(more)) => {
+                self.are_alike = self.are_alike && keys.len() == more.len();
+                Ok(true)
+            }
+            (Outline::Remove(_), Outline::Remove(_)) | (Outline::Set(_), Outline::Set(_)) => {
+                Ok(true)
+            }
             _ => Ok(false),
         }
     }
@@ -126,6 +135,9 @@ impl<'a> SeenKeys<'a> {
                 self.lacks(number_beside(path, key)) && self.lacks_all_above(path)
             }
             (Outline::Table(_), Outline::Table(keys)) => self.lacks(number_of_keys(keys)),
+            (Outline::Element(keys), Outline::Element(more)) => {
+                self.are_alike && keys.len() == more.len()
+            }
             (Outline::Remove(_), Outline::Remove(_)) | (Outline::Set(_), Outline::Set(_)) => true,
             _ => false,
         }
@@ -142,6 +154,13 @@ impl<'a> SeenKeys<'a> {
             }
             _ => false,
         }
+    }
+
+    /// Whether the edits whose paths were added are inserts.
+    pub fn is_of_inserts(&self) -> bool
+        ensures { IsTrue result → (other : Outline) → IsSeen self.now other → is_insert (outlined other) ≡ true }
+    {
+        matches!(self.first, Outline::Insert(_))
     }
 
     /// Whether the path of a number is none of these.

@@ -1,44 +1,42 @@
--- The line that an insert adds which is not refused, of one key, at the end of a body where the text is not open.
+-- The line that an insert adds which is not refused, at the end of a body where the text is not open.
 --
--- The path is the holder of the body and one key. The edit puts the keyval before the line at which the body ends. If
--- that came after the last line, the edit would put a newline first (`past_new`), and so more bytes than were written
--- where the text is not open: a newline has bytes (`newline_some`). After a header's line the number is not 0.
+-- The path is the holder of the body and the keys that are new. The edit puts the keyval before the line at which the
+-- body ends. If that came after the last line, the edit would put a newline first (`past_new`), and so more bytes than
+-- were written where the text is not open: a newline has bytes (`newline_some`). If it came before the first line, it
+-- would be put where the lines start.
 --
 -- Theorems: `line_is_added`; `at_boundary`: it comes between characters.
 use Rattle.std.proofs.Common.{◌≡◌, ◌⊎◌, ℕ, zero, suc, ◌+◌, ◌-◌, ◌<◌, ◌≤◌, Bool, true, false, not, cond, List, [], ◌∷◌}
 use Rattle.std.proofs.Common.{◌++◌, length, take, drop, refl, sym, ap, subst, ◌∙◌, arith, append_assoc, length-append}
-use Rattle.std.proofs.Common.{Option, Some, None, Result, Ok, Err, OnOk, inl, inr}
+use Rattle.std.proofs.Common.{Option, Some, None, Result, Ok, Err, OnOk, inl, inr, map, ◌≢◌}
 use Rattle.std.specs.Prelude.{IsCharBoundary, is_some}
-use Rattle.std.specs.List.{flat_map, list_any}
+use Rattle.std.specs.List.{flat_map}
 use Rattle.std.specs.Result.{result_ok}
 use Rattle.std.proofs.lemmas.Bool.{cases_lt}
-use Rattle.std.proofs.lemmas.List.{length-drop, take-append-drop}
+use Rattle.std.proofs.lemmas.List.{append-nil}
 use Rattle.keep_types.specs.declared.leaf.Leaf.{Leaf}
 use Rattle.keep_types.specs.declared.leaf.Leaf.TheVariants as leaf
 use Rattle.keep_types.specs.declared.leaf.Profile.{Profile}
-use Rattle.keep_types.specs.declared.node.Origin.TheVariants as origin
 use Rattle.keep_syntax.specs.declared.syntax.Syntax.{Syntax}
 use Rattle.keep_syntax.specs.Grammar.{IsDocument}
 use Rattle.keep_syntax.specs.Tree.{Written, Value, Document, Line, Ended, keyval, leaves, token, bom_leaves, text}
 use Rattle.keep_syntax.specs.Tree.{ended_leaves, line_leaves, name_leaves, value_leaves, text_of, value_depth}
 use Rattle.keep_syntax.proofs.Shared.{AreSome, document_some, width-append}
 use Rattle.keep_path.specs.NodeInfos.{NodeInfos}
-use Rattle.keep_path.specs.Path.{Part, AreUtf8, key, index}
-use Rattle.keep_meaning.specs.Marks.{start}
-use Rattle.keep_meaning.specs.Meaning.{lines, mentions_in}
-use Rattle.keep_meaning.specs.Nodes.{mentioned_origin}
+use Rattle.keep_path.specs.Path.{Part, AreUtf8, key}
+use Rattle.keep_meaning.specs.Meaning.{mentions_in}
 use Rattle.keep_edit_spec.specs.declared.fault.EditFault.{EditFault}
 use Rattle.keep_edit_spec.specs.Changed.{Changed, Place, place_of}
 use Rattle.keep_edit_spec.specs.Edits.{at_line, change, change_insert, changed_or_same, end_of, insert, insert_line}
 use Rattle.keep_edit_spec.specs.Edits.{name_with, new_keyval, place}
 use Rattle.keep_edit_spec.specs.Insertion.{is_open, keyed_text, missing_newline, put_in}
-use Rattle.keep_edit_spec.specs.Lines.{begins, body_end, ended_text, first_newline, last_line, new_line, newline_of}
+use Rattle.keep_edit_spec.specs.Lines.{ended_text, first_newline, new_line, newline_of}
 use Rattle.keep_edit_spec.specs.Lines.{put_lines}
-use Rattle.keep_edit_spec.specs.Look.{holder, is_index, item_number, keys_in}
-use Rattle.keep_edit_spec.proofs.Shared.{header_ends, holder_prefix, root_ends}
+use Rattle.keep_edit_spec.specs.Look.{holder, item_number, keys_in}
+use Rattle.keep_edit_spec.proofs.Shared.{IsNewPath, header_ends, new_path, place_is, root_ends}
 use Rattle.keep_edit_spec.specs.AddedLines.{AddsLine}
 use Rattle.keep_edit_spec.specs.TextChanges.{change_at}
-use Rattle.keep_edit_plan.specs.Inserting.{IsInsertionOf, IsKeyvalSpot, lines_start, new_line_at, origin_of}
+use Rattle.keep_edit_plan.specs.Inserting.{IsInsertionOf, IsKeyvalSpot, lines_start, new_line_at}
 use Rattle.keep_edit_plan.specs.PutLines.{body_end_of}
 use Rattle.keep_edit_plan.specs.Reading.{limit, ProfiledText, Holds, IsTextOfTree, IsTextOfValue}
 use Rattle.keep_edit_plan.specs.declared.insert.Insertion.{Insertion}
@@ -46,7 +44,6 @@ use Rattle.keep_edit_plan.specs.declared.insert.Spot.TheVariants.{AfterBody}
 use Rattle.keep_edit_plan.proofs.InsertedLaws.{body_put, body_there, keyval_only}
 use Rattle.keep_edit_plan.proofs.KeysLaws.{keys_utf8}
 use Rattle.keep_edit_plan.proofs.LineChangeLaws.{body_spot}
-use Rattle.keep_edit_plan.proofs.RootLaws.{root_unsaid}
 
 -- ---- of what is known of the answers on the way
 
@@ -101,11 +98,11 @@ past_new (suc m) new newline [] last past = refl
 past_new (suc m) new newline (e ∷ es) last past = past_new m new newline es last (omega (arith, past))
 
 -- how many bytes a line with a keyval has
-keyval_long : (k : List ℕ) (v : Value) (newline : Written)
-    → length (ended_text (new_line newline (keyval (name_with (k ∷ [])) v) ∷ []))
-    ≡ length (keyed_text (k ∷ []) v) + length newline.text
-keyval_long k v newline =
-    let name : List Written = name_leaves (name_with (k ∷ [])) in
+keyval_long : (k : List ℕ) (ks : List (List ℕ)) (v : Value) (newline : Written)
+    → length (ended_text (new_line newline (keyval (name_with (k ∷ ks)) v) ∷ []))
+    ≡ length (keyed_text (k ∷ ks) v) + length newline.text
+keyval_long k ks v newline =
+    let name : List Written = name_leaves (name_with (k ∷ ks)) in
     let line : List Written = (name ++ value_leaves v) ++ [] in
     omega (
       arith,
@@ -117,41 +114,14 @@ keyval_long k v newline =
       length-append (text_of name) (text_of (value_leaves v)),
     )
 
--- ---- where the body ends
+-- ---- where the lines start
 
--- the root has no header
-unheaded : (a : List Part) (s : Document) (h : ℕ)
-    → (origin_of a s ≡ origin.Header h) ⊎ (origin_of a s ≡ origin.Element h) → a ≡ [] → ⊥
-unheaded a s h headed e =
-    let root : origin_of a s ≡ origin.Root =
-    ap (λ (p : List Part). origin_of p s) e ∙ ap mentioned_origin (root_unsaid s) in
-    elim headed [
-      | inl is ↦ (let k : origin.Root ≡ origin.Header h = sym root ∙ is in absurd cc)
-      | inr is ↦ (let k : origin.Root ≡ origin.Element h = sym root ∙ is in absurd cc)
-    ]
+take_none : (es : List Ended) → take 0 es ≡ []
+take_none [] = refl
+take_none (e ∷ es) = refl
 
--- after a header's line, not before the first
-end_later : (s : Document) (a : List Part) (n : ℕ) → (a ≡ [] → ⊥) → end_of s a ≡ Some n → 0 < n
-end_later s [] n some e = absurd (some refl)
-end_later s (p ∷ ps) n some e = by (last_line (begins (p ∷ ps)) start (lines s)) e
-  where
-    by : (o : Option ℕ) → elim o [ None ↦ None | Some i ↦ Some (body_end i (lines s)) ] ≡ Some n → 0 < n
-    by None e = absurd cc
-    by (Some i) e = let same : body_end i (lines s) ≡ n = cc in omega (arith, same)
-
--- The body ends before this line. It is the first one only if the value is a scalar.
-record IsBodyEnd (s : Document) (a : List Part) (v : Value) : Type 0 where
-  number : ℕ
-  ends : end_of s a ≡ Some number
-  newline : (0 < number) ⊎ (value_depth v ≡ 0)
-
--- ---- the path
-
-one_key : (path : List Part) → length path ≡ 1 → list_any is_index path ≡ false → (k : List ℕ) × (path ≡ key k ∷ [])
-one_key [] few keys = absurd (omega (arith, few))
-one_key (key k ∷ []) few keys = (k, refl)
-one_key (index n ∷ []) few keys = absurd cc
-one_key (p ∷ q ∷ path) few keys = absurd (omega (arith, few))
+start_is : (s : Document) → lines_start s ≡ length (text_of (bom_leaves s.bom))
+start_is s = omega arith
 
 -- ---- the line
 
@@ -177,36 +147,23 @@ module _ (d : ProfiledText) (syntax : Syntax) (nodes : NodeInfos) (path : List P
       by None h = h.1 ∙ sym (ap (λ (p : List Part). length p) h.0)
       by (Some n) h = h.1
 
-  body_ends : (header ≡ None → value_depth v ≤ 0) → IsBodyEnd s a v
-  body_ends flat = by header spot flat
+  -- the body ends before this line
+  body_ends : (n : ℕ) × (end_of s a ≡ Some n)
+  body_ends = by header spot
     where
-      by : (o : Option ℕ) → IsKeyvalSpot a s i.from (AfterBody o) → (o ≡ None → value_depth v ≤ 0) → IsBodyEnd s a v
-      by None h flat = record {
-        number = (root_ends s).line;
-        ends = ap (end_of s) h.0 ∙ (root_ends s).ends;
-        newline = inr (omega (arith, flat refl));
-      }
-      by (Some n) h flat =
-          let ends = header_ends a s n h.0 in
-          record {
-            number = ends.line;
-            ends = ends.ends;
-            newline = inl (end_later s a ends.line (unheaded a s n h.0) ends.ends);
-          }
+      by : (o : Option ℕ) → IsKeyvalSpot a s i.from (AfterBody o) → (n : ℕ) × (end_of s a ≡ Some n)
+      by None h = ((root_ends s).line, ap (end_of s) h.0 ∙ (root_ends s).ends)
+      by (Some n) h = ((header_ends a s n h.0).line, (header_ends a s n h.0).ends)
 
-  -- the key after the holder
-  last_key : length path - i.from ≡ 1 → (k : List ℕ) × (drop i.from path ≡ key k ∷ [])
-  last_key few =
-      one_key (drop i.from path) (omega (arith, few, length-drop i.from path))
-      (body_there d syntax nodes path s v bytes i holds read value there utf8 header after_body).put.keys
+  -- the keys after the holder
+  new : IsNewPath path (mentions_in s)
+  new = new_path d.profile limit (mentions_in s) path v no_item there.0
 
-  whole : (k : List ℕ) → drop i.from path ≡ key k ∷ [] → path ≡ a ++ key k ∷ []
-  whole k last =
-      sym (take-append-drop i.from path)
-      ∙ ap (λ (p : List Part). p ++ drop i.from path)
-      (ap (λ (n : ℕ). take n path) from_holder
-      ∙ holder_prefix d.profile limit s path v read.reads.valid no_item there.0)
-      ∙ ap (λ (p : List Part). a ++ p) last
+  keys_are : drop i.from path ≡ map key (new.first ∷ new.more)
+  keys_are = ap (λ (n : ℕ). drop n path) from_holder ∙ new.rest
+
+  texts_are : keys_in (drop i.from path) ≡ new.first ∷ new.more
+  texts_are = ap (λ (n : ℕ). keys_in (drop n path)) from_holder ∙ new.keys
 
   -- what the edit writes
   written : (n : ℕ) → end_of s a ≡ Some n → (place s (insert path v)).new
@@ -220,31 +177,34 @@ module _ (d : ProfiledText) (syntax : Syntax) (nodes : NodeInfos) (path : List P
       (sym from_holder)
 
   -- Where the text is not open, nothing comes before the keyval, so the line is not after the last.
-  not_past : (n at : ℕ) (k line : List ℕ) → end_of s a ≡ Some n → drop i.from path ≡ key k ∷ []
+  not_past : (n at : ℕ) (line : List ℕ) → end_of s a ≡ Some n
       → line ≡ (new_line_at s at (keys_in (drop i.from path)) v).new
       → false ≡ is_open (drop (lines_start s) (take at d.text)) → place s (insert path v) ≡ put_in at line
       → length s.ended < n → ⊥
-  not_past n at k line ends last line_is closed is past =
+  not_past n at line ends line_is closed is past =
+      let k : List ℕ = new.first in
+      let ks : List (List ℕ) = new.more in
       let newline : Written = newline_of s in
       let missing : missing_newline (text s) newline.text (lines_start s) at ≡ [] =
       ap (λ (b : Bool). cond b newline.text [])
       (ap (λ (t : List ℕ). is_open (drop (lines_start s) (take at t))) (sym read.reads.spelled) ∙ sym closed) in
-      let given : line ≡ keyed_text (k ∷ []) v ++ newline.text =
+      let given : line ≡ keyed_text (k ∷ ks) v ++ newline.text =
       line_is
       ∙ ap (λ (t : List ℕ). t ++ (keyed_text (keys_in (drop i.from path)) v ++ newline.text)) missing
-      ∙ ap (λ (p : List Part). keyed_text (keys_in p) v ++ newline.text) last in
-      let more : line ≡ newline.text ++ ended_text (new_line newline (keyval (name_with (k ∷ [])) v) ∷ []) =
+      ∙ ap (λ (l : List (List ℕ)). keyed_text l v ++ newline.text) texts_are in
+      let more : line ≡ newline.text ++ ended_text (new_line newline (keyval (name_with (k ∷ ks)) v) ∷ []) =
       ap (λ (p : Place). p.new) (sym is) ∙ written n ends
       ∙ past_new n (new_line newline (new_keyval (drop i.from path) v) ∷ []) newline s.ended s.last past
-      ∙ ap (λ (p : List Part). newline.text ++ ended_text (new_line newline (new_keyval p v) ∷ [])) last in
+      ∙ ap (λ (l : List (List ℕ)). newline.text ++ ended_text (new_line newline (keyval (name_with l) v) ∷ []))
+      texts_are in
       omega (
         arith,
         newline_some d.profile s read.reads.valid,
         ap length given,
         ap length more,
-        keyval_long k v newline,
-        length-append (keyed_text (k ∷ []) v) newline.text,
-        length-append newline.text (ended_text (new_line newline (keyval (name_with (k ∷ [])) v) ∷ [])),
+        keyval_long k ks v newline,
+        length-append (keyed_text (k ∷ ks) v) newline.text,
+        length-append newline.text (ended_text (new_line newline (keyval (name_with (k ∷ ks)) v) ∷ [])),
       )
 
   -- it comes between characters
@@ -254,32 +214,47 @@ module _ (d : ProfiledText) (syntax : Syntax) (nodes : NodeInfos) (path : List P
       (subst (λ (t : List ℕ). IsCharBoundary t (body_end_of s header)) (sym read.reads.spelled)
       (body_there d syntax nodes path s v bytes i holds read value there utf8 header after_body).put.boundary)
 
+  -- It is put where the lines start only if it comes before the first.
+  not_first : (n at : ℕ) (line : List ℕ) → end_of s a ≡ Some n → n ≤ length s.ended
+      → place s (insert path v) ≡ put_in at line → (value_depth v ≤ 0) ⊎ (at ≢ lines_start s)
+      → (0 < n) ⊎ (value_depth v ≡ 0)
+  not_first n at line ends few put (inl flat) = inr (omega (arith, flat))
+  not_first (suc n) at line ends few put (inr later) = inl (omega arith)
+  not_first zero at line ends few put (inr later) =
+      let bom : List ℕ = text_of (bom_leaves s.bom) in
+      let placed : place s (insert path v) ≡ put_in (length (bom ++ ended_text (take 0 s.ended))) _ =
+      place_is s path v new.first new.more 0 no_item new.whole ends few in
+      let none : ended_text (take 0 s.ended) ≡ [] = ap ended_text (take_none s.ended) in
+      absurd (later (ap (λ (p : Place). p.start) (sym put ∙ placed)
+      ∙ ap (λ (t : List ℕ). length (bom ++ t)) none ∙ ap length (append-nil bom) ∙ sym (start_is s)))
+
   pub line_is_added : (at : ℕ) (old line : List ℕ) → at ≡ body_end_of s header → old ≡ []
       → line ≡ old ++ (new_line_at s at (keys_in (drop i.from path)) v).new
-      → false ≡ is_open (drop (lines_start s) (take at d.text)) → length path - i.from ≡ 1
-      → (header ≡ None → value_depth v ≤ 0) → AddsLine d.profile limit s path v (change_at at (at - at) line)
-  line_is_added at old line at_end none_before pushed closed few flat =
+      → false ≡ is_open (drop (lines_start s) (take at d.text))
+      → (value_depth v ≤ 0) ⊎ (at ≢ lines_start s) → AddsLine d.profile limit s path v (change_at at (at - at) line)
+  line_is_added at old line at_end none_before pushed closed later =
       let line_is : line ≡ (new_line_at s at (keys_in (drop i.from path)) v).new =
       pushed ∙ ap (λ (t : List ℕ). t ++ (new_line_at s at (keys_in (drop i.from path)) v).new) none_before in
       let (given, is, placed, within) =
       body_put d syntax nodes path s v bytes i holds read value there utf8 header at [] line after_body at_end line_is
       in
       let put : place s (insert path v) ≡ put_in at line = placed ∙ ap (put_in at) (sym is) in
-      let (k, last) = last_key few in
-      let end : IsBodyEnd s a v = body_ends flat in
+      let (number, ends) = body_ends in
+      let few : number ≤ length s.ended = elim (cases_lt (length s.ended) number) [
+        | inl past ↦ absurd (not_past number at line ends line_is closed put past)
+        | inr few ↦ few
+      ] in
       record {
         utf8 = keys_utf8 path utf8;
         given = record { valid = value.reads.valid; obeys = value.obeys };
         allowed = there.0;
-        text = k;
-        one = whole k last;
-        number = end.number;
-        ends = end.ends;
-        closed = elim (cases_lt (length s.ended) end.number) [
-          | inl past ↦ absurd (not_past end.number at k line end.ends last line_is closed put past)
-          | inr few ↦ few
-        ];
-        newline = end.newline;
+        text = new.first;
+        more = new.more;
+        new = new.whole;
+        number = number;
+        ends = ends;
+        closed = few;
+        newline = not_first number at line ends few put later;
         adds = omega arith;
         is = put;
       }

@@ -25,10 +25,10 @@ use Rattle.keep_syntax.specs.Grammar.{AreEntries, IsFurther, IsKeyPart, IsName, 
 use Rattle.keep_path.specs.Path.{key, same_path}
 use Rattle.keep_meaning.specs.Meaning.{further_value, key_value, step, string_value}
 use Rattle.keep_edit_spec.proofs.Shared.{text_of-append}
-use Rattle.keep_edit_plan.specs.OpenKeyvals.{IsKeyedAt, IsOtherKey, IsOwnKey}
+use Rattle.keep_edit_plan.specs.OpenKeyvals.{IsKeyedAt, IsOther, IsOtherKey, IsOwnKey}
 use Rattle.keep_edit_plan.specs.OpenValues.{AreLaid}
 use Rattle.keep_edit_plan.specs.declared.open_value.EntryPlace.{EntryPlace}
-use Rattle.keep_edit_plan.proofs.OtherKeys.{after_part, entry_at, further_on, further_split, more_stops, other_is}
+use Rattle.keep_edit_plan.proofs.OtherKeys.{after_part, entry_at, further_on, further_split, more_stops, part_is}
 use Rattle.keep_edit_plan.proofs.TakenEntries.{IsHit, end_len, round, round_split, to_end}
 
 -- ---- the loop
@@ -150,7 +150,7 @@ module _ (name bytes : List ℕ) where
       → drop end bytes ≡ round lead gap (entry (Some nm) body nested after comma rest) right
       → IsOwnKey name (drop (end + p.gap) bytes) → same_path (step k (Some nm)) (key name ∷ []) ≡ true
   own_hit k end lead gap nm body nested after comma rest right p valid eg here own =
-      let (y, at) = entry_at name bytes end lead gap nm body nested after comma rest right p eg here in
+      let (y, at) = entry_at bytes end lead gap nm body nested after comma rest right p eg here in
       let part = own_is name nm.key.first (after_part nm y) valid.key.first
       (more_stops nm.key.more nm.before (text_of nm.after ++ y) valid.key.more valid.before)
       (subst (IsOwnKey name) at own) in
@@ -163,9 +163,9 @@ module _ (name bytes : List ℕ) where
       → drop end bytes ≡ round lead gap (entry (Some nm) body nested after comma rest) right
       → IsOtherKey name (drop (end + p.gap) bytes) → same_path (step k (Some nm)) (key name ∷ []) ≡ false
   other_missed k end lead gap nm body nested after comma rest right p valid eg here other =
-      let (y, at) = entry_at name bytes end lead gap nm body nested after comma rest right p eg here in
+      let (y, at) = entry_at bytes end lead gap nm body nested after comma rest right p eg here in
       same_other (key_value nm.key.first) nm.key.more name
-      (other_is name nm.key.first (after_part nm y) valid.key.first
+      (part_is (IsOther name) nm.key.first (after_part nm y) valid.key.first
       (more_stops nm.key.more nm.before (text_of nm.after ++ y) valid.key.more valid.before)
       (subst (IsOtherKey name) at other))
 
@@ -194,7 +194,7 @@ module _ (name bytes : List ℕ) where
       subst (λ (m : ℕ). AreLaid m rest ps) size laid.1.1 in
       let there : drop (end + p.gap + p.len) bytes ≡ round lead' g rest right =
       ap (λ (m : ℕ). drop m bytes) (let e : end + p.gap + p.len ≡ end + (p.gap + p.len) = omega arith in e)
-      ∙ further_on name bytes end (p.gap + p.len) (to_end lead gap (Some nm) body nested) (round lead' g rest right)
+      ∙ further_on bytes end (p.gap + p.len) (to_end lead gap (Some nm) body nested) (round lead' g rest right)
       (here ∙ round_split lead gap (Some nm) body nested after g rest right)
       (end_len lead gap (Some nm) body nested p laid.0 laid.1.0) in (
         other_missed k end lead gap nm body nested after (Some g) rest right p valid.0 laid.0 here keyed.0,

@@ -56,6 +56,8 @@ pub mod TakenValues
 pub mod KeyedEntries
 pub mod CutPlaces
 pub mod OtherKeys
+pub mod FirstParts
+pub mod KeyNumberLaws
 pub mod OpenKeyvalLaws
 pub mod OpenItemLaws
 pub mod OpenPutLaws

@@ -2,11 +2,13 @@
 --
 -- It comes after the last entry (`put_last_laid`, an induction over the entries), or into empty braces
 -- (`put_keyval_laid`). So the bytes that come in where the places say make the text of the new tree. That this is a
--- value by the rules, and how deep it is, is the law of changes of entries, if nothing is at the key before.
+-- value by the rules, and how deep it is, is the law of changes of entries, if nothing is at the key before: each key
+-- there begins with another one, or has its number among some, of which the key's is none (`are_others`).
 --
 -- Theorems: `keyval_holds`, `keyval_puts`.
 use Rattle.std.proofs.Common.{◌≡◌, ℕ, suc, max, ◌+◌, ◌≤◌, false, List, [], ◌∷◌, ◌++◌, length, take, drop, refl, sym, ap}
-use Rattle.std.proofs.Common.{◌∙◌, append_assoc, arith, length-append, slice_get, Option, Some, None, subst}
+use Rattle.std.proofs.Common.{◌∙◌, ◌⊎◌, append_assoc, arith, inl, inr, length-append, slice_get, Option, Some, None}
+use Rattle.std.proofs.Common.{subst}
 use Rattle.std.specs.Prelude.{IsUtf8, codes}
 use Rattle.std.specs.List.{insert_slice, list_any}
 use Rattle.std.proofs.lemmas.List.{append-nil}
@@ -30,12 +32,16 @@ use Rattle.keep_edit_spec.specs.Laws.{IsGivenValue}
 use Rattle.keep_edit_spec.specs.Values.{bracketed_change, entry_back, entry_prefix, put_after, put_named}
 use Rattle.keep_edit_spec.specs.Values.{space, text_of_value}
 use Rattle.keep_edit_spec.proofs.Shared.{EachIs, put_keyval_is_value, put_named-is, text_of-append}
-use Rattle.keep_edit_plan.specs.OpenKeyvals.{AreOtherKeys, keyval_text}
+use Rattle.keep_edit_plan.specs.KeyNumbers.{HasKey}
+use Rattle.keep_edit_plan.specs.OpenKeyvals.{AreOtherKeys, IsOther, KeysAre, keyval_text}
 use Rattle.keep_edit_plan.specs.OpenPlaces.{extent, gap_before, item_text, place, place_of_new, with_place}
-use Rattle.keep_edit_plan.specs.OpenValues.{AreLaid, HoldsOpen, IsBracketed, PutsKeyvalText, first_gap}
+use Rattle.keep_edit_plan.specs.OpenValues.{AreLaid, FirstPartsAre, HoldsOpen, IsBracketed, PutsKeyvalText, first_gap}
 use Rattle.keep_edit_plan.specs.Reading.{IsTextOfValue, limit}
 use Rattle.keep_edit_plan.specs.declared.open_value.EntryPlace.{EntryPlace}
-use Rattle.keep_edit_plan.proofs.OtherKeys.{value_free}
+use Rattle.keep_edit_plan.specs.declared.open_value.key_numbers.KeyNumbers.{KeyNumbers}
+use Rattle.keep_edit_plan.proofs.FirstParts.{parts_also, parts_put}
+use Rattle.keep_edit_plan.proofs.KeyNumberLaws.{others_of}
+use Rattle.keep_edit_plan.proofs.OtherKeys.{value_free, value_parts}
 
 -- ---- after the last
 
@@ -172,9 +178,16 @@ change_is : (v : Value) (o : Option (Changed Value)) (c : Changed Value) → o �
     → IsChangeOf text_of_value v c
 change_is v o c e h = subst (EachIs text_of_value v) e h
 
-module _ (bytes : List ℕ) (places : List EntryPlace) (k : Kind) (depth : ℕ) (h : HoldsOpen bytes places k depth)
-    (inline_kind : k ≡ kind.Inline) (name : List ℕ) (utf8 : IsUtf8 name)
-    (others : AreOtherKeys name bytes 1 places) (item_bytes : List ℕ) (item : Value)
+-- what is said of a text and places, said of the same ones
+pub said_here : (F : List ℕ → List EntryPlace → Type 0) (text bytes : List ℕ) (these places : List EntryPlace)
+    → text ≡ bytes → these ≡ places → F text these → F bytes places
+said_here F text bytes these places e f h =
+    subst (λ (b : List ℕ). F b places) e (subst (F text) f h)
+
+module _ (bytes : List ℕ) (places : List EntryPlace) (keys : KeyNumbers) (k : Kind) (depth : ℕ)
+    (h : HoldsOpen bytes places keys k depth) (inline_kind : k ≡ kind.Inline) (name : List ℕ) (utf8 : IsUtf8 name)
+    (numbers : KeyNumbers) (known : numbers ≡ keys ⊎ KeysAre (HasKey numbers) bytes 1 places)
+    (new : (¬ HasKey numbers name) ⊎ AreOtherKeys name bytes 1 places) (item_bytes : List ℕ) (item : Value)
     (read : IsValueText Strict limit item_bytes item) (low : suc (value_depth item) ≤ limit) where
   abbrev named : Name
   named = name_with (name ∷ [])
@@ -200,8 +213,27 @@ module _ (bytes : List ℕ) (places : List EntryPlace) (k : Kind) (depth : ℕ) 
       first_is.1
       ∙ placed.by
 
+  -- of each key there, what the code knows of it
+  parts : (P : List ℕ → Type 0) → KeysAre P bytes 1 places → FirstPartsAre P h.value.nested
+  parts P are = value_parts P bytes places first h.value h.read.reads.spelled h.strict first_is.1 laid are
+
+  have_numbers : FirstPartsAre (HasKey numbers) h.value.nested
+  have_numbers =
+      elim known [
+        | inl same ↦ subst (λ (ns : KeyNumbers). FirstPartsAre (HasKey ns) h.value.nested) (sym same) h.known
+        | inr are ↦ parts (HasKey numbers) are
+      ]
+
+  are_others : FirstPartsAre (IsOther name) h.value.nested
+  are_others =
+      elim new [
+        | inl lacks ↦ parts_also (HasKey numbers) (IsOther name) (others_of numbers name lacks) h.value.nested
+            have_numbers
+        | inr others ↦ parts (IsOther name) others
+      ]
+
   free : list_any (is_at (key name ∷ [])) (mentions_of_value h.value) ≡ false
-  free = value_free name bytes places first h.value h.read.reads.spelled h.strict first_is.1 laid others
+  free = value_free name first h.value h.strict first_is.1 are_others
 
   puts : PutsKeyval h.value name item to
   puts = record {
@@ -280,11 +312,13 @@ module _ (bytes : List ℕ) (places : List EntryPlace) (k : Kind) (depth : ℕ) 
           puts = record { before = h.value; after = to; read = h.read; reads = reads; made = puts };
         }
 
-    pub keyval_holds : (now : List ℕ) (at : ℕ) (places' : List EntryPlace) (depth' : ℕ) → at ≡ 1 + place_of_new n places
+    pub keyval_holds : (now : List ℕ) (at : ℕ) (places' : List EntryPlace) (keys' : KeyNumbers) (depth' : ℕ)
+        → HasKey keys' name → ((other : List ℕ) → HasKey numbers other → HasKey keys' other)
+        → at ≡ 1 + place_of_new n places
         → now ≡ insert_slice bytes at (item_text text places (slice_get places n))
         → places' ≡ with_place n (length text) places (slice_get places n)
-        → depth' ≡ max depth (suc (value_depth item)) → HoldsOpen now places' k depth'
-    keyval_holds now at places' depth' at_is made laid_is deep =
+        → depth' ≡ max depth (suc (value_depth item)) → HoldsOpen now places' keys' k depth'
+    keyval_holds now at places' keys' depth' own more at_is made laid_is deep =
         let long : length text ≡ length (new_text named item) =
         ap (λ (l : List ℕ). length l) text_of_keyval
         ∙ ap (λ (l : List ℕ). length (keyval_text name l)) read.reads.spelled
@@ -301,4 +335,6 @@ module _ (bytes : List ℕ) (places : List EntryPlace) (k : Kind) (depth : ℕ) 
           is = inline_kind ∙ ap (λ (b : Body). fact_kind (body_fact b)) (sym placed.body);
           deep = omega (arith, deep, h.deep, law.1);
           laid = subst (λ (l : List EntryPlace). AreLaid (first_gap to.body) to.nested l) (sym same) placed.laid;
+          known = parts_put (HasKey keys') name item h.value placed.made by utf8 own
+              (parts_also (HasKey numbers) (HasKey keys') more h.value.nested have_numbers);
         }

@@ -13,6 +13,7 @@ use Rattle.keep_types.specs.declared.leaf.Profile.TheVariants.{Strict}
 use Rattle.keep_types.specs.declared.node.Kind.{Kind}
 use Rattle.keep_types.specs.declared.node.Kind.TheVariants as kind
 use Rattle.keep_syntax.specs.Tree.{Gap, Body, scalar, array, inline, Value, text_of, value_depth, value_text}
+use Rattle.keep_syntax.specs.Grammar.{AreEntries, place_in}
 use Rattle.keep_edit_spec.specs.Changed.{Changed, IsChangeOf}
 use Rattle.keep_edit_spec.specs.Values.{put_item, text_of_value}
 use Rattle.keep_path.specs.Path.{index}
@@ -27,7 +28,10 @@ use Rattle.keep_meaning.specs.ReadText.{IsValueText}
 use Rattle.keep_rules.proofs.Shared.{in_wide}
 use Rattle.keep_edit_spec.proofs.Shared.{EachIs, put_item-is, put_item_is_value}
 use Rattle.keep_edit_plan.specs.Reading.{IsTextOfValue, limit}
+use Rattle.keep_edit_plan.specs.KeyNumbers.{HasKey}
 use Rattle.keep_edit_plan.specs.declared.open_value.EntryPlace.{EntryPlace}
+use Rattle.keep_edit_plan.specs.declared.open_value.key_numbers.KeyNumbers.{KeyNumbers}
+use Rattle.keep_edit_plan.proofs.FirstParts.{parts_of_items}
 
 -- the text of a value that something came into at a place
 text_inserted : (was is before old new after : List ℕ) (at : ℕ) → was ≡ before ++ (old ++ after)
@@ -53,9 +57,10 @@ change_is : (v : Value) (o : Option (Changed Value)) (c : Changed Value) → o �
     → IsChangeOf text_of_value v c
 change_is v o c e h = subst (EachIs text_of_value v) e h
 
-module _ (bytes : List ℕ) (places : List EntryPlace) (k : Kind) (depth : ℕ) (h : HoldsOpen bytes places k depth)
-    (array_kind : k ≡ kind.Array) (n : ℕ) (few : n ≤ length places) (item_bytes : List ℕ) (item : Value)
-    (read : IsValueText Strict limit item_bytes item) (low : suc (value_depth item) ≤ limit) where
+module _ (bytes : List ℕ) (places : List EntryPlace) (keys : KeyNumbers) (k : Kind) (depth : ℕ)
+    (h : HoldsOpen bytes places keys k depth) (array_kind : k ≡ kind.Array) (n : ℕ) (few : n ≤ length places)
+    (item_bytes : List ℕ) (item : Value) (read : IsValueText Strict limit item_bytes item)
+    (low : suc (value_depth item) ≤ limit) where
   pub is_item : IsTextOfValue item_bytes item
   is_item = in_wide Strict item_bytes item read
 
@@ -138,7 +143,7 @@ module _ (bytes : List ℕ) (places : List EntryPlace) (k : Kind) (depth : ℕ) 
   pub item_holds : (now : List ℕ) (places' : List EntryPlace) (depth' : ℕ)
       → now ≡ insert_slice bytes (1 + place_of_new n places) (item_text item_bytes places next)
       → places' ≡ with_place n (length item_bytes) places next
-      → depth' ≡ max depth (suc (value_depth item)) → HoldsOpen now places' k depth'
+      → depth' ≡ max depth (suc (value_depth item)) → HoldsOpen now places' keys k depth'
   item_holds now places' depth' made laid_is deep = record {
     value = to;
     read = is_now now made;
@@ -149,4 +154,6 @@ module _ (bytes : List ℕ) (places : List EntryPlace) (k : Kind) (depth : ℕ) 
     laid = subst (λ (l : List EntryPlace). AreLaid (first_gap to.body) to.nested l)
         (sym (laid_is ∙ ap (λ (l : ℕ). with_place n l places next)
         (ap (λ (l : List ℕ). length l) read.reads.spelled))) placed.laid;
+    known = parts_of_items (HasKey keys) to.nested
+        (subst (λ (b : Body). AreEntries Strict (place_in b) to.nested) placed.body law.0.valid.nested);
   }

@@ -38,7 +38,10 @@ use Rattle.keep_syntax.specs.declared.alone.ValueSyntax.{ValueSyntax}
 use Rattle.keep_edit_spec.specs.Values.{entries_text, entry_prefix}
 use Rattle.keep_edit_plan.specs.OpenValues.{AreLaid, HoldsOpen, IsBracketed, first_gap}
 use Rattle.keep_edit_plan.specs.OpenPlaces.{IsBracket, place, places_of}
+use Rattle.keep_edit_plan.specs.KeyNumbers.{HasKey}
 use Rattle.keep_edit_plan.specs.declared.open_value.EntryPlace.{EntryPlace}
+use Rattle.keep_edit_plan.specs.declared.open_value.key_numbers.KeyNumbers.{KeyNumbers}
+use Rattle.keep_edit_plan.proofs.FirstParts.{parts_any}
 
 own : (end : ℕ) (v : ValueInfo) (vs : List ValueInfo) → v.depth ≡ 1
     → places_of end (v ∷ vs) ≡ place (v.whole.start - end) (v.span.end - v.whole.start) ∷ places_of v.span.end vs
@@ -157,13 +160,15 @@ first_laid (inline first) nested b =
     subst (λ (g : ℕ). AreLaid g nested (places_of 1 (entries_values p nested))) (omega arith)
     (laid nested 1 p refl (omega arith))
 
-pub open_holds : (bytes : List ℕ) (syntax : ValueSyntax) (places : List EntryPlace) (kind : Kind) (depth : ℕ)
+pub open_holds : (bytes : List ℕ) (syntax : ValueSyntax) (places : List EntryPlace) (keys : KeyNumbers) (kind : Kind)
+    (depth : ℕ)
     → IsReadAlone Strict limit bytes syntax
     → ((v : Value) → WasReadAlone bytes syntax v → ValueObeys v) → (own : ValueInfo)
     → slice_get (value_values_of syntax) 0 ≡ Some own → IsBracket own.leaf → kind ≡ leaf_kind own.leaf
     → ((v : Value) → IsValueSyntaxOf syntax v → depth ≡ value_depth v)
-    → places ≡ places_of 1 (drop 1 (value_values_of syntax)) → HoldsOpen bytes places kind depth
-open_holds bytes syntax places kind depth (v, reads, is) obeys own here bracket named deep found =
+    → places ≡ places_of 1 (drop 1 (value_values_of syntax)) → ((key : List ℕ) → HasKey keys key)
+    → HoldsOpen bytes places keys kind depth
+open_holds bytes syntax places keys kind depth (v, reads, is) obeys own here bracket named deep found known =
     let was : WasReadAlone bytes syntax v =
     record { profile = Strict; limit = limit; reads = reads; is = is } in
     let same : Some (info alone 0 0 v.body v.nested None) ≡ Some own =
@@ -180,4 +185,5 @@ open_holds bytes syntax places kind depth (v, reads, is) obeys own here bracket 
       laid = subst (AreLaid (first_gap v.body) v.nested)
           (sym (found ∙ ap (λ (l : List ValueInfo). places_of 1 (drop 1 l)) is.values))
           (first_laid v.body v.nested brackets);
+      known = parts_any (HasKey keys) known v.nested;
     }

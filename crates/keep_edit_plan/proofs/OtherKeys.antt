@@ -1,11 +1,11 @@
--- Where no entry of an inline table has a key that begins with another key, nothing is said at that key.
+-- The first parts of the keys of an inline table's entries, by the key parts that stand where the entries begin.
 --
 -- Each entry begins with the first part of its key (`entry_at`), and the byte after that is no byte of a bare key; so a
--- key part that is read there is this one (`other_is`). What an entry mentions is below its first key part, so none of
--- it is at a key that differs (`keyed_free`). An induction over the entries follows their places in the text
--- (`entries_free`).
+-- key part that is read there is this one (`part_is`). An induction over the entries follows their places in the text
+-- (`entries_parts`). What an entry mentions is below its first key part, so none of it is at a key that differs
+-- (`keyed_free`).
 --
--- Theorem: `value_free`.
+-- Theorems: `value_parts`; `value_free`: where no key begins with a key, nothing is said at it.
 use Rattle.std.proofs.Common.{◌≡◌, ℕ, ◌+◌, Bool, true, false, ◌||◌, ◌&&◌, List, [], ◌∷◌, ◌++◌, length, drop}
 use Rattle.std.proofs.Common.{map, refl, sym, ap, ◌∙◌, subst, arith, append_assoc, length-append, take_at, Option, Some}
 use Rattle.std.proofs.Common.{None}
@@ -30,8 +30,8 @@ use Rattle.keep_meaning.specs.Meaning.{further_value, keys_of, mentions_of_value
 use Rattle.keep_meaning.specs.Nodes.{is_at}
 use Rattle.keep_edit_spec.specs.Values.{entries_text, entry_back}
 use Rattle.keep_edit_spec.proofs.Shared.{entry-text, text_of-append}
-use Rattle.keep_edit_plan.specs.OpenKeyvals.{AreOtherKeys, IsOtherKey}
-use Rattle.keep_edit_plan.specs.OpenValues.{AreLaid}
+use Rattle.keep_edit_plan.specs.OpenKeyvals.{IsOther, KeyIs, KeysAre}
+use Rattle.keep_edit_plan.specs.OpenValues.{AreLaid, FirstPartsAre}
 use Rattle.keep_edit_plan.specs.declared.open_value.EntryPlace.{EntryPlace}
 use Rattle.keep_edit_plan.proofs.TakenEntries.{drop_past, end_len, round, round_split, to_end}
 
@@ -87,22 +87,19 @@ more_stops (f ∷ fs) before x h space =
     subst (λ (t : List ℕ). is_bare (first t) ≡ false) (sym (further_split f fs (text_of before ++ (0x3D ∷ x))))
     (space_class is_bare f.before _ h.0.before not_bare refl)
 
-pub other_is : (name : List ℕ) (w : Written) (rest : List ℕ) → IsKeyPart Strict w → is_bare (first rest) ≡ false
-    → IsOtherKey name (w.text ++ rest) → bytes_eq (key_value w) name ≡ false
-other_is name w rest valid stop other =
-    subst (λ (t : List ℕ). bytes_eq (string_value w.leaf t) name ≡ false) (take_at w.text rest (length w.text) refl)
-    (other w.leaf (length w.text) (key_again Wide w.leaf w.text rest valid.0 (leaf_wider w.leaf w.text valid.1) stop))
+pub part_is : (P : List ℕ → Type 0) (w : Written) (rest : List ℕ) → IsKeyPart Strict w → is_bare (first rest) ≡ false
+    → KeyIs P (w.text ++ rest) → P (key_value w)
+part_is P w rest valid stop is =
+    subst (λ (t : List ℕ). P (string_value w.leaf t)) (take_at w.text rest (length w.text) refl)
+    (is w.leaf (length w.text) (key_again Wide w.leaf w.text rest valid.0 (leaf_wider w.leaf w.text valid.1) stop))
 
 -- ---- along the entries
 
-module _ (name bytes : List ℕ) where
+module _ (bytes : List ℕ) where
   -- so many bytes further on
   pub further_on : (end m : ℕ) (a b : List ℕ) → drop end bytes ≡ a ++ b → length a ≡ m → drop (end + m) bytes ≡ b
   further_on end m a b e long =
       sym (drop-drop m end bytes) ∙ ap (drop m) e ∙ drop_past a b 0 m (omega arith)
-
-  abbrev FreeFrom : ℕ → Entries → Type 0
-  FreeFrom n es = list_any (is_at (key name ∷ [])) (entries_mentions n es) ≡ false
 
   -- where an entry begins, its key does
   pub entry_at : (end : ℕ) (lead : List ℕ) (gap : Gap) (nm : Name) (body : Body) (nested : Entries) (after : Gap)
@@ -124,37 +121,30 @@ module _ (name bytes : List ℕ) where
             (length-append lead (text_of gap) ∙ sym eg) ∙ text,
       )
 
+module _ (P : List ℕ → Type 0) (bytes : List ℕ) where
   -- the first of these entries
-  first_free : (end : ℕ) (lead : List ℕ) (gap : Gap) (nm : Name) (body : Body) (nested : Entries) (after : Gap)
-      (comma : Option Gap) (rest : Entries) (right : List ℕ) (p : EntryPlace) (ms : List Mention) → IsName Strict nm
+  first_part : (end : ℕ) (lead : List ℕ) (gap : Gap) (nm : Name) (body : Body) (nested : Entries) (after : Gap)
+      (comma : Option Gap) (rest : Entries) (right : List ℕ) (p : EntryPlace) → IsName Strict nm
       → p.gap ≡ length lead + length (text_of gap)
       → drop end bytes ≡ round lead gap (entry (Some nm) body nested after comma rest) right
-      → IsOtherKey name (drop (end + p.gap) bytes)
-      → list_any (is_at (key name ∷ [])) (keyed_mentions (keys_of nm.key) ms) ≡ false
-  first_free end lead gap nm body nested after comma rest right p ms valid eg here other =
-      let (y, at) = entry_at end lead gap nm body nested after comma rest right p eg here in
-      keyed_free name (key_value nm.key.first) (map further_value nm.key.more) ms
-      (other_is name nm.key.first (after_part nm y) valid.key.first
-      (more_stops nm.key.more nm.before (text_of nm.after ++ y) valid.key.more valid.before)
-      (subst (IsOtherKey name) at other))
+      → KeyIs P (drop (end + p.gap) bytes) → P (key_value nm.key.first)
+  first_part end lead gap nm body nested after comma rest right p valid eg here is =
+      let (y, at) = entry_at bytes end lead gap nm body nested after comma rest right p eg here in
+      part_is P nm.key.first (after_part nm y) valid.key.first
+      (more_stops nm.key.more nm.before (text_of nm.after ++ y) valid.key.more valid.before) (subst (KeyIs P) at is)
 
-  entries_free : (n end : ℕ) (lead : List ℕ) (gap : Gap) (es : Entries) (right : List ℕ) (places : List EntryPlace)
+  entries_parts : (end : ℕ) (lead : List ℕ) (gap : Gap) (es : Entries) (right : List ℕ) (places : List EntryPlace)
       → AreEntries Strict in_inline es → AreLaid (length lead + length (text_of gap)) es places
-      → drop end bytes ≡ round lead gap es right → AreOtherKeys name bytes end places → FreeFrom n es
-  entries_free n end lead gap none right places valid laid here other = refl
-  entries_free n end lead gap (entry None body nested after comma rest) right places valid laid here other =
+      → drop end bytes ≡ round lead gap es right → KeysAre P bytes end places → FirstPartsAre P es
+  entries_parts end lead gap none right places valid laid here are = tt
+  entries_parts end lead gap (entry None body nested after comma rest) right places valid laid here are =
       absurd valid.0
-  entries_free n end lead gap (entry (Some nm) body nested after comma rest) right [] valid laid here other =
-      absurd laid
-  entries_free n end lead gap (entry (Some nm) body nested after None (entry a b c d e f)) right (p ∷ ps) valid laid
-      here other = absurd valid.4
-  entries_free n end lead gap (entry (Some nm) body nested after None none) right (p ∷ ps) valid laid here other =
-      let ms : List Mention = valued_mentions (value (body_fact body)) (entries_mentions 0 nested) in
-      list_any-append (is_at (key name ∷ [])) (keyed_mentions (keys_of nm.key) ms) (entries_mentions (n + 1) none)
-      ∙ no_either (list_any (is_at (key name ∷ [])) (keyed_mentions (keys_of nm.key) ms)) false
-      (first_free end lead gap nm body nested after None none right p ms valid.0 laid.0 here other.0) refl
-  entries_free n end lead gap (entry (Some nm) body nested after (Some g) rest) right (p ∷ ps) valid laid here other =
-      let ms : List Mention = valued_mentions (value (body_fact body)) (entries_mentions 0 nested) in
+  entries_parts end lead gap (entry (Some nm) body nested after comma rest) right [] valid laid here are = absurd laid
+  entries_parts end lead gap (entry (Some nm) body nested after None (entry a b c d e f)) right (p ∷ ps) valid laid here
+      are = absurd valid.4
+  entries_parts end lead gap (entry (Some nm) body nested after None none) right (p ∷ ps) valid laid here are =
+      (first_part end lead gap nm body nested after None none right p valid.0 laid.0 here are.0, tt)
+  entries_parts end lead gap (entry (Some nm) body nested after (Some g) rest) right (p ∷ ps) valid laid here are =
       let lead' : List ℕ = text_of after ++ codes "," in
       let size : length (text_of after) + length (text_of (comma_leaves (Some g))) ≡ length lead' + length (text_of g) =
       omega (arith, length-append (text_of after) (codes ",")) in
@@ -162,26 +152,44 @@ module _ (name bytes : List ℕ) where
       subst (λ (m : ℕ). AreLaid m rest ps) size laid.1.1 in
       let there : drop (end + p.gap + p.len) bytes ≡ round lead' g rest right =
       ap (λ (m : ℕ). drop m bytes) (let e : end + p.gap + p.len ≡ end + (p.gap + p.len) = omega arith in e)
-      ∙ further_on end (p.gap + p.len) (to_end lead gap (Some nm) body nested) (round lead' g rest right)
+      ∙ further_on bytes end (p.gap + p.len) (to_end lead gap (Some nm) body nested) (round lead' g rest right)
       (here ∙ round_split lead gap (Some nm) body nested after g rest right)
-      (end_len lead gap (Some nm) body nested p laid.0 laid.1.0) in
-      list_any-append (is_at (key name ∷ [])) (keyed_mentions (keys_of nm.key) ms) (entries_mentions (n + 1) rest)
-      ∙ no_either (list_any (is_at (key name ∷ [])) (keyed_mentions (keys_of nm.key) ms))
-      (list_any (is_at (key name ∷ [])) (entries_mentions (n + 1) rest))
-      (first_free end lead gap nm body nested after (Some g) rest right p ms valid.0 laid.0 here other.0)
-      (entries_free (n + 1) (end + p.gap + p.len) lead' g rest right ps valid.5 laid' there other.1)
+      (end_len lead gap (Some nm) body nested p laid.0 laid.1.0) in (
+        first_part end lead gap nm body nested after (Some g) rest right p valid.0 laid.0 here are.0,
+        entries_parts (end + p.gap + p.len) lead' g rest right ps valid.5 laid' there are.1,
+      )
+
+-- ---- nothing is said
+
+entries_free : (name : List ℕ) (n : ℕ) (es : Entries) → AreEntries Strict in_inline es → FirstPartsAre (IsOther name) es
+    → list_any (is_at (key name ∷ [])) (entries_mentions n es) ≡ false
+entries_free name n none valid other = refl
+entries_free name n (entry None body nested after comma rest) valid other = absurd valid.0
+entries_free name n (entry (Some nm) body nested after comma rest) valid other =
+    let ms : List Mention = valued_mentions (value (body_fact body)) (entries_mentions 0 nested) in
+    list_any-append (is_at (key name ∷ [])) (keyed_mentions (keys_of nm.key) ms) (entries_mentions (n + 1) rest)
+    ∙ no_either (list_any (is_at (key name ∷ [])) (keyed_mentions (keys_of nm.key) ms))
+    (list_any (is_at (key name ∷ [])) (entries_mentions (n + 1) rest))
+    (keyed_free name (key_value nm.key.first) (map further_value nm.key.more) ms other.0)
+    (entries_free name (n + 1) rest valid.5 other.1)
 
 -- ---- of a value
 
-pub value_free : (name bytes : List ℕ) (places : List EntryPlace) (first : Gap) (v : Value) → bytes ≡ value_text v
-    → IsValue Strict v → v.body ≡ inline first → AreLaid (length (text_of first)) v.nested places
-    → AreOtherKeys name bytes 1 places → list_any (is_at (key name ∷ [])) (mentions_of_value v) ≡ false
-value_free name bytes places first v spelled valid is laid other =
-    let valid' : AreEntries Strict in_inline v.nested =
-    subst (λ (b : Body). AreEntries Strict (place_in b) v.nested) is valid.nested in
+inline_entries : (first : Gap) (v : Value) → IsValue Strict v → v.body ≡ inline first
+    → AreEntries Strict in_inline v.nested
+inline_entries first v valid is = subst (λ (b : Body). AreEntries Strict (place_in b) v.nested) is valid.nested
+
+pub value_parts : (P : List ℕ → Type 0) (bytes : List ℕ) (places : List EntryPlace) (first : Gap) (v : Value)
+    → bytes ≡ value_text v → IsValue Strict v → v.body ≡ inline first → AreLaid (length (text_of first)) v.nested places
+    → KeysAre P bytes 1 places → FirstPartsAre P v.nested
+value_parts P bytes places first v spelled valid is laid are =
     let text : bytes ≡ 0x7B ∷ round [] first v.nested (codes "}") =
     spelled ∙ ap (λ (b : Body). value_text (record { body = b; nested = v.nested })) is ∙ simp text_of-append refl in
-    entries_free name bytes 0 1 [] first v.nested (codes "}") places valid'
+    entries_parts P bytes 1 [] first v.nested (codes "}") places (inline_entries first v valid is)
     (subst (λ (m : ℕ). AreLaid m v.nested places)
     (let e : length (text_of first) ≡ length {A = ℕ} [] + length (text_of first) = omega arith in e) laid)
-    (ap (drop 1) text) other
+    (ap (drop 1) text) are
+
+pub value_free : (name : List ℕ) (first : Gap) (v : Value) → IsValue Strict v → v.body ≡ inline first
+    → FirstPartsAre (IsOther name) v.nested → list_any (is_at (key name ∷ [])) (mentions_of_value v) ≡ false
+value_free name first v valid is other = entries_free name 0 v.nested (inline_entries first v valid is) other

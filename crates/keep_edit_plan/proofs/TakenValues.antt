@@ -35,7 +35,10 @@ use Rattle.keep_edit_plan.specs.OpenValues.{AreLaid, HoldsOpen, IsBracketed, Tak
 use Rattle.keep_edit_plan.specs.OpenPlaces.{extent}
 use Rattle.keep_edit_plan.specs.OpenKeyvals.{IsKeyedAt}
 use Rattle.keep_edit_plan.specs.TakenEntries.{HasNoComma, IsCommaRun, IsCutOf, IsLastGap, places_left}
+use Rattle.keep_edit_plan.specs.KeyNumbers.{HasKey}
 use Rattle.keep_edit_plan.specs.declared.open_value.EntryPlace.{EntryPlace}
+use Rattle.keep_edit_plan.specs.declared.open_value.key_numbers.KeyNumbers.{KeyNumbers}
+use Rattle.keep_edit_plan.proofs.FirstParts.{parts_left}
 use Rattle.keep_edit_plan.proofs.KeyedEntries.{value_hit}
 use Rattle.keep_edit_plan.proofs.TakenEntries.{IsHit, IsTaken, round, taken_alone, taken_at_end, taken_with_comma}
 
@@ -188,17 +191,18 @@ bracketed_deep (array gap) nested h = omega arith
 bracketed_deep (inline gap) nested h = omega arith
 
 -- what is known of the text that is left
-pub record IsTakenOpen (was : List ℕ) (kind : Kind) (depth : ℕ) (part : Part) (now : List ℕ) (left : List EntryPlace)
-    : Type 0 where
-  pub holds : HoldsOpen now left kind depth
+pub record IsTakenOpen (was : List ℕ) (keys : KeyNumbers) (kind : Kind) (depth : ℕ) (part : Part) (now : List ℕ)
+    (left : List EntryPlace) : Type 0 where
+  pub holds : HoldsOpen now left keys kind depth
   pub takes : TakesEntryText was part now
 
-pub taken_open : TakenEntryIsValue → (was : List ℕ) (places : List EntryPlace) (kind : Kind) (depth n : ℕ) (part : Part)
-    (cut : Span) (left : List EntryPlace) (now : List ℕ) (h : HoldsOpen was places kind depth) → depth ≡ 1
+pub taken_open : TakenEntryIsValue → (was : List ℕ) (places : List EntryPlace) (keys : KeyNumbers) (kind : Kind)
+    (depth n : ℕ) (part : Part) (cut : Span) (left : List EntryPlace) (now : List ℕ)
+    (h : HoldsOpen was places keys kind depth) → depth ≡ 1
     → IsHit (part ∷ []) 0 n h.value.nested → IsCutOf was places n cut left
     → now ≡ take cut.start was ++ drop cut.end was
-    → IsTakenOpen was kind depth part now left
-taken_open law was places kind depth n part cut left now h flat hit is_cut now_is =
+    → IsTakenOpen was keys kind depth part now left
+taken_open law was places keys kind depth n part cut left now h flat hit is_cut now_is =
     let t = taken_value (part ∷ []) was places n cut left h.value h.read.reads.spelled h.strict h.bracketed h.laid hit
     is_cut in
     let takes : TakesEntry h.value part t.made.to = record { made = t.made; by = t.by; is = refl } in
@@ -220,6 +224,7 @@ taken_open law was places kind depth n part cut left now h flat hit is_cut now_i
         is = h.is ∙ ap fact_kind (sym t.same);
         deep = omega (arith, h.deep);
         laid = t.laid;
+        known = parts_left (HasKey keys) (part ∷ []) h.value t.made t.by h.known;
       };
       takes = record { before = h.value; after = t.made.to; read = h.read; reads = reads; made = takes };
     }
@@ -230,12 +235,13 @@ is_array (scalar w) h e = absurd h
 is_array (array gap) h e = refl
 is_array (inline gap) h e = absurd cc
 
-pub item_taken : TakenEntryIsValue → (was : List ℕ) (places : List EntryPlace) (k : Kind) (depth n : ℕ) (cut : Span)
-    (left : List EntryPlace) (now bytes : List ℕ) (these : List EntryPlace) → HoldsOpen was places k depth
+pub item_taken : TakenEntryIsValue → (was : List ℕ) (places : List EntryPlace) (keys : KeyNumbers) (k : Kind)
+    (depth n : ℕ) (cut : Span) (left : List EntryPlace) (now bytes : List ℕ) (these : List EntryPlace)
+    → HoldsOpen was places keys k depth
     → k ≡ kind.Array → depth ≡ 1 → n < length places → bytes ≡ was → these ≡ places
     → IsCutOf bytes these n cut (places_left n cut these) → left ≡ places_left n cut places
-    → now ≡ take cut.start was ++ drop cut.end was → IsTakenOpen was k depth (index n) now left
-item_taken law was places k depth n cut left now bytes these h is flat few e f is_cut left_is now_is =
+    → now ≡ take cut.start was ++ drop cut.end was → IsTakenOpen was keys k depth (index n) now left
+item_taken law was places keys k depth n cut left now bytes these h is flat few e f is_cut left_is now_is =
     let valid : AreEntries Strict in_array h.value.nested =
     subst (λ (p : Place). AreEntries Strict p h.value.nested) (is_array h.value.body h.bracketed (sym is ∙ h.is))
     h.strict.nested in
@@ -243,7 +249,7 @@ item_taken law was places k depth n cut left now bytes these h is flat few e f i
     subst (IsCutOf was places n cut) (sym left_is)
     (subst (λ (ps : List EntryPlace). IsCutOf was ps n cut (places_left n cut ps)) f
     (subst (λ (b : List ℕ). IsCutOf b these n cut (places_left n cut these)) e is_cut)) in
-    taken_open law was places k depth n (index n) cut left now h flat
+    taken_open law was places keys k depth n (index n) cut left now h flat
     (item_hit (first_gap h.value.body) h.value.nested places 0 n n valid h.laid few (omega arith)) cut_here now_is
 
 -- a keyval of an inline table
@@ -253,13 +259,13 @@ is_inline (scalar w) h e = absurd h
 is_inline (array gap) h e = absurd cc
 is_inline (inline gap) h e = (gap, refl)
 
-pub keyval_taken : TakenEntryIsValue → (was : List ℕ) (places : List EntryPlace) (k : Kind) (depth n : ℕ)
-    (name : List ℕ) (cut : Span) (left : List EntryPlace) (now bytes : List ℕ) (these : List EntryPlace)
-    → HoldsOpen was places k depth → k ≡ kind.Inline → depth ≡ 1 → bytes ≡ was → these ≡ places
+pub keyval_taken : TakenEntryIsValue → (was : List ℕ) (places : List EntryPlace) (keys : KeyNumbers) (k : Kind)
+    (depth n : ℕ) (name : List ℕ) (cut : Span) (left : List EntryPlace) (now bytes : List ℕ) (these : List EntryPlace)
+    → HoldsOpen was places keys k depth → k ≡ kind.Inline → depth ≡ 1 → bytes ≡ was → these ≡ places
     → IsKeyedAt name bytes 1 n these → IsCutOf bytes these n cut (places_left n cut these)
     → left ≡ places_left n cut places → now ≡ take cut.start was ++ drop cut.end was
-    → IsTakenOpen was k depth (key name) now left
-keyval_taken law was places k depth n name cut left now bytes these h is flat e f keyed is_cut left_is now_is =
+    → IsTakenOpen was keys k depth (key name) now left
+keyval_taken law was places keys k depth n name cut left now bytes these h is flat e f keyed is_cut left_is now_is =
     let (first, body) = is_inline h.value.body h.bracketed (sym is ∙ h.is) in
     let laid : AreLaid (length (text_of first)) h.value.nested places =
     subst (λ (g : ℕ). AreLaid g h.value.nested places) (ap first_gap body) h.laid in
@@ -270,5 +276,5 @@ keyval_taken law was places k depth n name cut left now bytes these h is flat e 
     subst (IsCutOf was places n cut) (sym left_is)
     (subst (λ (ps : List EntryPlace). IsCutOf was ps n cut (places_left n cut ps)) f
     (subst (λ (b : List ℕ). IsCutOf b these n cut (places_left n cut these)) e is_cut)) in
-    taken_open law was places k depth n (key name) cut left now h flat
+    taken_open law was places keys k depth n (key name) cut left now h flat
     (value_hit name was places n first h.value h.read.reads.spelled h.strict body laid here) cut_here now_is

@@ -9,10 +9,12 @@
 -- list with one edit more; `none_written`, `next_change`, `one_written`: what is written before the first edit and with
 -- one more; `one_takes`: an edit that replaces the byte before a place; `no_taker`: one that does not; `all_further`,
 -- `all_changes`, `change_at_edit`: what holds of each edit; `has_change`: the change of one; `set_in_place`,
--- `follow_replaced`: one in the place of another.
+-- `set_instead`, `follow_replaced`, `both_same`: one in the place of another.
 use Rattle.std.proofs.Common.{◌≡◌, ℕ, zero, suc, ◌+◌, ◌-◌, ◌<◌, ◌≤◌, true, false, List, [], ◌∷◌, ◌++◌, length}
 use Rattle.std.proofs.Common.{get_or, take, drop, insert, set, map, slice_range, string_bytes, All, leb}
 use Rattle.std.proofs.Common.{IsUtf8, IsCharBoundary, refl, sym, ap, ◌∙◌, subst, append_assoc, drop-cons, add-one}
+use Rattle.std.proofs.Common.{Bool, Some, not, slice_get}
+use Rattle.std.specs.Prelude.{◌&&◌}
 use Rattle.std.proofs.Common.{◌==◌, ◌≢◌, nat_lt, arith, leb-true, leb-false, lt-ltb, le-ltb, ◌⊎◌, inl, inr}
 use Rattle.std.proofs.lemmas.List.{drop-take, get_or-map, length-map, take_more}
 use Rattle.std.proofs.lemmas.List.Elements.{All-append, All-cons, All-drop, All-map, All-nil, All-take}
@@ -25,7 +27,7 @@ use Rattle.std.specs.List.Sorted.{IsNonDecreasingBy, IsPartitionPoint}
 use Rattle.keep_edit_spec.specs.Runs.{takes_up_to}
 use Rattle.keep_edit_spec.specs.TextChanges.{Follow, IsBeside, TextChange, text_with, with_change}
 use Rattle.keep_edit_plan.specs.declared.text_edit.TextEdit.{TextEdit}
-use Rattle.keep_edit_plan.specs.TextEdits.{HasChange, IsChangeIn, IsOrdered, IsReplaced, change_of}
+use Rattle.keep_edit_plan.specs.TextEdits.{HasChange, HasInstead, IsChangeIn, IsOrdered, IsReplaced, change_of}
 
 -- ---- the order
 
@@ -276,6 +278,12 @@ all_changes P ts n changes all is h =
 
 -- ---- one edit in the place of another
 
+-- what is told not to differ in one of two things is the same in both
+pub both_same : (r x y : Bool) → r ≡ not (x && y) → r ≡ false → (x ≡ true) × (y ≡ true)
+both_same r true true e f = (refl, refl)
+both_same r true false e f = absurd cc
+both_same r false y e f = absurd cc
+
 pub set_in_place : (ts : List TextEdit) (i : ℕ) (d e : TextEdit) → i < length ts
     → (change_of (get_or ts i d)).at ≡ (change_of e).at → (change_of (get_or ts i d)).size ≡ (change_of e).size
     → IsReplaced (map change_of ts) (change_of e) (map change_of (set ts i e))
@@ -299,6 +307,27 @@ set_in_place (t ∷ ts) (suc i) d e less at size =
       is = ap (λ (cs : List TextChange). change_of t ∷ cs) r.is;
       at = r.at;
       size = r.size;
+    }
+
+pub set_instead : (ts : List TextEdit) (i : ℕ) (c : TextChange) (e : TextEdit)
+    → slice_get (map change_of ts) i ≡ Some c
+    → HasInstead (map change_of ts) c (change_of e) (map change_of (set ts i e))
+set_instead [] i c e there = absurd cc
+set_instead (t ∷ ts) zero c e there =
+    let same : change_of t ≡ c = cc in
+    record {
+      before = [];
+      after = map change_of ts;
+      was = ap (λ (x : TextChange). x ∷ map change_of ts) same;
+      is = refl;
+    }
+set_instead (t ∷ ts) (suc i) c e there =
+    let r = set_instead ts i c e there in
+    record {
+      before = change_of t ∷ r.before;
+      after = r.after;
+      was = ap (λ (cs : List TextChange). change_of t ∷ cs) r.was;
+      is = ap (λ (cs : List TextChange). change_of t ∷ cs) r.is;
     }
 
 -- the change of an edit is one of those of the list

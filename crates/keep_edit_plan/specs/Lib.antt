@@ -20,3 +20,4 @@ pub mod OpenValues
 pub mod TakenEntries
 pub mod OpenPlaces
 pub mod OpenKeyvals
+pub mod KeyNumbers

@@ -16,16 +16,25 @@ use Rattle.keep_edit_plan.specs.declared.open_value.EntryPlace.{EntryPlace}
 abbrev pub keyval_text : List ℕ → List ℕ → List ℕ
 keyval_text name value = encoded_key name ++ (codes " = " ++ value)
 
--- A key part that comes first in these bytes means something else.
-abbrev pub IsOtherKey : List ℕ → List ℕ → Type 0
-IsOtherKey name bytes =
-    (l : Leaf) (n : ℕ) → key_at Wide bytes ≡ Some (l, n) → bytes_eq (string_value l (take n bytes)) name ≡ false
+-- What the key part means that comes first in these bytes has this property.
+abbrev pub KeyIs : (List ℕ → Type 0) → List ℕ → Type 0
+KeyIs P bytes = (l : Leaf) (n : ℕ) → key_at Wide bytes ≡ Some (l, n) → P (string_value l (take n bytes))
 
 -- So it is where each entry begins, of which the first has its gap from this byte on.
+abbrev pub KeysAre : (List ℕ → Type 0) → List ℕ → ℕ → List EntryPlace → Type 0
+KeysAre P bytes end [] = ⊤
+KeysAre P bytes end (p ∷ ps) = KeyIs P (drop (end + p.gap) bytes) × KeysAre P bytes (end + p.gap + p.len) ps
+
+abbrev pub IsOther : List ℕ → List ℕ → Type 0
+IsOther name key = bytes_eq key name ≡ false
+
+-- A key part that comes first in these bytes means something else.
+abbrev pub IsOtherKey : List ℕ → List ℕ → Type 0
+IsOtherKey name bytes = KeyIs (IsOther name) bytes
+
+-- So it is where each entry begins.
 abbrev pub AreOtherKeys : List ℕ → List ℕ → ℕ → List EntryPlace → Type 0
-AreOtherKeys name bytes end [] = ⊤
-AreOtherKeys name bytes end (p ∷ ps) =
-    IsOtherKey name (drop (end + p.gap) bytes) × AreOtherKeys name bytes (end + p.gap + p.len) ps
+AreOtherKeys name bytes end places = KeysAre (IsOther name) bytes end places
 
 -- A key part comes first that means this, and after it and white space `=`.
 pub record IsOwnKey (name bytes : List ℕ) : Type 0 where

@@ -1,17 +1,19 @@
 -- Arrays and inline tables whose entries are known by their places.
-use Rattle.std.specs.Prelude.{◌≡◌, ⊤, ℕ, ◌+◌, List, [], ◌∷◌, length}
+use Rattle.std.specs.Prelude.{◌≡◌, ⊤, ℕ, ◌+◌, List, [], ◌∷◌, length, Option, Some, None}
 use Rattle.keep_types.specs.declared.leaf.Profile.TheVariants.{Strict}
 use Rattle.keep_types.specs.declared.node.Kind.{Kind}
 use Rattle.keep_syntax.specs.Grammar.{IsValue}
-use Rattle.keep_syntax.specs.Tree.{Body, Entries, Value, array, comma_leaves, entry, inline, none, scalar, text_of}
-use Rattle.keep_syntax.specs.Tree.{value_depth}
+use Rattle.keep_syntax.specs.Tree.{Body, Entries, Name, Value, array, comma_leaves, entry, inline, none, scalar}
+use Rattle.keep_syntax.specs.Tree.{text_of, value_depth}
 use Rattle.keep_path.specs.Path.{Part}
-use Rattle.keep_meaning.specs.Meaning.{body_fact}
+use Rattle.keep_meaning.specs.Meaning.{body_fact, key_value}
 use Rattle.keep_meaning.specs.Nodes.{fact_kind}
 use Rattle.keep_edit_spec.specs.EntryChanges.{PutsItem, PutsKeyval, TakesEntry}
 use Rattle.keep_edit_spec.specs.Values.{entry_prefix}
+use Rattle.keep_edit_plan.specs.KeyNumbers.{HasKey}
 use Rattle.keep_edit_plan.specs.Reading.{IsTextOfValue}
 use Rattle.keep_edit_plan.specs.declared.open_value.EntryPlace.{EntryPlace}
+use Rattle.keep_edit_plan.specs.declared.open_value.key_numbers.KeyNumbers.{KeyNumbers}
 
 -- ---- the places of entries
 
@@ -35,8 +37,20 @@ abbrev pub IsBracketed : Body → Type 0
 IsBracketed (scalar w) = ⊥
 IsBracketed _ = ⊤
 
+-- What the first part of a key means has this property, if there is a key.
+abbrev pub FirstPartIs : (List ℕ → Type 0) → Option Name → Type 0
+FirstPartIs P None = ⊤
+FirstPartIs P (Some name) = P (key_value name.key.first)
+
+-- So it is of each entry.
+abbrev pub FirstPartsAre : (List ℕ → Type 0) → Entries → Type 0
+FirstPartsAre P none = ⊤
+FirstPartsAre P (entry name body nested after comma rest) = FirstPartIs P name × FirstPartsAre P rest
+
 -- The text is that of an array or an inline table of TOML v1.0.0, of this depth, and its entries are at these places.
-pub record HoldsOpen (bytes : List ℕ) (places : List EntryPlace) (kind : Kind) (depth : ℕ) : Type 0 where
+-- The numbers of its keys, by their first parts, are among these numbers, if they are known.
+pub record HoldsOpen (bytes : List ℕ) (places : List EntryPlace) (keys : KeyNumbers) (kind : Kind) (depth : ℕ)
+    : Type 0 where
   pub value : Value
   pub read : IsTextOfValue bytes value
   pub strict : IsValue Strict value
@@ -44,6 +58,7 @@ pub record HoldsOpen (bytes : List ℕ) (places : List EntryPlace) (kind : Kind)
   pub is : kind ≡ fact_kind (body_fact value.body)
   pub deep : depth ≡ value_depth value
   pub laid : AreLaid (first_gap value.body) value.nested places
+  pub known : FirstPartsAre (HasKey keys) value.nested
 
 -- ---- what is made of the value with a text
 

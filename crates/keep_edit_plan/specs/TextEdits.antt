@@ -45,6 +45,13 @@ pub record IsReplaced (old : List TextChange) (d : TextChange) (new : List TextC
   pub at : gone.at ≡ d.at
   pub size : gone.size ≡ d.size
 
+-- the change d is where c was
+pub record HasInstead (old : List TextChange) (c d : TextChange) (new : List TextChange) : Type 0 where
+  pub before : List TextChange
+  pub after : List TextChange
+  pub was : old ≡ before ++ c ∷ after
+  pub is : new ≡ before ++ d ∷ after
+
 -- The edit makes this change of the document of this text, as it does in a run.
 pub record MakesChangeHere (now : ProfiledText) (x : Edit) (t : TextEdit) : Type 0 where
   pub edit : law.Edit

@@ -9,14 +9,14 @@ use crate::text_edit::TextEdit;
 use std::alloc::Global;
 
 impl<'a> DocumentRef<'a> {
-    /// What an edit changes of the text, if it makes the same change after other such edits that leave it alone: an
-    /// insert that adds a line, a remove that takes one, or leaves it with its comment, a set, a rename, and a header
-    /// after a newline. None for any other edit, where it is refused, and where memory was refused.
+    /// What an edit changes of the text, if it makes the same change after other such edits that leave it alone: a
+    /// remove that takes a line, or leaves it with its comment, a set, a rename, and a header after a newline. None for
+    /// any other edit, where it is refused, and where memory was refused. (`Planner` knows the lines of inserts, too.)
     pub fn change_by(&self, alloc: Global, edit: &Edit) -> Option<TextEdit>
         ensures { IfSome result (MakesChangeHere self.now edit.now) }
     {
         match edit {
-            Edit::Insert(path, value) => self.added_line(alloc, path, value),
+            Edit::Insert(_, _) => None,
             Edit::Remove(path) => self.line_removal(alloc, path),
             Edit::Set(_, _) | Edit::Rename(_, _) => self.planned(alloc, edit),
             Edit::Table(_) | Edit::Element(_) => {

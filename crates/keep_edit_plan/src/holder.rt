@@ -1,9 +1,12 @@
 //! The node below which a new value comes.
-ghost use Rattle.std.specs.Prelude.{◌≡◌, suc, ◌<◌, ◌≤◌, length};
+ghost use Rattle.std.specs.Prelude.{◌≡◌, ◌⊎◌, suc, ◌<◌, ◌≤◌, length};
 ghost use Rattle.keep_syntax.specs.Tree as tree;
 ghost use Rattle.keep_path.specs.Path.{AreUtf8};
+ghost use Rattle.keep_meaning.specs.Meaning.{mentions_in};
+ghost use Rattle.keep_edit_spec.specs.Look.{holder};
 ghost use Rattle.keep_edit_plan.specs.Reading.{IsAccepted, IsTextOfTree};
 ghost use Rattle.keep_edit_plan.specs.Holding.{brackets_of, is_value_origin, IsFurther, IsHolder, IsOnWalk};
+ghost use Rattle.keep_edit_plan.specs.Inserting.{origin_of};
 
 use crate::document::DocumentRef;
 use keep_rules::{Kind, NodeId, Origin, Path};
@@ -22,7 +25,33 @@ pub(crate) struct Holder {
     pub(crate) depth: usize,
 }
 
+/// How far the steps of a path lead that are before its last.
+#[derive(Clone, Copy, Debug, PartialEq, Eq)]
+pub struct Reach {
+    /// How many of them lead to what is there.
+    pub steps: usize,
+    /// Whether that is written as a value.
+    pub is_value: bool,
+}
+
 impl<'a> DocumentRef<'a> {
+    /// How far a path leads, its last step left out. It takes no memory.
+    pub fn reach(&self, path: &Path) -> Reach
+        ensures steps { (s : tree.Document) → IsTextOfTree self.now s
+            → result.steps ≡ length (holder path.now (mentions_in s)) }
+        ensures value { (s : tree.Document) → IsTextOfTree self.now s
+            → result.is_value ≡ is_value_origin (origin_of (holder path.now (mentions_in s)) s) }
+        ensures few { (result.steps ≡ 0) ⊎ (result.steps < length path.now) }
+    {
+        let _text = self.text;
+        let holder = self.holder_of(path);
+        let origin = self.index.node(holder.id).origin;
+        Reach {
+            steps: holder.len,
+            is_value: is_value(origin),
+        }
+    }
+
     /// The longest prefix of a path, the whole path left out, that names a node. It takes no memory.
     pub(crate) fn holder_of(&self, path: &Path) -> Holder
         requires { IsAccepted self.now }

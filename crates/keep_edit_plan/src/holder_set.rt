@@ -73,7 +73,7 @@ pub fn first_steps(alloc: Global, path: &Path, n: usize) -> Result<Path, AllocEr
 }
 
 /// Adds a step at the end; an index is not the first. The only error is out of memory.
-fn push_step(path: &mut Path, step: &Step) -> Result<(), AllocError>
+pub fn push_step(path: &mut Path, step: &Step) -> Result<(), AllocError>
     requires { (n : ℕ) → part_of step.now ≡ index n → path.old ≢ [] }
     ensures { OnOk result (path.new ≡ path.old ++ part_of step.now ∷ []) }
 {

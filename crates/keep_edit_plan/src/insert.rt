@@ -145,7 +145,7 @@ impl<'a> DocumentRef<'a> {
     }
 
     /// Where a value is inserted, or why it can't be. It takes no memory.
-    fn insertion(&self, path: &Path, value: &ValueText) -> Result<Insertion, EditFault>
+    pub(crate) fn insertion(&self, path: &Path, value: &ValueText) -> Result<Insertion, EditFault>
         requires { IsAccepted self.now }
         ensures insertion { (s : tree.Document) → IsTextOfTree self.now s → (v : tree.Value) → IsTextOfValue value.now v
             → IsInsertionOf self.now.profile path.now v s result }

@@ -3,6 +3,7 @@ ghost use Rattle.std.specs.Prelude.{◌≡◌, IfOk, IfSome, IsTrue, drop};
 ghost use Rattle.keep_syntax.specs.Contract.{value_values_of};
 ghost use Rattle.keep_edit_plan.specs.OpenPlaces.{IsBracket, places_of};
 
+mod key_numbers;
 mod keys;
 mod keyvals;
 mod putting;
@@ -11,6 +12,7 @@ mod taking;
 use keep_rules::{Index, Kind, ValueText};
 use keep_syntax::{Limits, STANDARD_DEPTH, ValueSyntax};
 use keep_types::{Leaf, Profile, kind_of};
+use key_numbers::KeyNumbers;
 use std::alloc::{AllocError, Global};
 use std::marker::Model;
 
@@ -24,11 +26,12 @@ pub(crate) struct EntryPlace {
 }
 
 /// The text of an array or an inline table of TOML v1.0.0 that obeys the rules of definition, and where its entries
-/// are.
+/// are. The numbers of its keys are known from the first keyval on that comes in, if they are few.
 #[derive(Debug, Drop)]
 pub struct OpenValue {
     pub(crate) text: String,
     pub(crate) places: Vec<EntryPlace>,
+    pub(crate) keys: KeyNumbers,
     pub(crate) kind: Kind,
     pub(crate) depth: u16,
 }
@@ -41,7 +44,7 @@ impl Model for OpenValue {
 
     ghost view = { λ v. string_bytes v.text };
 
-    ghost invariant = { λ v. HoldsOpen (string_bytes v.text) v.places.items v.kind v.depth };
+    ghost invariant = { λ v. HoldsOpen (string_bytes v.text) v.places.items v.keys v.kind v.depth };
 }
 
 /// Whether a value that begins with this leaf is an array or an inline table.
@@ -96,6 +99,7 @@ impl OpenValue {
         Some(OpenValue {
             text,
             places,
+            keys: KeyNumbers::unknown(),
             kind: kind_of(leaf),
             depth: syntax.depth(),
         })

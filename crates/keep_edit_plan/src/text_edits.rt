@@ -1,12 +1,12 @@
 //! Edits of one text.
-ghost use Rattle.std.specs.Prelude.{◌≡◌, ◌<◌, ◌≤◌, [], All, IfOk, IfSome, IsTrue, OnErr, false, if◌then◌else◌};
-ghost use Rattle.std.specs.Prelude.{length, map, string_bytes};
+ghost use Rattle.std.specs.Prelude.{◌≡◌, ◌<◌, ◌≤◌, [], All, IfOk, IfSome, IsTrue, OnErr, Some, false, if◌then◌else◌};
+ghost use Rattle.std.specs.Prelude.{length, map, slice_get, string_bytes};
 ghost use Rattle.std.specs.Bool.{Decides};
 ghost use Rattle.std.specs.List.{list_any};
 ghost use Rattle.keep_edit_spec.specs.Runs.{LeavesPlace, LetsCome, takes_up_to};
 ghost use Rattle.keep_edit_spec.specs.TextChanges.{IsBeside, text_with, with_change};
 ghost use Rattle.keep_edit_plan.specs.SaidSpans.{Leaves};
-ghost use Rattle.keep_edit_plan.specs.TextEdits.{HasChange, IsChangeIn, IsOrdered, IsReplaced, change_of};
+ghost use Rattle.keep_edit_plan.specs.TextEdits.{HasChange, HasInstead, IsChangeIn, IsOrdered, IsReplaced, change_of};
 
 use crate::said::said_line;
 use crate::text_edit::TextEdit;
@@ -94,6 +94,43 @@ impl TextEdits {
         }
         self.edits[number - 1] = edit;
         true
+    }
+
+    /// Puts an edit in the place of one like this, which replaces the same bytes. Returns whether there is one; if not,
+    /// nothing has changed.
+    pub fn exchange(&mut self, earlier: &TextEdit, edit: TextEdit) -> bool
+        ensures exchanged { IsTrue result
+            → HasInstead self.old (change_of earlier.now) (change_of edit) self.new }
+        ensures other { result ≡ false → self.new ≡ self.old }
+    {
+        if earlier.place != edit.place || edit.place.start > edit.place.end {
+            return false;
+        }
+        let Some(number) = self.number_of(earlier) else {
+            return false;
+        };
+        self.edits[number] = edit;
+        true
+    }
+
+    /// The number of an edit like this.
+    fn number_of(&self, edit: &TextEdit) -> Option<usize>
+        ensures { IfSome result (λ number. slice_get self.now number ≡ Some (change_of edit.now)) }
+    {
+        let Span { start, end } = edit.place;
+        let first = self
+            .edits
+            .partition_point(|other| other.place.start < start);
+        for number in first..self.edits.len() {
+            let other = &self.edits[number];
+            if other.place.start != start {
+                return None;
+            }
+            if other.place.end == end && other.new.as_str() == edit.new.as_str() {
+                return Some(number);
+            }
+        }
+        None
     }
 
     /// The last of the edits that begin at this byte.

@@ -52,6 +52,7 @@ pub mod BraceDotted
 pub mod KeyvalPlaces
 pub mod DottedPlace
 pub mod InsertDottedPlace
+pub mod KeysAtEnd
 pub mod InsertAddsLine
 pub mod InsertAddsValue
 pub mod InsertNested

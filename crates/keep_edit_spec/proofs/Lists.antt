@@ -2,6 +2,7 @@
 pub mod Places
 pub mod BodyEnds
 pub mod SaidOfPrefixes
+pub mod NewHolder
 pub mod OtherPaths
 pub mod StillAdds
 pub mod SetAllowed
@@ -120,3 +121,8 @@ pub mod EntryEdits
 pub mod EntryEditRuns
 pub mod EntryChanges
 pub mod SetBytes
+pub mod ExchangedChanges
+pub mod ValueAdded
+pub mod OneInsert
+pub mod ExchangedEdits
+pub mod InsertLists

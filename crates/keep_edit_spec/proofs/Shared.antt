@@ -87,6 +87,8 @@ pub use Rattle.keep_edit_spec.proofs.Lists.ChangeOrder.{beside_back, one_in_plac
 pub use Rattle.keep_edit_spec.proofs.Lists.RunLaws.{none_is_run, run_goes_on}
 pub use Rattle.keep_edit_spec.proofs.Lists.RunLists.{each_of_others, run_goes_on_again, run_is_known}
 pub use Rattle.keep_edit_spec.proofs.Lists.RenameLists.{run_goes_on_renamed}
+pub use Rattle.keep_edit_spec.proofs.Lists.ExchangedEdits.{each_more}
+pub use Rattle.keep_edit_spec.proofs.Lists.InsertLists.{run_goes_on_inserted}
 pub use Rattle.keep_edit_spec.proofs.Rename.KeyTexts.{one_key}
 pub use Rattle.keep_edit_spec.proofs.Lists.ItemRunLaws.{item_run_goes_on, none_is_item_run}
 pub use Rattle.keep_edit_spec.proofs.Lists.EntryEditRuns.{entry_lawful, run_goes_on_by_entry}
@@ -95,7 +97,7 @@ pub use Rattle.keep_edit_spec.proofs.Lists.EntryChanges.{entry_change_is_set}
 pub use Rattle.keep_edit_spec.proofs.Lists.SetBytes.{set_bytes}
 pub use Rattle.keep_edit_spec.proofs.Lists.SetTwice.{sets_again}
 pub use Rattle.keep_edit_spec.proofs.Lists.HeaderRunLaws.{first_with, header_run_goes_on, none_is_header_run}
-pub use Rattle.keep_edit_spec.proofs.Lists.PathsBefore.{apart_before, element_before, no_number_before}
+pub use Rattle.keep_edit_spec.proofs.Lists.PathsBefore.{apart_before, element_before, no_number_before, stays_below}
 pub use Rattle.keep_edit_spec.proofs.Lists.SectionRunLaws.{none_is_section_run, section_run_goes_on}
 pub use Rattle.keep_edit_spec.proofs.Lists.MoreItems.{keys_same, prefixes_alike}
 pub use Rattle.keep_edit_spec.proofs.Lists.NextItem.{not_before, not_empty}
@@ -106,7 +108,8 @@ pub use Rattle.keep_edit_spec.proofs.Common.Runs.{same_path-refl}
 pub use Rattle.keep_edit_spec.proofs.Common.ValueThere.{IsSome}
 pub use Rattle.keep_edit_spec.proofs.Insert.ItemThere.{IsGranted, granted}
 pub use Rattle.keep_edit_spec.proofs.Insert.LinesNamed.{some_among}
-pub use Rattle.keep_edit_spec.proofs.Insert.NewPath.{new_path}
+pub use Rattle.keep_edit_spec.proofs.Insert.NewPath.{IsNewPath, new_path}
+pub use Rattle.keep_edit_spec.proofs.Lists.Places.{place_is}
 pub use Rattle.keep_edit_spec.proofs.Remove.RemoveLinePlace.{IsCleared, IsOwnLine, cleared_lines, head_line}
 pub use Rattle.keep_edit_spec.proofs.Remove.RemoveLinePlace.{lines_split, page_line, rest_valid, tail_lines, without}
 pub use Rattle.keep_edit_spec.proofs.Remove.RemoveLinePlace.{head_text, line_value, own_line}

@@ -30,3 +30,4 @@ pub mod EntryEdits
 pub mod RunLists
 pub mod EntryChanges
 pub mod RenameLists
+pub mod InsertLists

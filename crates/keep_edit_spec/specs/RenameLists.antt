@@ -9,7 +9,7 @@ use Rattle.keep_path.specs.Path.{Part, beside}
 use Rattle.keep_edit_spec.specs.Edits.{Edit, append_element, append_table, edited_document, insert, remove, rename, set}
 use Rattle.keep_edit_spec.specs.Laws.{IsEditable}
 use Rattle.keep_edit_spec.specs.RenamedKeys.{ArePathsApart, RenamesKey}
-use Rattle.keep_edit_spec.specs.RunLists.{AreAtOnce, IsOneOf, MadeEdit, changes_of, document_after, edits_of, made}
+use Rattle.keep_edit_spec.specs.RunLists.{AreAtOnce, IsOneOf, MadeEdit, changes_of, document_after, made, seen_of}
 use Rattle.keep_edit_spec.specs.Runs.{IsNoStep, PassesBy}
 use Rattle.keep_edit_spec.specs.TextChanges.{TextChange, change_at, moved_by_all, text_with, with_change}
 
@@ -62,5 +62,5 @@ RunGoesOnRenamed =
     (profile : Profile) (limit : ℕ) (s : Document) (ms : List MadeEdit) (path : List Part) (more : List ℕ)
     (d : TextChange)
     → IsEditable profile limit s → AreAtOnce profile limit s ms → IsRenameIn path ms
-    → All (AllowsKey path more) (edits_of ms) → RenamesKey profile limit s path more d
+    → All (AllowsKey path more) (seen_of s ms) → RenamesKey profile limit s path more d
     → IsRunRenamedAgain profile limit s ms path more d

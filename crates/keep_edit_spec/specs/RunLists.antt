@@ -7,7 +7,7 @@ use Rattle.keep_syntax.specs.Tree.{Document, Value, text}
 use Rattle.keep_path.specs.Path.{Part}
 use Rattle.keep_edit_spec.specs.Edits.{Edit, edited_document, set}
 use Rattle.keep_edit_spec.specs.Laws.{IsEditable}
-use Rattle.keep_edit_spec.specs.Runs.{IsRun, KeepsPlace, LeavesAlone, MakesChange}
+use Rattle.keep_edit_spec.specs.Runs.{IsRun, KeepsPlace, LeavesAlone, MakesChange, seen}
 use Rattle.keep_edit_spec.specs.SetValues.{SetsValue}
 use Rattle.keep_edit_spec.specs.TextChanges.{Follow, IsBeside, TextChange, change_at, moved_by_all, text_with}
 use Rattle.keep_edit_spec.specs.TextChanges.{with_change}
@@ -20,9 +20,9 @@ pub record MadeEdit : Type 0 where
 abbrev pub made : Edit → TextChange → MadeEdit
 made e c = record { edit = e; change = c }
 
--- In these lists the last edit comes first.
-abbrev pub edits_of : List MadeEdit → List Edit
-edits_of = map (λ m. m.edit)
+-- In these lists the last edit comes first. The edits, as others see them:
+abbrev pub seen_of : Document → List MadeEdit → List Edit
+seen_of s = map (λ m. seen s m.edit)
 
 -- their changes, in the order of the places
 abbrev pub changes_of : List MadeEdit → List TextChange
@@ -39,9 +39,9 @@ abbrev pub AreAtOnce : Profile → ℕ → Document → List MadeEdit → Type 0
 AreAtOnce profile limit s [] = ⊤
 AreAtOnce profile limit s (m ∷ ms) =
     MakesChange profile limit s m.edit m.change
-    × (All (λ e. LeavesAlone e m.edit) (edits_of ms)
+    × (All (λ e. LeavesAlone e (seen s m.edit)) (seen_of s ms)
     × (All (λ d. IsBeside d m.change) (changes_of ms)
-    × (KeepsPlace (text s) (edits_of ms) (changes_of ms) m.edit m.change
+    × (KeepsPlace (text s) (seen_of s ms) (changes_of ms) m.edit m.change
     × AreAtOnce profile limit s ms)))
 
 -- So they are a run.
@@ -49,7 +49,7 @@ abbrev pub RunIsKnown : Type 0
 RunIsKnown =
     (profile : Profile) (limit : ℕ) (s : Document) (ms : List MadeEdit)
     → IsEditable profile limit s → AreAtOnce profile limit s ms
-    → IsRun profile limit s (edits_of ms) (changes_of ms) (document_after s ms)
+    → IsRun profile limit s (seen_of s ms) (changes_of ms) (document_after s ms)
 
 -- ---- a value that is set again
 

@@ -6,7 +6,7 @@ use Rattle.keep_types.specs.declared.leaf.Profile.{Profile}
 use Rattle.keep_syntax.specs.Tree as tree
 use Rattle.keep_syntax.specs.Tree.{Document, text}
 use Rattle.keep_path.specs.Path.{Part, beside, key, strip}
-use Rattle.keep_edit_spec.specs.AddedLines.{AddsLine}
+use Rattle.keep_edit_spec.specs.AddedLines.{AddsLine, first_new}
 use Rattle.keep_edit_spec.specs.AppendedHeaders.{AppendsElement, AppendsTable, AreSameOrApart}
 use Rattle.keep_edit_spec.specs.ClearedLines.{ClearsLine}
 use Rattle.keep_edit_spec.specs.Edits.{Edit, append_element, append_table, edited_document, insert, place, remove}
@@ -35,6 +35,11 @@ MakesChange profile limit s (append_element keys) c = AppendsElement profile lim
 abbrev pub IsOfPlace : Document → Edit → TextChange → Type 0
 IsOfPlace s (remove path) c = IsWider (text s) (place s (remove path)) c
 IsOfPlace s e c = place s e ≡ place_of_change c
+
+-- The edit as others see it: an insert of several keys is as one of the first.
+abbrev pub seen : Document → Edit → Edit
+seen s (insert path value) = insert (first_new s path) value
+seen s e = e
 
 -- neither path is the other or below it
 abbrev pub AreApart : List Part → List Part → Type 0
@@ -112,13 +117,13 @@ is_new_after e f = (is_insert f && not (is_insert e)) || (is_header f && not (is
 abbrev pub IsStillPlaced : Document → Edit → TextChange → Edit → TextChange → Type 0
 IsStillPlaced s e c f d = IsTrue (is_new_after e f) → StaysPlaced s e c f d
 
--- An edit makes its change after another that leaves it alone made one beside it.
+-- An edit makes its change after another that leaves it alone made one beside it, and is seen as before.
 abbrev pub StillMakesChange : Type 0
 StillMakesChange =
     (profile : Profile) (limit : ℕ) (s : Document) (e : Edit) (c : TextChange) (f : Edit) (d : TextChange)
     → IsEditable profile limit s → MakesChange profile limit s e c → MakesChange profile limit s f d
-    → LeavesAlone e f → IsBeside c d → IsStillPlaced s e c f d
-    → MakesChange profile limit (edited_document s e) f (moved c d)
+    → LeavesAlone (seen s e) (seen s f) → IsBeside c d → IsStillPlaced s e c f d
+    → MakesChange profile limit (edited_document s e) f (moved c d) × (seen (edited_document s e) f ≡ seen s f)
 
 -- ---- edits of several kinds
 
@@ -168,7 +173,7 @@ KeepsPlace bytes edits changes e c = ⊤
 
 -- The document after these edits, each of which makes its change of the first document's text: the text is that of the
 -- first with the changes, bytes beside these are there still, and an edit that they leave alone makes its change beside
--- them still.
+-- them still, and is seen as before. The edits are as they are seen.
 pub record IsRun (profile : Profile) (limit : ℕ) (s : Document) (edits : List Edit) (changes : List TextChange)
     (now : Document) : Type 0 where
   pub first : IsEditable profile limit s
@@ -177,16 +182,17 @@ pub record IsRun (profile : Profile) (limit : ℕ) (s : Document) (edits : List 
   pub text : text now ≡ text_with 0 (text s) changes
   pub kept : (r : TextChange) → All (λ d. IsBeside d r) changes → r.at + r.size ≤ length (tree.text s)
       → take r.size (drop (moved_by_all changes r.at) (tree.text now)) ≡ take r.size (drop r.at (tree.text s))
-  pub later : (e : Edit) (c : TextChange) → MakesChange profile limit s e c → All (λ f. LeavesAlone f e) edits
-      → All (λ d. IsBeside d c) changes → KeepsPlace (tree.text s) edits changes e c
-      → MakesChange profile limit now e (moved_past changes c)
+  pub later : (e : Edit) (c : TextChange) → MakesChange profile limit s e c
+      → All (λ f. LeavesAlone f (seen s e)) edits → All (λ d. IsBeside d c) changes
+      → KeepsPlace (tree.text s) edits changes e c
+      → MakesChange profile limit now e (moved_past changes c) × (seen now e ≡ seen s e)
 
 -- one edit more: it is not refused, and the run is longer
 pub record IsRunLonger (profile : Profile) (limit : ℕ) (s : Document) (edits : List Edit) (changes : List TextChange)
     (now : Document) (e : Edit) (c : TextChange) : Type 0 where
   pub allowed : refusal profile limit now e ≡ None
   pub is : IsOfPlace now e (moved_past changes c)
-  pub run : IsRun profile limit s (e ∷ edits) (with_change changes c) (edited_document now e)
+  pub run : IsRun profile limit s (seen s e ∷ edits) (with_change changes c) (edited_document now e)
 
 abbrev pub NoneIsRun : Type 0
 NoneIsRun = (profile : Profile) (limit : ℕ) (s : Document) → IsEditable profile limit s → IsRun profile limit s [] [] s
@@ -195,6 +201,7 @@ abbrev pub RunGoesOn : Type 0
 RunGoesOn =
     (profile : Profile) (limit : ℕ) (s : Document) (edits : List Edit) (changes : List TextChange) (now : Document)
     (e : Edit) (c : TextChange)
-    → IsRun profile limit s edits changes now → MakesChange profile limit s e c → All (λ f. LeavesAlone f e) edits
+    → IsRun profile limit s edits changes now → MakesChange profile limit s e c
+    → All (λ f. LeavesAlone f (seen s e)) edits
     → All (λ d. IsBeside d c) changes → KeepsPlace (text s) edits changes e c
     → IsRunLonger profile limit s edits changes now e c

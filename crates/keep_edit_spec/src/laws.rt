@@ -5,6 +5,7 @@ ghost use Rattle.keep_edit_spec.specs.AppendedHeaders as appended;
 ghost use Rattle.keep_edit_spec.specs.AppendedStatements as headers;
 ghost use Rattle.keep_edit_spec.specs.EntryChanges as parts;
 ghost use Rattle.keep_edit_spec.specs.EntryEdits as entries;
+ghost use Rattle.keep_edit_spec.specs.InsertLists as inserts;
 ghost use Rattle.keep_edit_spec.specs.KeyvalLines as keyvals;
 ghost use Rattle.keep_edit_spec.specs.Laws as spec;
 ghost use Rattle.keep_edit_spec.specs.RemovedHeaders as taken;
@@ -149,11 +150,13 @@ pub fn runs_are_known()
 
 /// A list of such edits is a run, if each makes its change beside those before it, which leave it alone. If one of them
 /// sets a value, the run goes on by a set of that value, too: the later set takes the place of the earlier one. So it
-/// goes on where a key that one of them renames is renamed again, if the others leave the first key's rename alone.
+/// goes on where a key that one of them renames is renamed again, if the others leave the first key's rename alone; and
+/// where the value of a line that one of them adds is set: the line is added with the later value.
 pub fn runs_go_on_again()
     ensures known { lists.RunIsKnown }
     ensures run { lists.RunGoesOnAgain }
     ensures renamed { renames.RunGoesOnRenamed }
+    ensures inserted { inserts.RunGoesOnInserted }
 {}
 
 /// So is a run of inserts that each add the next item of one array.

@@ -124,7 +124,7 @@ impl<'a> DocumentRef<'a> {
     }
 
     /// The byte offset at which the first line begins: after a byte order mark.
-    fn lines_start(&self) -> usize
+    pub(crate) fn lines_start(&self) -> usize
         requires { IsAccepted self.now }
         ensures { (s : tree.Document) → IsTextOfTree self.now s → result ≡ lines_start s }
     {

@@ -1,11 +1,12 @@
 //! Which entry of an inline table has a key, by the key parts that stand where the entries begin.
 ghost use Rattle.std.specs.Prelude.{◌≡◌, IfSome, IsTrue, drop, slice_index};
+ghost use Rattle.keep_meaning.specs.KeyText.{text_of_key};
 ghost use Rattle.keep_edit_spec.specs.Removal.{past_space};
-ghost use Rattle.keep_edit_plan.specs.OpenKeyvals.{AreOtherKeys, IsKeyedAt, IsOtherKey, IsOwnKey};
+ghost use Rattle.keep_edit_plan.specs.OpenKeyvals.{AreOtherKeys, IsKeyedAt, IsOtherKey, IsOwnKey, KeyIs};
 
 use super::EntryPlace;
 use crate::remove::past_space;
-use keep_meaning::key_text::key_text;
+use keep_meaning::key_text::{KeyText, key_text};
 use keep_syntax::{KeyPart, Span};
 use keep_token::scan_key;
 use keep_types::Profile;
@@ -31,20 +32,30 @@ pub(super) fn are_other_keys(alloc: Global, text: &str, places: &[EntryPlace], n
     true
 }
 
+/// What the key part at a byte means. None where there is none, and where memory was refused.
+pub(super) fn key_at<'a>(alloc: Global, text: &'a str, at: usize) -> Option<KeyText<'a>>
+    ensures { IfSome result (λ key. KeyIs (λ means. text_of_key key ≡ means) (drop at text.now)) }
+{
+    if !text.is_char_boundary(at) {
+        return None;
+    }
+    let Ok((leaf, end)) = scan_key(text, at, Profile::Wide) else {
+        return None;
+    };
+    let span = Span { start: at, end };
+    match key_text(alloc, text, KeyPart { leaf, span }) {
+        Ok(key) => Some(key),
+        Err(_) => None,
+    }
+}
+
 /// Whether the key part at a byte means something else.
 fn is_other_key(alloc: Global, text: &str, at: usize, name: &str) -> bool
     ensures { IsTrue result → IsOtherKey name.now (drop at text.now) }
 {
-    if !text.is_char_boundary(at) {
-        return false;
-    }
-    let Ok((leaf, end)) = scan_key(text, at, Profile::Wide) else {
-        return false;
-    };
-    let span = Span { start: at, end };
-    match key_text(alloc, text, KeyPart { leaf, span }) {
-        Ok(key) => key.as_str() != name,
-        Err(_) => false,
+    match key_at(alloc, text, at) {
+        Some(key) => key.as_str() != name,
+        None => false,
     }
 }
 

@@ -1,11 +1,13 @@
 //! A keyval comes into an inline table, after the last.
-ghost use Rattle.std.specs.Prelude.{◌≡◌, IfSome, string_bytes};
-ghost use Rattle.keep_edit_plan.specs.OpenKeyvals.{keyval_text};
+ghost use Rattle.std.specs.Prelude.{◌≡◌, ◌⊎◌, IfSome, IsTrue, string_bytes};
+ghost use Rattle.keep_edit_plan.specs.KeyNumbers.{HasKey};
+ghost use Rattle.keep_edit_plan.specs.OpenKeyvals.{AreOtherKeys, keyval_text};
 ghost use Rattle.keep_edit_plan.specs.OpenValues.{PutsKeyvalText};
 
-use super::OpenValue;
+use super::key_numbers::KeyNumbers;
 use super::keys::are_other_keys;
 use super::putting::{can_be_nested, place_in, with_item_at, with_place_of};
+use super::{EntryPlace, OpenValue};
 use keep_rules::{Kind, ValueText};
 use keep_token::encode_key;
 use std::alloc::Global;
@@ -22,6 +24,7 @@ impl OpenValue {
         let OpenValue {
             text,
             places,
+            keys,
             kind,
             depth,
         } = self;
@@ -29,9 +32,11 @@ impl OpenValue {
             return None;
         };
         let alloc = *text.allocator();
-        if !are_other_keys(alloc, text.as_str(), &places, name) {
+        let keys = keys.or_read(alloc, text.as_str(), &places)?;
+        if !is_new_key(alloc, &keys, text.as_str(), &places, name) {
             return None;
         }
+        let keys = keys.with(name)?;
         let depth = depth.max(value.depth() + 1);
         let keyval = keyval_text(alloc, name, value.as_str())?;
         let number = places.len();
@@ -41,10 +46,24 @@ impl OpenValue {
         Some(OpenValue {
             text,
             places,
+            keys,
             kind,
             depth,
         })
     }
+}
+
+/// Whether no entry's key begins with this one. False where memory was refused, too.
+fn is_new_key(
+    alloc: Global,
+    keys: &KeyNumbers,
+    text: &str,
+    places: &[EntryPlace],
+    name: &str,
+) -> bool
+    ensures { IsTrue result → (¬ HasKey keys.now name.now) ⊎ AreOtherKeys name.now text.now 1 places.now }
+{
+    keys.lack(name) || are_other_keys(alloc, text, places, name)
 }
 
 /// `KEY = VALUE`, with a bare key if it can be one. None where memory was refused.

@@ -25,6 +25,7 @@ impl OpenValue {
         let OpenValue {
             text,
             places,
+            keys,
             kind,
             depth,
         } = self;
@@ -41,6 +42,7 @@ impl OpenValue {
         Some(OpenValue {
             text,
             places,
+            keys,
             kind,
             depth,
         })

@@ -34,6 +34,7 @@ impl OpenValue {
         let OpenValue {
             text,
             places,
+            keys,
             kind,
             depth,
         } = self;
@@ -49,6 +50,7 @@ impl OpenValue {
         Some(OpenValue {
             text,
             places,
+            keys,
             kind,
             depth,
         })
@@ -61,6 +63,7 @@ impl OpenValue {
         let OpenValue {
             text,
             places,
+            keys,
             kind,
             depth,
         } = self;
@@ -78,6 +81,7 @@ impl OpenValue {
         Some(OpenValue {
             text,
             places,
+            keys,
             kind,
             depth,
         })

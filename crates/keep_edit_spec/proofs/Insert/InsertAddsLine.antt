@@ -10,8 +10,7 @@ use Rattle.std.specs.List.{AllByRecursion, list_any}
 use Rattle.std.proofs.lemmas.List.{length-map, take-append-drop}
 use Rattle.keep_types.specs.declared.leaf.Profile.{Profile}
 use Rattle.keep_syntax.specs.Tree.{Entries, Value, Line, Ended, Document, keyval}
-use Rattle.keep_path.specs.Path.{Part, key, last_part}
-use Rattle.keep_path.proofs.Shared.{last_pushed}
+use Rattle.keep_path.specs.Path.{Part, key}
 use Rattle.keep_meaning.specs.Counts.{statements_in}
 use Rattle.keep_meaning.specs.Marks as marks
 use Rattle.keep_meaning.specs.Marks.{Mention, Statement, start, value as kinds_value}
@@ -24,15 +23,14 @@ use Rattle.keep_edit_spec.specs.KeyvalLines.{HasLineAt, InsertAddsLine, bare_val
 use Rattle.keep_edit_spec.specs.Lines.{new_line, newline_of, put_lines}
 use Rattle.keep_edit_spec.specs.Look.{holder, item_number, keys_in}
 use Rattle.keep_edit_spec.specs.Refusals.{refusal}
-use Rattle.keep_edit_spec.proofs.Common.BodyEnd.{IsBodyEnd, end_is}
+use Rattle.keep_edit_spec.proofs.Common.BodyEnd.{IsBodyEnd}
 use Rattle.keep_edit_spec.proofs.Common.LineStatements.{put_statements, reading_statements, statements-append}
 use Rattle.keep_edit_spec.proofs.Common.LineStatements.{statements_of}
-use Rattle.keep_edit_spec.proofs.Common.NewLines.{IsKeyText, key_means}
+use Rattle.keep_edit_spec.proofs.Common.NewLines.{IsKeyText}
 use Rattle.keep_edit_spec.proofs.Common.Runs.{AllOf}
 use Rattle.keep_edit_spec.proofs.Common.SetDocument.{page_lines}
-use Rattle.keep_edit_spec.proofs.Insert.InsertLine.{change_here, later_keys}
-use Rattle.keep_edit_spec.proofs.Insert.NewPath.{IsNewPath, drop_prefix_parts, new_path}
-use Rattle.keep_edit_spec.proofs.Rename.KeyTexts.{key_texts}
+use Rattle.keep_edit_spec.proofs.Insert.InsertLine.{change_here}
+use Rattle.keep_edit_spec.proofs.Insert.KeysAtEnd as keys
 
 -- The path is new, and in the document are the lines of the body that it goes into, up to line n.
 module _ (profile : Profile) (limit : ℕ) (s : Document) (path : List Part) (text : List ℕ) (value : Value) (n : ℕ)
@@ -43,28 +41,22 @@ module _ (profile : Profile) (limit : ℕ) (s : Document) (path : List Part) (te
   a = holder path (mentions_in s)
 
   pub no_item : item_number path (mentions_in s) ≡ None
-  no_item = rw (ap last_part one ∙ last_pushed a (key text), item_number) refl
-
-  new : IsNewPath path (mentions_in s)
-  new = new_path profile limit (mentions_in s) path value no_item allowed
+  no_item = keys.no_item profile limit s path text [] value n utf8 allowed one ends
 
   pub rest : drop (length a) path ≡ key text ∷ []
-  rest = ap (drop (length a)) one ∙ drop_prefix_parts a (key text ∷ [])
+  rest = keys.rest profile limit s path text [] value n utf8 allowed one ends
 
   pub texts : AllOf (IsKeyText profile) (text ∷ [])
-  texts = later_keys profile a path (text ∷ []) one (key_texts profile (keys_in path) utf8)
+  texts = keys.texts profile limit s path text [] value n utf8 allowed one ends
 
   pub means : keys_of (name_with (text ∷ [])).key ≡ text ∷ []
-  means = key_means profile text [] texts
+  means = keys.means profile limit s path text [] value n utf8 allowed one ends
 
   pub end : IsBodyEnd s a n
-  end = end_is s a n ends
+  end = keys.end profile limit s path text [] value n utf8 allowed one ends
 
   pub unsaid : list_any (is_at (a ++ key text ∷ [])) (mentions_in s) ≡ false
-  unsaid =
-      let first : key text ∷ [] ≡ key new.first ∷ map key new.more = sym rest ∙ new.rest in
-      let same : text ≡ new.first = cc in
-      ap (λ (t : List ℕ). list_any (is_at (a ++ key t ∷ [])) (mentions_in s)) same ∙ new.fresh
+  unsaid = keys.unsaid profile limit s path text [] value n utf8 allowed one ends
 
   fresh : is_node path (mentions_in s) ≡ false
   fresh = ap₂ (λ (b c : Bool). b || c) (ap is_root one ∙ not_root a)

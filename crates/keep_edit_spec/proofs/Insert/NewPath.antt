@@ -5,16 +5,17 @@
 -- node, the holder is a table, and no index comes after it. Then what comes after the holder are keys (`all_keys`), of
 -- which the first names no node.
 --
--- Theorems: `held` and `new_path`.
+-- Theorems: `held` and `new_path`; `ends_in_key`: a path that continues by keys.
 use Rattle.std.proofs.Common.{◌≡◌, ℕ, Bool, true, false, not, cond, ◌||◌, ◌&&◌, List, [], ◌∷◌, ◌++◌, length, map, drop}
-use Rattle.std.proofs.Common.{refl, sym, ap, subst, ◌∙◌, Option, Some, None, ◌⊎◌, inl, inr}
+use Rattle.std.proofs.Common.{refl, sym, ap, subst, ◌∙◌, append_assoc, Option, Some, None, ◌⊎◌, inl, inr}
 use Rattle.std.specs.List.{list_any}
 use Rattle.keep_types.specs.declared.leaf.Profile.{Profile}
 use Rattle.keep_syntax.specs.Tree.{Value}
 use Rattle.keep_syntax.specs.Profiles.{is_allowed_in}
 use Rattle.keep_edit_spec.specs.declared.fault.EditFault.{EditFault}
 use Rattle.keep_edit_spec.specs.declared.fault.EditFault.TheVariants as fault
-use Rattle.keep_path.specs.Path.{Part, key, index}
+use Rattle.keep_path.specs.Path.{EndsInKey, Part, key, index}
+use Rattle.keep_path.proofs.Shared.{last_pushed}
 use Rattle.keep_meaning.specs.Marks.{Mention}
 use Rattle.keep_meaning.specs.Nodes.{is_node, is_at, is_root}
 use Rattle.keep_edit_spec.specs.Look.{prefixes, last_passing, holder, is_index, is_table, item_number, keys_in}
@@ -111,6 +112,11 @@ not_false false h = absurd cc
 pub drop_prefix_parts : (a b : List Part) → drop (length a) (a ++ b) ≡ b
 drop_prefix_parts [] b = refl
 drop_prefix_parts (x ∷ a) b = drop_prefix_parts a b
+
+pub ends_in_key : (a : List Part) (k : List ℕ) (ks : List (List ℕ)) → EndsInKey (a ++ map key (k ∷ ks))
+ends_in_key a k [] = (k, last_pushed a (key k))
+ends_in_key a k (l ∷ ks) =
+    subst EndsInKey (append_assoc a (key k ∷ []) (map key (l ∷ ks))) (ends_in_key (a ++ key k ∷ []) l ks)
 
 pub keys_of_map : (ks : List (List ℕ)) → keys_in (map key ks) ≡ ks
 keys_of_map [] = refl

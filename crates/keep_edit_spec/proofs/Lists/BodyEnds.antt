@@ -325,10 +325,10 @@ pub end_stays : (profile : Profile) (limit : ℕ) (s : Document) (path : List Pa
     → end_of (edited_document s (insert path value)) (holder other (mentions_in s))
     ≡ Some (later_line h.number k.number)
 end_stays profile limit s path value l other more m h k =
-    end_moves (name_with (h.text ∷ [])) value s (edited_document s (insert path value)) (holder path (mentions_in s))
-    h.number (holder other (mentions_in s)) k.number h.ends
+    end_moves (name_with (h.text ∷ h.more)) value s (edited_document s (insert path value))
+    (holder path (mentions_in s)) h.number (holder other (mentions_in s)) k.number h.ends
     (ap lines (edited_is profile limit s path value l h)
-    ∙ lines_put h.number (new_line (newline_of s) (keyval (name_with (h.text ∷ [])) value)) s.ended s.last h.closed)
+    ∙ lines_put h.number (new_line (newline_of s) (keyval (name_with (h.text ∷ h.more)) value)) s.ended s.last h.closed)
     k.ends
 
 pub closed_stays : (profile : Profile) (limit : ℕ) (s : Document) (path : List Part) (value : Value) (l : TextChange)
@@ -336,7 +336,7 @@ pub closed_stays : (profile : Profile) (limit : ℕ) (s : Document) (path : List
     → (h : AddsLine profile limit s path value l) → (k : AddsLine profile limit s other more m)
     → later_line h.number k.number ≤ length (edited_document s (insert path value)).ended
 closed_stays profile limit s path value l other more m h k =
-    let new : Ended = new_line (newline_of s) (keyval (name_with (h.text ∷ [])) value) in
+    let new : Ended = new_line (newline_of s) (keyval (name_with (h.text ∷ h.more)) value) in
     let es : List Ended = s.ended in
     omega (
       arith,

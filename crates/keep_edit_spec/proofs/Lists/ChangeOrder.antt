@@ -4,7 +4,7 @@
 -- right before those that begin later (`is_put`). So another one that begins there goes there, too. In a list in which
 -- each follows the one before, one that takes bytes at a place is the only one there (`one_there`).
 --
--- Theorems: `with_both`, `beside_back`, `put_in_place`, `one_in_place`.
+-- Theorems: `with_both`, `beside_back`, `put_in_place`, `one_in_place`; `goes_before`, `goes_past`.
 use Rattle.std.proofs.Common.{◌≡◌, ◌≢◌, ℕ, ◌+◌, ◌<◌, ◌≤◌, List, [], ◌∷◌, ◌++◌, refl, sym, ap}
 use Rattle.std.proofs.Common.{◌∙◌, arith, inl, inr, subst}
 use Rattle.std.specs.Prelude.{◌⊎◌}
@@ -13,11 +13,11 @@ use Rattle.keep_edit_spec.specs.TextChanges.{Follow, IsBeside, TextChange, with_
 
 -- ---- two changes
 
-goes_before : (c : TextChange) (cs : List TextChange) (d : TextChange) → d.at < c.at
+pub goes_before : (c : TextChange) (cs : List TextChange) (d : TextChange) → d.at < c.at
     → with_change (c ∷ cs) d ≡ d ∷ c ∷ cs
 goes_before c cs d less = rw (lt-ltb d.at c.at less) refl
 
-goes_past : (c : TextChange) (cs : List TextChange) (d : TextChange) → c.at ≤ d.at
+pub goes_past : (c : TextChange) (cs : List TextChange) (d : TextChange) → c.at ≤ d.at
     → with_change (c ∷ cs) d ≡ c ∷ with_change cs d
 goes_past c cs d low = rw (le-ltb d.at c.at low) refl
 

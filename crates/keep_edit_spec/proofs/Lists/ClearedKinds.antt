@@ -4,7 +4,7 @@ use Rattle.std.specs.Prelude.{◌≡◌, ◌≢◌, ℕ, ◌+◌, List}
 use Rattle.keep_types.specs.declared.leaf.Profile.{Profile}
 use Rattle.keep_syntax.specs.Tree.{Document, Value}
 use Rattle.keep_path.specs.Path.{Part, beside}
-use Rattle.keep_edit_spec.specs.AddedLines.{AddsLine}
+use Rattle.keep_edit_spec.specs.AddedLines.{AddsLine, AddsLineStill, first_new}
 use Rattle.keep_edit_spec.specs.AppendedHeaders.{AppendsElement, AppendsTable}
 use Rattle.keep_edit_spec.specs.ClearedLines.{ClearsLine}
 use Rattle.keep_edit_spec.specs.Edits.{append_element, append_table, edited_document, insert, remove, rename, set}
@@ -37,9 +37,9 @@ InsertAfterClear =
     (profile : Profile) (limit : ℕ) (s : Document) (path : List Part) (c : TextChange)
     (other : List Part) (more : Value) (d : TextChange)
     → IsEditable profile limit s → ClearsLine profile limit s path c → AddsLine profile limit s other more d
-    → AreApart path other → IsBeside c d
+    → AreApart path (first_new s other) → IsBeside c d
     → newline_of (edited_document s (remove path)) ≡ newline_of s → c.at + c.size ≢ d.at
-    → AddsLine profile limit (edited_document s (remove path)) other more (moved c d)
+    → AddsLineStill profile limit s (edited_document s (remove path)) other more (moved c d)
 
 abbrev pub RemoveAfterClear : Type 0
 RemoveAfterClear =
@@ -94,7 +94,7 @@ ClearAfterInsert =
     (profile : Profile) (limit : ℕ) (s : Document) (path : List Part) (value : Value) (c : TextChange)
     (other : List Part) (d : TextChange)
     → IsEditable profile limit s → AddsLine profile limit s path value c → ClearsLine profile limit s other d
-    → AreApart path other → IsBeside c d
+    → AreApart (first_new s path) other → IsBeside c d
     → ClearsLine profile limit (edited_document s (insert path value)) other (moved c d)
 
 abbrev pub ClearAfterRemove : Type 0

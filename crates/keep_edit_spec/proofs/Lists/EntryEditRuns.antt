@@ -34,7 +34,7 @@ entry_lawful profile limit s (append_element keys) a value c fine h = absurd h.o
 pub run_goes_on_by_entry : RunGoesOnByEntry
 run_goes_on_by_entry profile limit s edits changes now e a value c r h alone beside =
     let there : TextChange = moved_past changes c in
-    let is_now : SetsValue profile limit now a value there = r.later (set a value) c h.sets alone beside tt in
+    let is_now : SetsValue profile limit now a value there = (r.later (set a value) c h.sets alone beside tt).0 in
     let longer : IsRunLonger profile limit s edits changes now (set a value) c =
     run_goes_on profile limit s edits changes now (set a value) c r h.sets alone beside tt in
     let still : MakesSet profile limit now e a value there =

@@ -1,17 +1,17 @@
 -- A header makes the same change at the end of the text after an insert added its line.
 --
--- All that the new line says is at the new path or under it (`kinds_stay` of OtherPaths), so of each path with first
--- keys of a header that passes it by the same is said (`lets_come`). The last line is the same, and there is a line
--- with a newline: the new one (`still_closed`). So the header is written as before (HeaderStays).
+-- All that the new line says is at the path of the first new key or under it (`kinds_stay` of OtherPaths), so of each
+-- path with first keys of a header that passes it by the same is said (`lets_come`). The last line is the same, and
+-- there is a line with a newline: the new one (`still_closed`). So the header is written as before (HeaderStays).
 --
 -- Theorems: `table_after_insert`, `element_after_insert`.
-use Rattle.std.proofs.Common.{◌≡◌, ℕ, true, List, [], ◌∷◌, length, take, drop, ap, ◌∙◌}
+use Rattle.std.proofs.Common.{◌≡◌, ℕ, true, List, ◌∷◌, length, take, drop, ap, ◌∙◌}
 use Rattle.std.proofs.Common.{length-append, arith}
 use Rattle.keep_types.specs.declared.leaf.Profile.{Profile}
 use Rattle.keep_syntax.specs.Tree.{Value, Document, keyval, text}
 use Rattle.keep_path.specs.Path.{Part}
 use Rattle.keep_meaning.specs.Meaning.{mentions_in}
-use Rattle.keep_edit_spec.specs.AddedLines.{AddsLine}
+use Rattle.keep_edit_spec.specs.AddedLines.{AddsLine, first_new}
 use Rattle.keep_edit_spec.specs.Edits.{edited_document, insert, name_with, place}
 use Rattle.keep_edit_spec.specs.Laws.{IsEditable, IsLawfulEdit}
 use Rattle.keep_edit_spec.specs.Lines.{is_empty, new_line, newline_of}
@@ -37,10 +37,11 @@ module _ (profile : Profile) (limit : ℕ) (s : Document) (path : List Part) (va
   made : place s (insert path value) ≡ place_of_change c
   made = h.is ∙ ap (λ (e : ℕ). record { start = c.at; end = e; new = c.new }) (omega (arith, h.adds))
 
-  lets_come : (more : List (List ℕ)) → PassesBy more path → LetsCome (mentions_in s) (mentions_in now) more
+  lets_come : (more : List (List ℕ)) → PassesBy more (first_new s path)
+      → LetsCome (mentions_in s) (mentions_in now) more
   lets_come more passes =
       same_lets (mentions_in s) (mentions_in now) more
-      (λ q rest is. kinds_stay profile limit s path value c h q (passes_clear more path q rest passes is))
+      (λ q rest is. kinds_stay profile limit s path value c h q (passes_clear more (first_new s path) q rest passes is))
 
   still_closed : ends_in_newline (text s) ≡ true → ends_in_newline (text now) ≡ true
   still_closed closed =
@@ -51,7 +52,7 @@ module _ (profile : Profile) (limit : ℕ) (s : Document) (path : List Part) (va
         arith,
         ap (λ (d : Document). length d.ended) is,
         length-append (take h.number s.ended)
-            (new_line (newline_of s) (keyval (name_with (h.text ∷ [])) value) ∷ drop h.number s.ended),
+            (new_line (newline_of s) (keyval (name_with (h.text ∷ h.more)) value) ∷ drop h.number s.ended),
       ))
 
 pub table_after_insert : TableAfterInsert

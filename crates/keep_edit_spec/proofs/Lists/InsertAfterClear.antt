@@ -10,7 +10,7 @@ use Rattle.keep_types.specs.declared.leaf.Profile.{Profile}
 use Rattle.keep_syntax.specs.Tree.{Document, Value}
 use Rattle.keep_path.specs.Path.{Part, strip}
 use Rattle.keep_meaning.specs.Meaning.{lines, mentions_in}
-use Rattle.keep_edit_spec.specs.AddedLines.{AddsLine}
+use Rattle.keep_edit_spec.specs.AddedLines.{AddsLine, AddsLineStill}
 use Rattle.keep_edit_spec.specs.Changed.{Changed}
 use Rattle.keep_edit_spec.specs.ClearedLines.{ClearsLine, line_start}
 use Rattle.keep_edit_spec.specs.Edits.{changed_or_same, edited_document, end_of, remove}
@@ -23,6 +23,7 @@ use Rattle.keep_edit_spec.proofs.Lists.ClearedKinds.{InsertAfterClear}
 use Rattle.keep_edit_spec.proofs.Lists.EndsCleared.{end_cleared}
 use Rattle.keep_edit_spec.proofs.Lists.LineCleared as done
 use Rattle.keep_edit_spec.proofs.Lists.LineStarts.{line_moves}
+use Rattle.keep_edit_spec.proofs.Lists.NewHolder.{apart_clear}
 use Rattle.keep_edit_spec.proofs.Lists.OwnLine.{before_length}
 use Rattle.keep_edit_spec.proofs.Lists.Places.{at_is}
 
@@ -62,8 +63,8 @@ module _ (profile : Profile) (limit : ℕ) (s : Document) (path : List Part) (l 
         done.moves profile limit s path l fine h m.at,
       )
 
-  adds_now : strip path other ≡ None → IsBeside l m → newline_of x.to ≡ newline_of s → l.at + l.size ≢ m.at
-      → AddsLine profile limit x.to other more (moved l m)
+  adds_now : strip path other ≡ None → IsBeside l m → newline_of x.to ≡ newline_of s
+      → l.at + l.size ≢ m.at → AddsLineStill profile limit s x.to other more (moved l m)
   adds_now clear side same past =
       adds_again profile limit s path h.number fine h.own h.closed x.to
       (ap mentions_in to_is ∙ done.said_now profile limit s path l fine h) other more m k clear k.number
@@ -73,5 +74,6 @@ pub insert_after_clear : InsertAfterClear
 insert_after_clear profile limit s path l other more m fine h k apart side same past =
     let to : (done.x profile limit s path l fine h).to ≡ edited_document s (remove path) =
     ap (λ (o : Option (Changed Document)). (changed_or_same s o).to) (sym (done.made profile limit s path l fine h)) in
-    subst (λ (t : Document). AddsLine profile limit t other more (moved l m)) to
-    (adds_now profile limit s path l other more m fine h k apart.0 side (ap newline_of to ∙ same) past)
+    let clear : strip path other ≡ None = apart_clear profile limit s other more m k path apart in
+    subst (λ (t : Document). AddsLineStill profile limit s t other more (moved l m)) to
+    (adds_now profile limit s path l other more m fine h k clear side (ap newline_of to ∙ same) past)

@@ -13,7 +13,7 @@ use Rattle.keep_syntax.specs.Tree.{Value, Document, value_depth}
 use Rattle.keep_path.specs.Path.{Part, strip}
 use Rattle.keep_meaning.specs.Meaning.{mentions_in}
 use Rattle.keep_edit_spec.specs.ClearedLines.{line_start}
-use Rattle.keep_edit_spec.specs.AddedLines.{AddsLine}
+use Rattle.keep_edit_spec.specs.AddedLines.{AddsLine, AddsLineStill}
 use Rattle.keep_edit_spec.specs.Laws.{IsEditable}
 use Rattle.keep_edit_spec.specs.Lines.{newline_of}
 use Rattle.keep_edit_spec.specs.Look.{holder}
@@ -23,6 +23,7 @@ use Rattle.keep_edit_spec.proofs.Lists.AddsAgain.{adds_again}
 use Rattle.keep_edit_spec.proofs.Lists.BodyEnds.{later_before, later_from}
 use Rattle.keep_edit_spec.proofs.Lists.EndsWithout.{IsEndNow, end_without}
 use Rattle.keep_edit_spec.proofs.Lists.LineGone as gone
+use Rattle.keep_edit_spec.proofs.Lists.NewHolder.{apart_clear}
 use Rattle.keep_edit_spec.proofs.Lists.Places.{at_is}
 use Rattle.keep_edit_spec.proofs.Lists.RemovedPlaces.{end_is as line_end}
 use Rattle.keep_edit_spec.proofs.Lists.TwoKinds.{InsertAfterRemove}
@@ -99,7 +100,7 @@ module _ (profile : Profile) (limit : ℕ) (s : Document) (path : List Part) (l 
         sym (gone.at_from profile limit s path l fine h j m.at far (m_at ∙ ap (line_start s) (number_from far)))
   ]
 
-  adds_now : newline_of now ≡ newline_of s → AddsLine profile limit now other more (moved l m)
+  adds_now : newline_of now ≡ newline_of s → AddsLineStill profile limit s now other more (moved l m)
   adds_now same =
       adds_again profile limit s path h.number fine h.own h.closed now (gone.said_now profile limit s path l fine h)
       other more m k clear j end_now.ends closed_now l at_now same newline_now
@@ -107,5 +108,6 @@ module _ (profile : Profile) (limit : ℕ) (s : Document) (path : List Part) (l 
 pub insert_after_remove : InsertAfterRemove
 insert_after_remove profile limit s path l other more m fine h k apart beside same past =
     let is = gone.is_now profile limit s path l fine h in
-    subst (λ (d : Document). AddsLine profile limit d other more (moved l m)) (sym is)
-    (adds_now profile limit s path l other more m fine h k apart.0 past (ap newline_of (sym is) ∙ same))
+    let clear : strip path other ≡ None = apart_clear profile limit s other more m k path apart in
+    subst (λ (d : Document). AddsLineStill profile limit s d other more (moved l m)) (sym is)
+    (adds_now profile limit s path l other more m fine h k clear past (ap newline_of (sym is) ∙ same))

@@ -5,11 +5,11 @@
 -- the moved place (StaysBeside).
 --
 -- Theorem: `insert_after_rename`.
-use Rattle.std.proofs.Common.{◌≡◌, List, [], ◌∷◌, sym, ap, subst, ◌∙◌, Option}
+use Rattle.std.proofs.Common.{◌≡◌, List, ◌∷◌, map, sym, ap, subst, ◌∙◌, Option, None}
 use Rattle.keep_syntax.specs.Tree.{Document}
-use Rattle.keep_path.specs.Path.{Part, beside, key}
+use Rattle.keep_path.specs.Path.{Part, beside, key, strip}
 use Rattle.keep_meaning.specs.Meaning.{mentions_in}
-use Rattle.keep_edit_spec.specs.AddedLines.{AddsLine}
+use Rattle.keep_edit_spec.specs.AddedLines.{AddsLineStill}
 use Rattle.keep_edit_spec.specs.Changed.{Changed}
 use Rattle.keep_edit_spec.specs.Edits.{changed_or_same, edited_document, rename}
 use Rattle.keep_edit_spec.specs.Lines.{newline_of}
@@ -18,6 +18,7 @@ use Rattle.keep_edit_spec.proofs.Lists.TwoKinds.{InsertAfterRename}
 use Rattle.keep_edit_spec.specs.TextChanges.{moved}
 use Rattle.keep_edit_spec.proofs.Common.DoneAtValue.{EachOf}
 use Rattle.keep_edit_spec.proofs.Lists.LineStarts.{LinesBegin, rename_lines_begin}
+use Rattle.keep_edit_spec.proofs.Lists.NewHolder.{apart_clear}
 use Rattle.keep_edit_spec.proofs.Lists.RenameAllowed.{kinds_stay}
 use Rattle.keep_edit_spec.proofs.Lists.RenamePlaces.{change_at, placed}
 use Rattle.keep_edit_spec.proofs.Lists.RenamedEnds.{end_renamed}
@@ -37,12 +38,15 @@ insert_after_rename profile limit s path name c other more d fine h g apart apar
     let renamed : IsNodeRenamed path b s x.to =
     subst (IsNodeRenamed path b s) to
     (nodes_renamed profile limit s path name fine.valid fine.obeys h.utf8 h.allowed) in
-    subst (λ (t : Document). AddsLine profile limit t other more (moved c d)) (sym to)
+    let clear : strip path other ≡ None = apart_clear profile limit s other more d g path apart in
+    let clear_new : strip b other ≡ None = apart_clear profile limit s other more d g b apart_new in
+    subst (λ (t : Document). AddsLineStill profile limit s t other more (moved c d)) (sym to)
     (adds_beside profile limit s x c (subst (EachOf (LinesBegin s)) r.is (rename_lines_begin s path name))
     (change_at c x (placed s (rename path name) x c r.is h.is)) h.some other more d g side
     (ap newline_of (sym to) ∙ newline)
     (λ q rest is.
-    kinds_stay path b s x.to renamed q (prefix_clear path other q rest apart.0 is)
-    (prefix_clear b other q rest apart_new.0 is))
-    (end_renamed path b s x.to a r.by_line renamed.clear (prefix_clear path other a (key g.text ∷ []) apart.0 g.one)
-    (prefix_clear b other a (key g.text ∷ []) apart_new.0 g.one)))
+    kinds_stay path b s x.to renamed q (prefix_clear path other q rest clear is)
+    (prefix_clear b other q rest clear_new is))
+    (end_renamed path b s x.to a r.by_line renamed.clear
+    (prefix_clear path other a (map key (g.text ∷ g.more)) clear g.new)
+    (prefix_clear b other a (map key (g.text ∷ g.more)) clear_new g.new)))

@@ -1,13 +1,14 @@
 -- An insert that adds a line adds the same one after a set made its change elsewhere.
 --
--- The set leaves what is said of the other path and its prefixes, and the holder's body ends at the line at which it
--- did (SetLeaves). So the insert adds its line at the moved place (StaysBeside).
+-- The set leaves what is said of the other path and its prefixes, and the holder's body ends at the line at
+-- which it did (SetLeaves). So the insert adds its line at the moved place (StaysBeside).
 --
 -- Theorem: `insert_after_set`.
-use Rattle.std.proofs.Common.{◌≡◌, sym, ap, subst, ◌∙◌, Option}
+use Rattle.std.proofs.Common.{◌≡◌, sym, ap, subst, ◌∙◌, Option, None}
 use Rattle.keep_syntax.specs.Tree.{Document}
+use Rattle.keep_path.specs.Path.{strip}
 use Rattle.keep_meaning.specs.Meaning.{mentions_in}
-use Rattle.keep_edit_spec.specs.AddedLines.{AddsLine}
+use Rattle.keep_edit_spec.specs.AddedLines.{AddsLineStill}
 use Rattle.keep_edit_spec.specs.Changed.{Changed}
 use Rattle.keep_edit_spec.specs.Edits.{changed_or_same, edited_document, set}
 use Rattle.keep_edit_spec.specs.Laws.{IsLawfulEdit}
@@ -19,6 +20,7 @@ use Rattle.keep_edit_spec.proofs.EditLaws.{set_lawful}
 use Rattle.keep_edit_spec.proofs.Common.DoneAtValue.{EachOf}
 use Rattle.keep_edit_spec.proofs.Common.Marks.{rules_of_document}
 use Rattle.keep_edit_spec.proofs.Lists.LineStarts.{LinesBegin, set_lines_begin}
+use Rattle.keep_edit_spec.proofs.Lists.NewHolder.{apart_clear}
 use Rattle.keep_edit_spec.proofs.Lists.RenamePlaces.{change_at, placed}
 use Rattle.keep_edit_spec.proofs.Lists.SetAllowed.{prefix_clear}
 use Rattle.keep_edit_spec.proofs.Lists.SetLeaves.{set_ends, set_kinds}
@@ -31,10 +33,12 @@ insert_after_set profile limit s path value c other more d fine h k apart beside
     let x : Changed Document = law.changed in
     let to : x.to ≡ edited_document s (set path value) =
     ap (λ (o : Option (Changed Document)). (changed_or_same s o).to) (sym law.is) in
-    subst (λ (t : Document). AddsLine profile limit t other more (moved c d)) to
+    let clear : strip path other ≡ None = apart_clear profile limit s other more d k path apart in
+    subst (λ (t : Document). AddsLineStill profile limit s t other more (moved c d)) to
     (adds_beside profile limit s x c (subst (EachOf (LinesBegin s)) law.is (set_lines_begin s path value))
     (change_at c x (placed s (set path value) x c law.is h.is)) h.some other more d k beside
     (ap newline_of to ∙ newline)
     (λ q rest is.
-    set_kinds s path value x (rules_of_document s fine.obeys) law.is q (prefix_clear path other q rest apart.0 is))
+    set_kinds s path value x (rules_of_document s fine.obeys) law.is q
+    (prefix_clear path other q rest clear is))
     (set_ends s path value x law.is (holder other (mentions_in s))))

@@ -14,7 +14,7 @@ use Rattle.keep_types.specs.declared.leaf.Profile.{Profile}
 use Rattle.keep_syntax.specs.Tree.{Value, Line, Document, bom_leaves, text, text_of}
 use Rattle.keep_path.specs.Path.{Part, strip}
 use Rattle.keep_meaning.specs.Meaning.{line_of, mentions_in}
-use Rattle.keep_edit_spec.specs.AddedLines.{AddsLine}
+use Rattle.keep_edit_spec.specs.AddedLines.{AddsLine, AddsLineStill}
 use Rattle.keep_edit_spec.specs.ClearedLines.{line_start}
 use Rattle.keep_edit_spec.specs.Edits.{end_of}
 use Rattle.keep_edit_spec.specs.Laws.{IsEditable}
@@ -26,6 +26,7 @@ use Rattle.keep_edit_spec.specs.TextChanges.{TextChange, moved, moved_by}
 use Rattle.keep_edit_spec.proofs.Lists.AddsAgain.{adds_again}
 use Rattle.keep_edit_spec.proofs.Lists.EndsInPlace.{end_in_place}
 use Rattle.keep_edit_spec.proofs.Lists.LineGone as gone
+use Rattle.keep_edit_spec.proofs.Lists.NewHolder.{apart_clear}
 use Rattle.keep_edit_spec.proofs.Lists.Places.{at_is, width_grows}
 use Rattle.keep_edit_spec.proofs.Lists.RemovedPlaces.{at_is as line_at, before_is, end_is as line_end}
 use Rattle.keep_edit_spec.proofs.Lists.SaidBefore.{EndsSaid, said_before}
@@ -107,7 +108,7 @@ module _ (profile : Profile) (limit : ℕ) (s : Document) (path : List Part) (l 
       sym (gone.at_from profile limit s path l fine h h.number m.at (omega arith)
       (m_at ∙ ap (line_start s) number_is))
 
-  adds_now : newline_of now ≡ newline_of s → AddsLine profile limit now other more (moved l m)
+  adds_now : newline_of now ≡ newline_of s → AddsLineStill profile limit s now other more (moved l m)
   adds_now same =
       adds_again profile limit s path h.number fine h.own h.closed now (gone.said_now profile limit s path l fine h)
       other more m k clear h.number ends_now (gone.number_few profile limit s path l fine h) l at_now same
@@ -116,5 +117,6 @@ module _ (profile : Profile) (limit : ℕ) (s : Document) (path : List Part) (l 
 pub insert_in_place : InsertInPlace
 insert_in_place profile limit s path l other more m fine h k apart same next says =
     let is = gone.is_now profile limit s path l fine h in
-    subst (λ (d : Document). AddsLine profile limit d other more (moved l m)) (sym is)
-    (adds_now profile limit s path l other more m fine h k apart.0 next says (ap newline_of (sym is) ∙ same))
+    let clear : strip path other ≡ None = apart_clear profile limit s other more m k path apart in
+    subst (λ (d : Document). AddsLineStill profile limit s d other more (moved l m)) (sym is)
+    (adds_now profile limit s path l other more m fine h k clear next says (ap newline_of (sym is) ∙ same))

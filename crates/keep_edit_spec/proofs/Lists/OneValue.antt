@@ -5,7 +5,7 @@
 -- outside (`IsAtValue`), or none makes anything. By induction over entries and lines, as the search for the value goes:
 -- each step outwards is `at_framed`; of two lines the first is taken in which there is a value (`first_of`).
 --
--- Theorems: `one_value_at`; `makes_there`: what an act makes of the whole.
+-- Theorems: `one_value_at`; `makes_there`: what an act makes of the whole; `at_end`: at a value itself.
 use Rattle.std.proofs.Common.{◌≡◌, ℕ, ◌+◌, List, [], ◌∷◌, ◌++◌, refl, sym, ap, ap₂, ◌∙◌, append_assoc, Option, Some}
 use Rattle.std.proofs.Common.{None, inl, inr, subst}
 use Rattle.std.specs.Prelude.{◌⊎◌}
@@ -103,7 +103,7 @@ itself (Some c) =
     ap (λ (t : List ℕ). Some (record { to = c.to; before = c.before; old = c.old; new = c.new; after = t }))
     (sym (append-nil c.after))
 
-at_end : (act : Act) (v : Value) → in_value act [] v ≡ act [] v
+pub at_end : (act : Act) (v : Value) → in_value act [] v ≡ act [] v
 at_end act v =
     ap (λ (o : Option (Changed Entries)). or_else (within (λ es. record v { nested = es }) (text_of (opening v.body))
     (text_of (closing v.body)) o) (act [] v)) (no_entry act 0 v.nested)

@@ -1,8 +1,8 @@
 -- The path that was before an element was taken out goes where the path is now: up and then down is the same.
 --
--- Theorems: `raised_goes`, `before_element`: so it is at the path of an element; `element_before`, `apart_before`:
--- which path it was, in the array and elsewhere; `no_number_before`, `before_table`: by the remove of a table no path
--- changes.
+-- Theorems: `raised_goes`, `before_element`: so it is at the path of an element; `element_before`, `stays_below`,
+-- `apart_before`: which path it was, at another element or below it, anywhere in the array, and elsewhere;
+-- `no_number_before`, `before_table`: by the remove of a table no path changes.
 use Rattle.std.proofs.Common.{◌≡◌, ℕ, ◌+◌, Bool, true, false, cond, List, [], ◌∷◌, ◌++◌, refl, sym, ap, ap₂, ◌∙◌}
 use Rattle.std.proofs.Common.{Option, Some, None, inl, inr}
 use Rattle.std.specs.Prelude.{nat_lt}
@@ -70,18 +70,32 @@ pub before_element : (array : List Part) (n : ℕ) (q : List Part)
     → shifted array n (path_before (element_at array n) q) ≡ q
 before_element array n q = ap (shifted array n) (before_is array n q) ∙ raised_goes array n q
 
--- of another element of the array
-pub element_before : (array : List Part) (n m : ℕ)
-    → path_before (array ++ index n ∷ []) (array ++ index m ∷ [])
-    ≡ array ++ index (cond (nat_lt m n) m (m + 1)) ∷ []
-element_before array n m =
-    before_is array n (array ++ index m ∷ [])
-    ∙ ap (raised_by array n (array ++ index m ∷ [])) (strip-append array (index m ∷ [])) ∙ by (nat_lt m n)
+-- of another element of the array, or below it
+pub element_before : (array : List Part) (n m : ℕ) (rest : List Part)
+    → path_before (array ++ index n ∷ []) (array ++ index m ∷ rest)
+    ≡ array ++ index (cond (nat_lt m n) m (m + 1)) ∷ rest
+element_before array n m rest =
+    before_is array n (array ++ index m ∷ rest)
+    ∙ ap (raised_by array n (array ++ index m ∷ rest)) (strip-append array (index m ∷ rest)) ∙ by (nat_lt m n)
   where
     by : (b : Bool)
-        → cond b (array ++ index m ∷ []) (array ++ index (m + 1) ∷ []) ≡ array ++ index (cond b m (m + 1)) ∷ []
+        → cond b (array ++ index m ∷ rest) (array ++ index (m + 1) ∷ rest)
+        ≡ array ++ index (cond b m (m + 1)) ∷ rest
     by true = refl
     by false = refl
+
+-- what is in the array stays there
+pub stays_below : (array : List Part) (n : ℕ) (more : List Part)
+    → (rest : List Part) × (path_before (array ++ index n ∷ []) (array ++ more) ≡ array ++ rest)
+stays_below array n more = by more (before_is array n (array ++ more)
+    ∙ ap (raised_by array n (array ++ more)) (strip-append array more))
+  where
+    by : (more : List Part) → path_before (array ++ index n ∷ []) (array ++ more)
+        ≡ raised_by array n (array ++ more) (Some more)
+        → (rest : List Part) × (path_before (array ++ index n ∷ []) (array ++ more) ≡ array ++ rest)
+    by [] is = ([], is)
+    by (key text ∷ rest) is = (key text ∷ rest, is)
+    by (index m ∷ rest) is = (index (cond (nat_lt m n) m (m + 1)) ∷ rest, element_before array n m rest)
 
 -- of what is not in the array
 pub apart_before : (array : List Part) (n : ℕ) (q : List Part) → strip array q ≡ None

@@ -10,7 +10,7 @@
 -- the newline; `scalar_quiet`: a scalar has no newline in it; `item_none`.
 use Rattle.std.proofs.Common.{◌≡◌, ℕ, zero, suc, ◌+◌, ◌-◌, ◌<◌, ◌≤◌, Bool, true, false, cond, List, [], ◌∷◌, ◌++◌}
 use Rattle.std.proofs.Common.{length, take, drop, refl, sym, ap, subst, ◌∙◌, append_assoc, length-append, arith}
-use Rattle.std.proofs.Common.{Option, Some, None, inl, inr}
+use Rattle.std.proofs.Common.{Option, Some, None, inl, inr, map}
 use Rattle.std.specs.Prelude.{codes, IsTrue, nat_lt, if◌then◌else◌, ◌⊎◌}
 use Rattle.std.specs.List.{AllByRecursion, flat_map}
 use Rattle.std.proofs.lemmas.Bool.{lt-ltb, le-ltb, ltb-true, ltb-false}
@@ -19,26 +19,27 @@ use Rattle.keep_types.specs.declared.leaf.Profile.{Profile}
 use Rattle.keep_types.specs.declared.leaf.Leaf.{Leaf}
 use Rattle.keep_types.specs.declared.leaf.Leaf.TheVariants as leaf
 use Rattle.keep_syntax.specs.Tree.{Written, Value, Line, Ended, Document, keyval, bom_leaves, ended_leaves, leaves}
+use Rattle.keep_syntax.specs.Tree.{further_leaves}
 use Rattle.keep_syntax.specs.Tree.{line_leaves, name_leaves, text_of, token, value_leaves, scalar, Entries, none, entry}
 use Rattle.keep_syntax.specs.Grammar.{IsEnded, IsValue}
-use Rattle.keep_path.specs.Path.{Part, key, last_part}
-use Rattle.keep_path.proofs.Shared.{last_pushed}
+use Rattle.keep_path.specs.Path.{EndsInKey, Part, key, last_part}
 use Rattle.keep_token.specs.Leaves.{is_scalar_leaf}
 use Rattle.keep_token.specs.Encoded.{encoded_key, is_bare_text}
 use Rattle.keep_meaning.specs.Marks.{Mention}
 use Rattle.keep_meaning.specs.Meaning.{mentions_in}
 use Rattle.keep_edit_spec.specs.Changed.{Changed, Place, place_of}
-use Rattle.keep_edit_spec.specs.Edits.{at_line, change, changed_or_same, edited_document, end_of, insert, name_with}
-use Rattle.keep_edit_spec.specs.Edits.{new_keyval, place}
+use Rattle.keep_edit_spec.specs.Edits.{at_line, change, changed_or_same, edited_document, end_of, further_part, insert}
+use Rattle.keep_edit_spec.specs.Edits.{key_part, name_with, new_keyval, place}
 use Rattle.keep_edit_spec.specs.Insertion.{put_in}
 use Rattle.keep_edit_spec.specs.Laws.{IsEditable}
 use Rattle.keep_edit_spec.specs.Lines.{Page, ended_text, first_newline, new_line, newline_of, put_lines}
 use Rattle.keep_edit_spec.specs.Look.{holder, item_number}
+use Rattle.keep_edit_spec.specs.Values.{space}
 use Rattle.keep_edit_spec.proofs.Common.LineEnds.{ended_ends}
 use Rattle.keep_edit_spec.proofs.Common.NewLines.{newline_is}
 use Rattle.keep_edit_spec.proofs.Common.Texts.{text_of-append}
 use Rattle.keep_edit_spec.proofs.Insert.InsertLine.{change_here}
-use Rattle.keep_edit_spec.proofs.Insert.NewPath.{drop_prefix_parts}
+use Rattle.keep_edit_spec.proofs.Insert.NewPath.{drop_prefix_parts, ends_in_key, keys_of_map}
 use Rattle.keep_edit_spec.specs.AddedLines.{AddsLine}
 use Rattle.keep_edit_spec.specs.TextChanges.{TextChange, moved_by}
 
@@ -46,10 +47,12 @@ use Rattle.keep_edit_spec.specs.TextChanges.{TextChange, moved_by}
 abbrev pub later_line : ℕ → ℕ → ℕ
 later_line n i = if nat_lt i n then i else suc i
 
--- a path that ends in a key is of no item
-pub item_none : (path a : List Part) (text : List ℕ) → path ≡ a ++ key text ∷ [] → (ms : List Mention)
-    → item_number path ms ≡ None
-item_none path a text one ms = rw (ap last_part one ∙ last_pushed a (key text), item_number) refl
+-- a path that ends in keys is of no item
+pub item_none : (path a : List Part) (text : List ℕ) (more : List (List ℕ)) → path ≡ a ++ map key (text ∷ more)
+    → (ms : List Mention) → item_number path ms ≡ None
+item_none path a text more new ms =
+    let last : EndsInKey (a ++ map key (text ∷ more)) = ends_in_key a text more in
+    rw (ap last_part new ∙ last.1, item_number) refl
 
 -- ---- lines put in before the last
 
@@ -81,21 +84,22 @@ put_here (suc m) more newline (e ∷ es) last h =
 
 -- ---- what an insert at the end of a body writes
 
-module _ (s : Document) (path : List Part) (value : Value) (text : List ℕ) (n : ℕ)
+module _ (s : Document) (path : List Part) (value : Value) (text : List ℕ) (more : List (List ℕ)) (n : ℕ)
     (no_item : item_number path (mentions_in s) ≡ None)
-    (one : path ≡ holder path (mentions_in s) ++ key text ∷ [])
+    (new : path ≡ holder path (mentions_in s) ++ map key (text ∷ more))
     (ends : end_of s (holder path (mentions_in s)) ≡ Some n) (few : n ≤ length s.ended) where
   abbrev line : Ended
-  line = new_line (newline_of s) (keyval (name_with (text ∷ [])) value)
+  line = new_line (newline_of s) (keyval (name_with (text ∷ more)) value)
 
   here : IsPutHere n (line ∷ []) (newline_of s) s.ended s.last
   here = put_here n (line ∷ []) (newline_of s) s.ended s.last few
 
-  pub changes : change s (insert path value) ≡ at_line s n (keyval (name_with (text ∷ [])) value ∷ [])
+  pub changes : change s (insert path value) ≡ at_line s n (keyval (name_with (text ∷ more)) value ∷ [])
   changes = change_here s path value n no_item ends
       ∙ ap (λ (ps : List Part). at_line s n (new_keyval ps value ∷ []))
-      (ap (drop (length (holder path (mentions_in s)))) one
-      ∙ drop_prefix_parts (holder path (mentions_in s)) (key text ∷ []))
+      (ap (drop (length (holder path (mentions_in s)))) new
+      ∙ drop_prefix_parts (holder path (mentions_in s)) (map key (text ∷ more)))
+      ∙ ap (λ (ks : List (List ℕ)). at_line s n (keyval (name_with ks) value ∷ [])) (keys_of_map (text ∷ more))
 
   abbrev placed : List ℕ → List ℕ → List ℕ → Place
   placed b o w =
@@ -219,13 +223,25 @@ bom_none : (b : Bool) → first_newline (bom_leaves b) ≡ None
 bom_none true = refl
 bom_none false = refl
 
-name_none : (text : List ℕ) → first_newline (name_leaves (name_with (text ∷ []))) ≡ None
-name_none text = by (is_bare_text text)
+key_none : (text : List ℕ) (ws : List Written) → first_newline (key_part text ∷ ws) ≡ first_newline ws
+key_none text ws = by (is_bare_text text)
   where
-    by : (b : Bool) → first_newline (record { leaf = cond b leaf.BareKey leaf.Basic; text = encoded_key text } ∷ [])
-        ≡ None
+    by : (b : Bool)
+        → first_newline (record { leaf = cond b leaf.BareKey leaf.Basic; text = encoded_key text } ∷ ws)
+        ≡ first_newline ws
     by true = refl
     by false = refl
+
+further_none : (ks : List (List ℕ)) (ws : List Written)
+    → first_newline (flat_map further_leaves (map further_part ks) ++ ws) ≡ first_newline ws
+further_none [] ws = refl
+further_none (k ∷ ks) ws =
+    key_none k (flat_map further_leaves (map further_part ks) ++ ws) ∙ further_none ks ws
+
+name_none : (text : List ℕ) (more : List (List ℕ)) → first_newline (name_leaves (name_with (text ∷ more))) ≡ None
+name_none text more =
+    let equals : List Written = space ++ (token leaf.Equals (0x3D ∷ []) ++ space) in
+    key_none text (flat_map further_leaves (map further_part more) ++ equals) ∙ further_none more equals
 
 -- A scalar has none.
 pub scalar_quiet : (profile : Profile) (w : Written) (nested : Entries)
@@ -281,17 +297,17 @@ module _ (profile : Profile) (bom : Bool) (last : Line) (x : Ended) where
 module _ (profile : Profile) (limit : ℕ) (s : Document) (path : List Part) (value : Value) (l : TextChange)
     (h : AddsLine profile limit s path value l) where
   abbrev added : Ended
-  added = new_line (newline_of s) (keyval (name_with (h.text ∷ [])) value)
+  added = new_line (newline_of s) (keyval (name_with (h.text ∷ h.more)) value)
 
   no_item : item_number path (mentions_in s) ≡ None
-  no_item = item_none path (holder path (mentions_in s)) h.text h.one (mentions_in s)
+  no_item = item_none path (holder path (mentions_in s)) h.text h.more h.new (mentions_in s)
 
   pub edited_is : edited_document s (insert path value) ≡ with_line_before h.number added s
-  edited_is = put_is s path value h.text h.number no_item h.one h.ends h.closed
+  edited_is = put_is s path value h.text h.more h.number no_item h.new h.ends h.closed
 
   placed_at : place s (insert path value) ≡ put_in
       (length (text_of (bom_leaves s.bom) ++ ended_text (take h.number s.ended))) (text_of (ended_leaves added))
-  placed_at = place_is s path value h.text h.number no_item h.one h.ends h.closed
+  placed_at = place_is s path value h.text h.more h.number no_item h.new h.ends h.closed
 
   pub at_is : l.at ≡ length (text_of (bom_leaves s.bom)) + width (take h.number s.ended)
   at_is = ap (λ (p : Place). p.start) (sym h.is ∙ placed_at)
@@ -310,8 +326,9 @@ module _ (profile : Profile) (limit : ℕ) (s : Document) (path : List Part) (va
       by : (first_newline (value_leaves value) ≡ None) ⊎ (0 < h.number)
           → (first_newline (line_leaves added.line) ≡ None) ⊎ (0 < h.number)
       by (inl clear) =
-          inl (ap first_newline (append-nil (name_leaves (name_with (h.text ∷ [])) ++ value_leaves value))
-          ∙ none_before (name_leaves (name_with (h.text ∷ []))) (value_leaves value) (name_none h.text) ∙ clear)
+          let name : List Written = name_leaves (name_with (h.text ∷ h.more)) in
+          inl (ap first_newline (append-nil (name ++ value_leaves value))
+          ∙ none_before name (value_leaves value) (name_none h.text h.more) ∙ clear)
       by (inr past) = inr past
 
 module _ (profile : Profile) (limit : ℕ) (s : Document) (path : List Part) (value : Value) (l : TextChange)
@@ -372,9 +389,10 @@ module _ (profile : Profile) (limit : ℕ) (s : Document) (path : List Part) (va
   place_moves same holds ends few =
       let j : ℕ = later_line h.number k.number in
       let line : Written → List ℕ =
-      λ w. text_of (ended_leaves (new_line w (keyval (name_with (k.text ∷ [])) more))) in
-      place_is now other more k.text j (item_none other (holder other (mentions_in s)) k.text k.one (mentions_in now))
-      (k.one ∙ ap (λ (a : List Part). a ++ key k.text ∷ []) (sym holds)) (ap (end_of now) holds ∙ ends) few
+      λ w. text_of (ended_leaves (new_line w (keyval (name_with (k.text ∷ k.more)) more))) in
+      place_is now other more k.text k.more j
+      (item_none other (holder other (mentions_in s)) k.text k.more k.new (mentions_in now))
+      (k.new ∙ ap (λ (a : List Part). a ++ map key (k.text ∷ k.more)) (sym holds)) (ap (end_of now) holds ∙ ends) few
       ∙ ap (λ (d : Document). put_in (length (text_of (bom_leaves d.bom) ++ ended_text (take j d.ended)))
       (line (newline_of now))) (edited_is profile limit s path value l h)
       ∙ ap (λ (w : Written). put_in (length (bom ++ ended_text (before j))) (line w)) same

@@ -22,7 +22,7 @@ use Rattle.keep_edit_spec.specs.Lines.{newline_of}
 use Rattle.keep_edit_spec.specs.AppendedHeaders.{AppendsElement, AppendsTable}
 use Rattle.keep_edit_spec.specs.Runs.{IsBeforeHeaders, IsPlain, IsPlainBefore, IsRun, IsStillPlaced, KeepsPlace}
 use Rattle.keep_edit_spec.specs.Runs.{MakesChange, is_header, is_insert, is_new_after, takes_up_to, ArePlain}
-use Rattle.keep_edit_spec.specs.Runs.{ComesInPlace, LeavesPlace, LetsCome}
+use Rattle.keep_edit_spec.specs.Runs.{ComesInPlace, LeavesPlace, LetsCome, seen}
 use Rattle.keep_edit_spec.specs.TextChanges.{Follow, IsBeside, TextChange, moved_past, text_with, with_change}
 use Rattle.keep_edit_spec.specs.TextChanges.{change_at, moved_by_all}
 use Rattle.keep_edit_spec.proofs.Append.AppendPlace.{append_place}
@@ -156,6 +156,23 @@ none_other : (test : Edit → Bool) (e : Edit) (edits : List Edit) → test e �
 none_other test e edits other all =
     let one : test e ≡ true = All-head (λ x. IsTrue (test x)) e edits all in cc
 
+-- as others see it, an edit is of the same kind
+insert_seen : (s : Document) (e : Edit) → is_insert (seen s e) ≡ is_insert e
+insert_seen s (set path value) = refl
+insert_seen s (insert path value) = refl
+insert_seen s (rename path name) = refl
+insert_seen s (remove path) = refl
+insert_seen s (append_table keys) = refl
+insert_seen s (append_element keys) = refl
+
+header_seen : (s : Document) (e : Edit) → is_header (seen s e) ≡ is_header e
+header_seen s (set path value) = refl
+header_seen s (insert path value) = refl
+header_seen s (rename path name) = refl
+header_seen s (remove path) = refl
+header_seen s (append_table keys) = refl
+header_seen s (append_element keys) = refl
+
 -- of the edits before a new line or header, one at least writes none
 insert_other : (e : Edit) (path : List Part) (value : Value) → IsTrue (is_new_after e (insert path value))
     → is_insert e ≡ false
@@ -231,20 +248,23 @@ pub still_placed : (profile : Profile) (limit : ℕ) (s : Document) (edits : Lis
     → All (λ x. IsBeside x c) changes → All (λ x. IsBeside x d) changes
     → IsBeside c d → IsEditable profile limit (edited_document now e)
     → text (edited_document now e) ≡ text_with 0 (text s) (with_change changes c)
-    → KeepsPlace (text s) (e ∷ edits) (with_change changes c) f d
+    → KeepsPlace (text s) (seen s e ∷ edits) (with_change changes c) f d
     → IsStillPlaced now e (moved_past changes c) f (moved_past changes d)
 still_placed profile limit s edits changes now r e c (insert path value) d h is left right beside fine same k =
     λ new. elim k [
-      | inl all ↦ absurd (none_other is_insert e edits (insert_other e path value new) all)
+      | inl all ↦
+          absurd (none_other is_insert (seen s e) edits (insert_seen s e ∙ insert_other e path value new) all)
       | inr (plain, (lets, before)) ↦ (
         same_newline profile limit s edits changes now r e c fine same plain,
         placed_now profile limit s edits changes now r e c h left path value d right beside lets
-            (not_after (text s) e edits d.at before),
+            (λ head. not_after (text s) (seen s e) edits d.at before (header_seen s e ∙ head)),
       )
     ]
 still_placed profile limit s edits changes now r e c (append_table keys) d h is left right beside fine same k =
     λ new. elim k [
-      | inl all ↦ absurd (none_other is_header e edits (header_other e (append_table keys) refl refl new) all)
+      | inl all ↦
+          let other = header_seen s e ∙ header_other e (append_table keys) refl refl new in
+          absurd (none_other is_header (seen s e) edits other all)
       | inr plain ↦
           let other = header_other e (append_table keys) refl refl new in (
             same_newline profile limit s edits changes now r e c fine same plain.0,
@@ -253,7 +273,9 @@ still_placed profile limit s edits changes now r e c (append_table keys) d h is 
     ]
 still_placed profile limit s edits changes now r e c (append_element keys) d h is left right beside fine same k =
     λ new. elim k [
-      | inl all ↦ absurd (none_other is_header e edits (header_other e (append_element keys) refl refl new) all)
+      | inl all ↦
+          let other = header_seen s e ∙ header_other e (append_element keys) refl refl new in
+          absurd (none_other is_header (seen s e) edits other all)
       | inr plain ↦
           let other = header_other e (append_element keys) refl refl new in (
             same_newline profile limit s edits changes now r e c fine same plain.0,

@@ -1,5 +1,5 @@
--- A remove takes the same line, or leaves its own line with the comment, after an insert that added a line at a path
--- that its own path does not begin with.
+-- A remove takes the same line, or leaves its own line with the comment, after an insert that added a line, if its own
+-- path does not begin with that of the first new key.
 --
 -- The new line leaves the reading as it is, and is the own line of the new path alone (AddedLine). So the line that the
 -- remove takes or clears is still the last own line of its path, a line later if it comes after the new one
@@ -20,7 +20,7 @@ use Rattle.keep_path.specs.Path.{Part, strip}
 use Rattle.keep_meaning.specs.Marks.{marks, start}
 use Rattle.keep_meaning.specs.Meaning.{line_of, lines, mentions_in}
 use Rattle.keep_meaning.specs.Rules.{ObeysRules}
-use Rattle.keep_edit_spec.specs.AddedLines.{AddsLine}
+use Rattle.keep_edit_spec.specs.AddedLines.{AddsLine, first_new}
 use Rattle.keep_edit_spec.specs.Changed.{Changed, Place, put}
 use Rattle.keep_edit_spec.specs.ClearedLines.{ClearsLine, line_start}
 use Rattle.keep_edit_spec.specs.Edits.{clear_line, insert, place, remove}
@@ -35,7 +35,7 @@ use Rattle.keep_edit_spec.proofs.Common.LineTexts.{clear_line-is}
 use Rattle.keep_edit_spec.proofs.Common.Marks.{rules_of_document}
 use Rattle.keep_edit_spec.proofs.Remove.RemoveWhole.{removable}
 use Rattle.keep_edit_spec.proofs.Lists.AddedLine as added
-use Rattle.keep_edit_spec.proofs.Lists.AddedLine.{apart_differs, its, keeps, past_lines, to_is}
+use Rattle.keep_edit_spec.proofs.Lists.AddedLine.{its, keeps, past_lines, path_differs, to_is}
 use Rattle.keep_edit_spec.proofs.Lists.BodyEnds.{later_before, later_from}
 use Rattle.keep_edit_spec.proofs.Lists.ClearStays.{clears_now}
 use Rattle.keep_edit_spec.proofs.Lists.ClearedKinds.{ClearAfterInsert}
@@ -49,7 +49,7 @@ use Rattle.keep_edit_spec.proofs.Lists.SetPlaces.{Stays}
 
 module _ (profile : Profile) (limit : ℕ) (s : Document) (path : List Part) (value : Value) (l : TextChange)
     (other : List Part) (m : TextChange) (fine : IsEditable profile limit s)
-    (h : AddsLine profile limit s path value l) (clear : strip path other ≡ None)
+    (h : AddsLine profile limit s path value l) (clear : strip (first_new s path) other ≡ None)
     (allowed : refusal profile limit s (remove other) ≡ None) (n : ℕ)
     (own : last_line (mine other) start (lines s) ≡ Some n) (closed : n < length s.ended)
     (m_end : m.at + m.size ≡ line_start s (suc n)) where
@@ -93,7 +93,7 @@ module _ (profile : Profile) (limit : ℕ) (s : Document) (path : List Part) (va
       ap (last_line (mine other) start) (lines_here first x rest s.last)
       ∙ last_without (mine other) start before x.line after (keeps profile limit s path value l h)
       (is_other path other (added.r profile limit s path value l h) x.line.content
-      (its profile limit s path value l h) (apart_differs path other clear))
+      (its profile limit s path value l h) (path_differs profile limit s path value l h other clear))
       ∙ ap₂ (λ (i : ℕ) (o : Option ℕ). option_map (later_line i) o) (length-map first line_of ∙ first_long)
       (ap (last_line (mine other) start) (sym lines_were) ∙ own)
 

@@ -1,5 +1,5 @@
--- A rename makes the same change after an insert that added a line at a path that its own path and the path that it
--- leads to do not begin with.
+-- A rename makes the same change after an insert that added a line, if its own path and the path that it leads to do
+-- not begin with that of the first new key.
 --
 -- What is said of these two paths stays (OtherPaths), so the rename is not refused (RenameAllowed). It finds nothing in
 -- the new line, neither a part of its key nor something in its value, so it finds the same key part, at the moved place
@@ -12,7 +12,7 @@ use Rattle.keep_syntax.specs.Tree.{Document, Value, Written}
 use Rattle.keep_path.specs.Path.{Part, beside, strip}
 use Rattle.keep_meaning.specs.Marks.{start}
 use Rattle.keep_meaning.specs.Meaning.{mentions_in}
-use Rattle.keep_edit_spec.specs.AddedLines.{AddsLine}
+use Rattle.keep_edit_spec.specs.AddedLines.{AddsLine, first_new}
 use Rattle.keep_edit_spec.specs.Changed.{Changed}
 use Rattle.keep_edit_spec.specs.Edits.{change, edited_document, insert, key_part, nested, place, rename}
 use Rattle.keep_edit_spec.specs.Laws.{IsEditable, IsLawfulEdit}
@@ -33,7 +33,8 @@ use Rattle.keep_edit_spec.proofs.Rename.RenameWhole.{IsRenamable, renamable}
 module _ (profile : Profile) (limit : ℕ) (s : Document) (path : List Part) (value : Value) (c : TextChange)
     (other : List Part) (text : List ℕ) (d : TextChange) (fine : IsEditable profile limit s)
     (h : AddsLine profile limit s path value c) (k : RenamesKey profile limit s other text d)
-    (clear : strip path other ≡ None) (clear_new : strip path (beside other text) ≡ None) where
+    (clear : strip (first_new s path) other ≡ None)
+    (clear_new : strip (first_new s path) (beside other text) ≡ None) where
   abbrev now : Document
   now = edited_document s (insert path value)
 

@@ -20,8 +20,8 @@ use Rattle.keep_edit_spec.specs.Edits.{Edit, append_element, append_table, edite
 use Rattle.keep_edit_spec.specs.Laws.{IsEditable}
 use Rattle.keep_edit_spec.specs.RenameLists.{AllowsKey, IsRenameIn, RunGoesOnRenamed}
 use Rattle.keep_edit_spec.specs.RenamedKeys.{IsRenamedAgain, RenamesKey}
-use Rattle.keep_edit_spec.specs.RunLists.{AreAtOnce, IsOneOf, MadeEdit, changes_of, document_after, edits_of, made}
-use Rattle.keep_edit_spec.specs.Runs.{IsRun, KeepsPlace, LeavesAlone, MakesChange}
+use Rattle.keep_edit_spec.specs.RunLists.{AreAtOnce, IsOneOf, MadeEdit, changes_of, document_after, made, seen_of}
+use Rattle.keep_edit_spec.specs.Runs.{IsRun, KeepsPlace, LeavesAlone, MakesChange, seen}
 use Rattle.keep_edit_spec.specs.TextChanges.{IsBeside, TextChange, change_at, moved_by_all, moved_past}
 use Rattle.keep_edit_spec.proofs.Lists.RenameTwice.{renames_again, same_places, wrote_key}
 use Rattle.keep_edit_spec.proofs.Lists.RunLists.{ComesLast, beside_rest, each_apart, each_of_others, last_of}
@@ -100,12 +100,14 @@ left_back path text more (append_element keys) k h = h
 
 -- of the edits but one, each leaves that one alone, or is left alone by it
 each_either : (profile : Profile) (limit : ℕ) (s : Document) (m : MadeEdit) (later earlier : List MadeEdit)
-    → AreAtOnce profile limit s (later ++ m ∷ earlier) → All (IsEither m.edit) (edits_of (later ++ earlier))
+    → AreAtOnce profile limit s (later ++ m ∷ earlier)
+    → All (IsEither (seen s m.edit)) (seen_of s (later ++ earlier))
 each_either profile limit s m [] earlier (makes, (alone, more)) =
-    All-weaker (λ f. LeavesAlone f m.edit) (IsEither m.edit) (λ f its. inl its) (edits_of earlier) alone
+    All-weaker (λ f. LeavesAlone f (seen s m.edit)) (IsEither (seen s m.edit)) (λ f its. inl its) (seen_of s earlier)
+    alone
 each_either profile limit s m (x ∷ later) earlier (makes, (alone, (beside, (placed, more)))) =
-    All-cons (IsEither m.edit) x.edit (edits_of (later ++ earlier))
-    (inr (each_apart (λ f. LeavesAlone f x.edit) m later earlier alone).0)
+    All-cons (IsEither (seen s m.edit)) (seen s x.edit) (seen_of s (later ++ earlier))
+    (inr (each_apart s (λ f. LeavesAlone f (seen s x.edit)) m later earlier alone).0)
     (each_either profile limit s m later earlier more)
 
 all_both : (P Q R : Edit → Type 0) → ((f : Edit) → P f → Q f → R f) → (fs : List Edit) → All P fs → All Q fs
@@ -120,7 +122,7 @@ all_both P Q R by (f ∷ fs) hs ks =
 module _ (profile : Profile) (limit : ℕ) (s : Document) (ms rest : List MadeEdit) (path : List Part) (text : List ℕ)
     (c : TextChange) (more : List ℕ) (d : TextChange) (fine : IsEditable profile limit s)
     (h : AreAtOnce profile limit s ms) (one : IsOneOf (made (rename path text) c) ms rest)
-    (allow : All (AllowsKey path more) (edits_of ms)) (makes : RenamesKey profile limit s path more d) where
+    (allow : All (AllowsKey path more) (seen_of s ms)) (makes : RenamesKey profile limit s path more d) where
   abbrev e : Edit
   e = rename path text
 
@@ -133,23 +135,23 @@ module _ (profile : Profile) (limit : ℕ) (s : Document) (ms rest : List MadeEd
   any_place : (edits : List Edit) (changes : List TextChange) → KeepsPlace (tree.text s) edits changes e c
   any_place edits changes = tt
 
-  alone_rest : All (λ g. LeavesAlone g f) (edits_of rest)
+  alone_rest : All (λ g. LeavesAlone g f) (seen_of s rest)
   alone_rest =
-      all_both (IsEither e) (AllowsKey path more) (λ g. LeavesAlone g f) (alone_new path text more) (edits_of rest)
-      (subst (λ (l : List MadeEdit). All (IsEither e) (edits_of l)) (sym one.others)
+      all_both (IsEither e) (AllowsKey path more) (λ g. LeavesAlone g f) (alone_new path text more) (seen_of s rest)
+      (subst (λ (l : List MadeEdit). All (IsEither e) (seen_of s l)) (sym one.others)
       (each_either profile limit s (made e c) one.later one.earlier (subst (AreAtOnce profile limit s) one.all h)))
-      (each_of_others (AllowsKey path more) (made e c) ms rest one allow).1
+      (each_of_others s (AllowsKey path more) (made e c) ms rest one allow).1
 
   k : ComesLast profile limit s e c some_bytes any_place ms rest
   k =
       last_of profile limit s e c some_bytes any_place ms rest one
       (All-weaker (λ g. LeavesAlone g f) (λ g. LeavesAlone e g → LeavesAlone g e) (left_back path text more)
-      (edits_of rest) alone_rest) h
+      (seen_of s rest) alone_rest) h
 
   places : (d.at ≡ c.at) × (d.size ≡ c.size)
   places = same_places profile limit s path text c more d fine k.last.0 makes
 
-  before : IsRun profile limit s (edits_of rest) (changes_of rest) (document_after s rest)
+  before : IsRun profile limit s (seen_of s rest) (changes_of rest) (document_after s rest)
   before = run_before profile limit s e c some_bytes any_place ms rest fine k
 
   beside_others : All (λ x. IsBeside x d) (changes_of rest)
@@ -169,7 +171,7 @@ module _ (profile : Profile) (limit : ℕ) (s : Document) (ms rest : List MadeEd
       renames_again profile limit (document_after s rest) path text (moved_past (changes_of rest) c) more
       (moved_past (changes_of rest) d) before.editable
       (moves_past profile limit s e c some_bytes any_place ms rest fine k)
-      (before.later f d makes alone_rest beside_others tt)
+      (before.later f d makes alone_rest beside_others tt).0
 
   renames : (text ≡ more → ⊥) → RenamesKey profile limit (document_after s ms) (beside path text) more
       (change_at (moved_by_all (changes_of rest) d.at) (length c.new) d.new)

@@ -3,17 +3,19 @@
 -- What `later` says of one edit is that of the first document, where the changes move its own. So the edit is not
 -- refused; by the law of its kind the document after it is editable, and its text has the change put in there
 -- (`text_with_one`). An edit that it leaves alone, and that makes a change beside it, makes it still (StillMakes),
--- moved once more (`moved_with`). Bytes that no change touches move alike (`rest_stays`). A new line or header keeps
--- its place (PlacesKept), and kept it before that edit (PlacesBefore).
+-- moved once more (`moved_with`). Both are seen after the run as they were seen before it. Bytes that no change touches
+-- move alike (`rest_stays`). A new line or header keeps its place (PlacesKept), and kept it before that edit
+-- (PlacesBefore).
 --
 -- Theorems: `none_is_run`, `run_goes_on`.
-use Rattle.std.proofs.Common.{◌≡◌, ℕ, List, [], ◌∷◌, refl, sym, ap, subst, ◌∙◌, arith, All, take, drop, ap₂, ◌+◌}
+use Rattle.std.proofs.Common.{◌≡◌, ℕ, List, [], ◌∷◌, refl, sym, ap, subst, subst₂, ◌∙◌, arith, All, take, drop, ap₂}
+use Rattle.std.proofs.Common.{◌+◌}
 use Rattle.std.proofs.lemmas.List.Elements.{All-head, All-tail}
 use Rattle.keep_syntax.specs.Tree.{text}
 use Rattle.keep_edit_spec.specs.Changed.{put}
-use Rattle.keep_edit_spec.specs.Edits.{edited_document}
+use Rattle.keep_edit_spec.specs.Edits.{Edit, edited_document}
 use Rattle.keep_edit_spec.specs.Laws.{IsEditable, IsLawfulEdit}
-use Rattle.keep_edit_spec.specs.Runs.{IsOfPlace, LeavesAlone, MakesChange, NoneIsRun, RunGoesOn}
+use Rattle.keep_edit_spec.specs.Runs.{IsOfPlace, LeavesAlone, MakesChange, NoneIsRun, RunGoesOn, seen}
 use Rattle.keep_edit_spec.specs.TextChanges.{IsBeside, moved_by_all, moved_past, place_of_change, text_with}
 use Rattle.keep_edit_spec.specs.TextChanges.{with_change, TextChange, moved_by}
 use Rattle.keep_edit_spec.proofs.EditLaws.{change_put}
@@ -35,16 +37,18 @@ none_is_run profile limit s editable = record {
   follow = tt;
   text = refl;
   kept = λ z beside few. ap (λ (at : ℕ). take z.size (drop at (text s))) (omega arith);
-  later = λ e c makes alone beside placed.
-      subst (λ (at : ℕ). MakesChange profile limit s e (record c { at = at }))
-      (let same : c.at ≡ moved_by_all [] c.at = omega arith in same) makes;
+  later = λ e c makes alone beside placed. (
+    subst (λ (at : ℕ). MakesChange profile limit s e (record c { at = at }))
+        (let same : c.at ≡ moved_by_all [] c.at = omega arith in same) makes,
+    refl,
+  );
 }
 
 -- ---- one more
 
 pub run_goes_on : RunGoesOn
 run_goes_on profile limit s edits changes now e c r makes alone beside placed =
-    let is_now : MakesChange profile limit now e (moved_past changes c) = r.later e c makes alone beside placed in
+    let (is_now, seen_now) = r.later e c makes alone beside placed in
     let is : IsOfPlace now e (moved_past changes c) =
     change_is_there profile limit now e (moved_past changes c) r.editable is_now in
     let lawful : IsLawfulEdit profile limit now e =
@@ -80,14 +84,21 @@ run_goes_on profile limit s edits changes now e c r makes alone beside placed =
         later = λ f d makes' alone' beside' placed'.
             let others : All (λ x. IsBeside x d) changes = rest_of_all (λ x. IsBeside x d) changes c beside' in
             let one : IsBeside c d = one_of_all (λ x. IsBeside x d) changes c beside' in
-            subst (MakesChange profile limit (edited_document now e) f)
-            (sym (moved_with changes c d r.follow beside others one))
-            (still_makes profile limit now e (moved_past changes c) f (moved_past changes d) r.editable is_now
-            (r.later f d makes' (All-tail (λ x. LeavesAlone x f) e edits alone') others
-            (placed_before (text s) (e ∷ edits) edits (λ P. All-tail P e edits) changes c f d placed'))
-            (All-head (λ x. LeavesAlone x f) e edits alone')
-            (beside_past changes c d r.follow beside others one)
+            let (makes_now, seen_there) =
+            r.later f d makes' (All-tail (λ x. LeavesAlone x (seen s f)) (seen s e) edits alone') others
+            (placed_before (text s) (seen s e ∷ edits) edits (λ P. All-tail P (seen s e) edits) changes c f d
+            placed') in
+            let left : LeavesAlone (seen now e) (seen now f) =
+            subst₂ (λ (a b : Edit). LeavesAlone a b) (sym seen_now) (sym seen_there)
+            (All-head (λ x. LeavesAlone x (seen s f)) (seen s e) edits alone') in
+            let (still, same) =
+            still_makes profile limit now e (moved_past changes c) f (moved_past changes d) r.editable is_now makes_now
+            left (beside_past changes c d r.follow beside others one)
             (still_placed profile limit s edits changes now r e c f d makes is_now beside others one fine text_is
-            placed'));
+            placed') in (
+              subst (MakesChange profile limit (edited_document now e) f)
+                  (sym (moved_with changes c d r.follow beside others one)) still,
+              same ∙ seen_there,
+            );
       };
     }

@@ -18,8 +18,8 @@ use Rattle.keep_path.specs.Path.{Part}
 use Rattle.keep_edit_spec.specs.Edits.{Edit, append_element, append_table, edited_document, insert, remove, rename, set}
 use Rattle.keep_edit_spec.specs.Laws.{IsEditable}
 use Rattle.keep_edit_spec.specs.RunLists.{AreAtOnce, IsOneOf, IsSetIn, MadeEdit, RunGoesOnAgain}
-use Rattle.keep_edit_spec.specs.RunLists.{RunIsKnown, changes_of, document_after, edits_of, made}
-use Rattle.keep_edit_spec.specs.Runs.{IsRun, KeepsPlace, LeavesAlone, MakesChange}
+use Rattle.keep_edit_spec.specs.RunLists.{RunIsKnown, changes_of, document_after, made, seen_of}
+use Rattle.keep_edit_spec.specs.Runs.{IsRun, KeepsPlace, LeavesAlone, MakesChange, seen}
 use Rattle.keep_edit_spec.specs.SetValues.{IsSetAgain, SetsValue}
 use Rattle.keep_edit_spec.specs.TextChanges.{IsBeside, TextChange, change_at, moved_by_all, moved_past, text_with}
 use Rattle.keep_edit_spec.specs.TextChanges.{with_change}
@@ -34,7 +34,7 @@ use Rattle.keep_edit_spec.proofs.Lists.TextChanges.{all_with, one_of_all, rest_o
 pub run_is_known : RunIsKnown
 run_is_known profile limit s [] fine h = none_is_run profile limit s fine
 run_is_known profile limit s (m ∷ ms) fine (makes, (alone, (beside, (placed, others)))) =
-    (run_goes_on profile limit s (edits_of ms) (changes_of ms) (document_after s ms) m.edit m.change
+    (run_goes_on profile limit s (seen_of s ms) (changes_of ms) (document_after s ms) m.edit m.change
     (run_is_known profile limit s ms fine others) makes alone beside placed).run
 
 -- ---- one of them
@@ -68,25 +68,25 @@ has_set path (m ∷ ms) (inr h) =
       };
     }
 
-pub each_apart : (P : Edit → Type 0) (m : MadeEdit) (later earlier : List MadeEdit)
-    → All P (edits_of (later ++ m ∷ earlier)) → P m.edit × All P (edits_of (later ++ earlier))
-each_apart P m [] earlier h =
-    (All-head P m.edit (edits_of earlier) h, All-tail P m.edit (edits_of earlier) h)
-each_apart P m (x ∷ later) earlier h =
+pub each_apart : (s : Document) (P : Edit → Type 0) (m : MadeEdit) (later earlier : List MadeEdit)
+    → All P (seen_of s (later ++ m ∷ earlier)) → P (seen s m.edit) × All P (seen_of s (later ++ earlier))
+each_apart s P m [] earlier h =
+    (All-head P (seen s m.edit) (seen_of s earlier) h, All-tail P (seen s m.edit) (seen_of s earlier) h)
+each_apart s P m (x ∷ later) earlier h =
     let (one, rest) =
-    each_apart P m later earlier (All-tail P x.edit (edits_of (later ++ m ∷ earlier)) h) in (
+    each_apart s P m later earlier (All-tail P (seen s x.edit) (seen_of s (later ++ m ∷ earlier)) h) in (
       one,
-      All-cons P x.edit (edits_of (later ++ earlier))
-          (All-head P x.edit (edits_of (later ++ m ∷ earlier)) h) rest,
+      All-cons P (seen s x.edit) (seen_of s (later ++ earlier))
+          (All-head P (seen s x.edit) (seen_of s (later ++ m ∷ earlier)) h) rest,
     )
 
 -- What holds of all holds of that one, and of the others.
-pub each_of_others : (P : Edit → Type 0) (m : MadeEdit) (ms rest : List MadeEdit) → IsOneOf m ms rest
-    → All P (edits_of ms) → P m.edit × All P (edits_of rest)
-each_of_others P m ms rest one h =
+pub each_of_others : (s : Document) (P : Edit → Type 0) (m : MadeEdit) (ms rest : List MadeEdit) → IsOneOf m ms rest
+    → All P (seen_of s ms) → P (seen s m.edit) × All P (seen_of s rest)
+each_of_others s P m ms rest one h =
     let (this, more) =
-    each_apart P m one.later one.earlier (subst (λ (l : List MadeEdit). All P (edits_of l)) one.all h) in
-    (this, subst (λ (l : List MadeEdit). All P (edits_of l)) (sym one.others) more)
+    each_apart s P m one.later one.earlier (subst (λ (l : List MadeEdit). All P (seen_of s l)) one.all h) in
+    (this, subst (λ (l : List MadeEdit). All P (seen_of s l)) (sym one.others) more)
 
 all_hold : (P : Edit → Type 0) → ((e : Edit) → P e) → (es : List Edit) → All P es
 all_hold P holds [] = All-nil P
@@ -128,6 +128,10 @@ module _ (profile : Profile) (limit : ℕ) (s : Document) (e : Edit) (c : TextCh
   abbrev one : MadeEdit
   one = made e c
 
+  -- as others see it
+  abbrev own : Edit
+  own = seen s e
+
   -- that edit after the others
   pub record ComesLast (ms rest : List MadeEdit) : Type 0 where
     pub changes : changes_of ms ≡ with_change (changes_of rest) c
@@ -135,7 +139,7 @@ module _ (profile : Profile) (limit : ℕ) (s : Document) (e : Edit) (c : TextCh
 
   -- what it leaves alone leaves it alone
   abbrev pub AreLeftBack : List MadeEdit → Type 0
-  AreLeftBack rest = All (λ f. LeavesAlone e f → LeavesAlone f e) (edits_of rest)
+  AreLeftBack rest = All (λ f. LeavesAlone own f → LeavesAlone f own) (seen_of s rest)
 
   comes_last : (later earlier : List MadeEdit) → AreLeftBack (later ++ earlier)
       → AreAtOnce profile limit s (later ++ one ∷ earlier) → ComesLast (later ++ one ∷ earlier) (later ++ earlier)
@@ -145,30 +149,31 @@ module _ (profile : Profile) (limit : ℕ) (s : Document) (e : Edit) (c : TextCh
       let rest : List MadeEdit = later ++ earlier in
       let before : ComesLast ms rest =
       comes_last later earlier
-      (All-tail (λ f. LeavesAlone e f → LeavesAlone f e) m.edit (edits_of rest) alone_back) others in
+      (All-tail (λ f. LeavesAlone own f → LeavesAlone f own) (seen s m.edit) (seen_of s rest) alone_back) others in
       let (its, (left, (apart, (place, more)))) = before.last in
-      let both = each_apart (λ f. LeavesAlone f m.edit) one later earlier alone in
+      let both = each_apart s (λ f. LeavesAlone f (seen s m.edit)) one later earlier alone in
       let aside : All (λ x. IsBeside x m.change) (with_change (changes_of rest) c) =
       subst (All (λ x. IsBeside x m.change)) before.changes beside in
       let back =
       beside_back c m.change (some its) (one_of_all (λ x. IsBeside x m.change) (changes_of rest) c aside) in
       let beside_rest : All (λ x. IsBeside x m.change) (changes_of rest) =
       rest_of_all (λ x. IsBeside x m.change) (changes_of rest) c aside in
-      let placed_rest : KeepsPlace (text s) (edits_of rest) (changes_of rest) m.edit m.change =
-      placed_before (text s) (edits_of ms) (edits_of rest) (λ P h. (each_apart P one later earlier h).1)
+      let placed_rest : KeepsPlace (text s) (seen_of s rest) (changes_of rest) m.edit m.change =
+      placed_before (text s) (seen_of s ms) (seen_of s rest) (λ P h. (each_apart s P one later earlier h).1)
       (changes_of rest) c m.edit m.change
-      (subst (λ (l : List TextChange). KeepsPlace (text s) (edits_of ms) l m.edit m.change) before.changes placed) in
+      (subst (λ (l : List TextChange). KeepsPlace (text s) (seen_of s ms) l m.edit m.change) before.changes placed) in
       let without : AreAtOnce profile limit s (m ∷ rest) =
       (makes, (both.1, (beside_rest, (placed_rest, more)))) in
-      let alone_last : All (λ f. LeavesAlone f e) (edits_of (m ∷ rest)) =
-      All-cons (λ f. LeavesAlone f e) m.edit (edits_of rest)
-      (All-head (λ f. LeavesAlone e f → LeavesAlone f e) m.edit (edits_of rest) alone_back both.0) left in
+      let alone_last : All (λ f. LeavesAlone f own) (seen_of s (m ∷ rest)) =
+      All-cons (λ f. LeavesAlone f own) (seen s m.edit) (seen_of s rest)
+      (All-head (λ f. LeavesAlone own f → LeavesAlone f own) (seen s m.edit) (seen_of s rest) alone_back both.0)
+      left in
       let beside_last : All (λ x. IsBeside x c) (changes_of (m ∷ rest)) =
       all_with (λ x. IsBeside x c) (changes_of rest) m.change apart back.0 in
       record {
         changes = ap (λ (l : List TextChange). with_change l m.change) before.changes
             ∙ with_both (changes_of rest) c m.change back.1;
-        last = (its, (alone_last, (beside_last, (kept (edits_of (m ∷ rest)) (changes_of (m ∷ rest)), without))));
+        last = (its, (alone_last, (beside_last, (kept (seen_of s (m ∷ rest)) (changes_of (m ∷ rest)), without))));
       }
 
   pub last_of : (ms rest : List MadeEdit) → IsOneOf one ms rest → AreLeftBack rest → AreAtOnce profile limit s ms
@@ -182,15 +187,15 @@ module _ (profile : Profile) (limit : ℕ) (s : Document) (e : Edit) (c : TextCh
     pub others : AreAtOnce profile limit s rest
     others = k.last.1.1.1.1
 
-    pub run_before : IsRun profile limit s (edits_of rest) (changes_of rest) (document_after s rest)
+    pub run_before : IsRun profile limit s (seen_of s rest) (changes_of rest) (document_after s rest)
     run_before = run_is_known profile limit s rest fine others
 
     pub same_document : AreAtOnce profile limit s ms
         → document_after s ms ≡ edited_document (document_after s rest) e
     same_document h =
-        let run : IsRun profile limit s (edits_of ms) (changes_of ms) (document_after s ms) =
+        let run : IsRun profile limit s (seen_of s ms) (changes_of ms) (document_after s ms) =
         run_is_known profile limit s ms fine h in
-        let last : IsRun profile limit s (e ∷ edits_of rest) (with_change (changes_of rest) c)
+        let last : IsRun profile limit s (own ∷ seen_of s rest) (with_change (changes_of rest) c)
         (edited_document (document_after s rest) e) =
         run_is_known profile limit s (one ∷ rest) fine k.last in
         one_document profile (document_after s ms) (edited_document (document_after s rest) e)
@@ -200,7 +205,7 @@ module _ (profile : Profile) (limit : ℕ) (s : Document) (e : Edit) (c : TextCh
     -- where they make their changes still after the others
     pub moves_past : MakesChange profile limit (document_after s rest) e (moved_past (changes_of rest) c)
     moves_past =
-        run_before.later e c k.last.0 k.last.1.0 k.last.1.1.0 (kept (edits_of rest) (changes_of rest))
+        (run_before.later e c k.last.0 k.last.1.0 k.last.1.1.0 (kept (seen_of s rest) (changes_of rest))).0
 
     -- a change of the same bytes
     pub beside_rest : (d : TextChange) → c.at ≡ d.at → c.size ≡ d.size → All (λ x. IsBeside x d) (changes_of rest)
@@ -226,21 +231,21 @@ module _ (profile : Profile) (limit : ℕ) (s : Document) (path : List Part) (va
   set_last : (ms rest : List MadeEdit) → IsOneOf (made e c) ms rest → AreAtOnce profile limit s ms → SetLast ms rest
   set_last ms rest is =
       last_of profile limit s e c some_bytes any_place ms rest is
-      (all_hold (λ f. LeavesAlone e f → LeavesAlone f e) (alone_back path value) (edits_of rest))
+      (all_hold (λ f. LeavesAlone e f → LeavesAlone f e) (alone_back path value) (seen_of s rest))
 
   module _ (ms rest : List MadeEdit) (fine : IsEditable profile limit s) (k : SetLast ms rest) (more : Value)
       (d : TextChange) (makes : SetsValue profile limit s path more d) (at : c.at ≡ d.at) (size : c.size ≡ d.size)
     where
-      before : IsRun profile limit s (edits_of rest) (changes_of rest) (document_after s rest)
+      before : IsRun profile limit s (seen_of s rest) (changes_of rest) (document_after s rest)
       before = run_before profile limit s e c some_bytes any_place ms rest fine k
 
       beside_set : All (λ x. IsBeside x d) (changes_of rest)
       beside_set = beside_rest profile limit s e c some_bytes any_place ms rest fine k d at size
 
-      alone_rest : All (λ f. LeavesAlone f (set path more)) (edits_of rest)
+      alone_rest : All (λ f. LeavesAlone f (set path more)) (seen_of s rest)
       alone_rest =
           All-weaker (λ f. LeavesAlone f e) (λ f. LeavesAlone f (set path more)) (alone_again path value more)
-          (edits_of rest) k.last.1.0
+          (seen_of s rest) k.last.1.0
 
       still_at_once : AreAtOnce profile limit s (made (set path more) d ∷ rest)
       still_at_once =
@@ -252,7 +257,7 @@ module _ (profile : Profile) (limit : ℕ) (s : Document) (path : List Part) (va
           sets_again profile limit (document_after s rest) path value (moved_past (changes_of rest) c) more
           (moved_past (changes_of rest) d) before.editable
           (moves_past profile limit s e c some_bytes any_place ms rest fine k)
-          (before.later (set path more) d makes alone_rest beside_set tt)
+          (before.later (set path more) d makes alone_rest beside_set tt).0
 
 pub run_goes_on_again : RunGoesOnAgain
 run_goes_on_again profile limit s ms path more d fine h there makes =

@@ -1,4 +1,4 @@
--- The holder of an insert of one key, and its refusal, by what is said of its path and of the prefixes of that.
+-- The holder of an insert of new keys, and its refusal, by what is said of its path and of the prefixes of that.
 --
 -- The holder is the longest proper prefix that names a node, which is known by what is said of it (`node_same`). An
 -- insert of a path that ends in a key is refused by its holder, and by whether that is a table, whether the path is a
@@ -6,6 +6,7 @@
 --
 -- Theorems: `holder_same`, `refusal_same`; `refused_alike`, `enclosing_same`: where less is known; `node_kinds`.
 use Rattle.std.proofs.Common.{◌≡◌, ℕ, ◌+◌, Bool, true, false, not, cond, ◌&&◌, ◌||◌, nat_lt, List, [], ◌∷◌, ◌++◌}
+use Rattle.std.proofs.Common.{map}
 use Rattle.std.proofs.Common.{length, drop, refl, sym, ap, ap₂, ◌∙◌, Option, Some, None}
 use Rattle.std.specs.List.{filter_map, list_any}
 use Rattle.std.proofs.lemmas.List.{append-nil}
@@ -39,7 +40,7 @@ last_same t u (p ∷ ps) h =
 
 -- ---- what is said of a path tells whether it is a node
 
-any_kinds : (q : List Part) (ms : List Mention)
+pub any_kinds : (q : List Part) (ms : List Mention)
     → list_any (is_at q) ms ≡ list_any (λ (k : MentionKind). true) (kinds_at q ms)
 any_kinds q [] = refl
 any_kinds q (m ∷ ms) = by (is_at q m) refl (any_kinds q ms)
@@ -67,7 +68,7 @@ module _ (was now : List Mention) (path : List Part) where
   enclosing_same same =
       count_same (is_bracket_at now) (is_bracket_at was) path (λ q k qs is. ap bracket_of (same q (k ∷ qs) is))
 
-  module _ (text : List ℕ) (one : path ≡ holder path was ++ key text ∷ []) where
+  module _ (text : List ℕ) (more : List (List ℕ)) (new : path ≡ holder path was ++ map key (text ∷ more)) where
     module _ (profile : Profile) (limit : ℕ) (value : Value) where
       abbrev tests : List Part → Bool → Bool → ℕ → Option EditFault
       tests a node table deep = first_that_holds (
@@ -79,7 +80,7 @@ module _ (was now : List Mention) (path : List Part) where
 
       refused_by : (ms : List Mention) → refusal_by profile limit ms (insert path value)
           ≡ tests (holder path ms) (is_node path ms) (is_table (holder path ms) ms) (enclosing path ms)
-      refused_by ms = rw (item_none path (holder path was) text one ms, refusal_by) refl
+      refused_by ms = rw (item_none path (holder path was) text more new ms, refusal_by) refl
 
       pub refused_alike : holder path now ≡ holder path was → is_node path now ≡ is_node path was
           → is_table (holder path now) now ≡ is_table (holder path was) was → enclosing path now ≡ enclosing path was
@@ -107,7 +108,7 @@ module _ (was now : List Mention) (path : List Part) where
           ap (λ (a : List Part). is_table a now) holder_same
           ∙ ap (λ (kinds : List MentionKind).
           is_table_fact (first_of (filter_map fact_of kinds)) && not (list_any is_element kinds))
-          (same (holder path was) (key text ∷ []) one)
+          (same (holder path was) (map key (text ∷ more)) new)
 
       pub refusal_same : (profile : Profile) (limit : ℕ) (value : Value)
           → refusal_by profile limit now (insert path value) ≡ refusal_by profile limit was (insert path value)

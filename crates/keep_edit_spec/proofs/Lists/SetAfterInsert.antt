@@ -1,4 +1,5 @@
--- A set makes the same change after an insert that added a line at a path that its own path does not begin with.
+-- A set makes the same change after an insert that added a line, if its own path does not begin with that of the first
+-- new key.
 --
 -- What is said of the set's path and of its prefixes stays (OtherPaths), so the set is not refused (SetAllowed).
 -- It finds nothing in the new line, so it finds the same value, at the moved place (AddedLine).
@@ -12,7 +13,7 @@ use Rattle.keep_path.specs.Path.{Part, strip}
 use Rattle.keep_meaning.specs.Marks.{MentionKind, fact_of}
 use Rattle.keep_meaning.specs.Meaning.{mentions_in}
 use Rattle.keep_meaning.specs.Nodes.{fact_at, first_of}
-use Rattle.keep_edit_spec.specs.AddedLines.{AddsLine}
+use Rattle.keep_edit_spec.specs.AddedLines.{AddsLine, first_new}
 use Rattle.keep_edit_spec.specs.Edits.{edited_document, insert, place, set}
 use Rattle.keep_edit_spec.specs.Laws.{IsEditable, IsLawfulEdit}
 use Rattle.keep_edit_spec.proofs.Lists.TwoKinds.{SetAfterInsert}
@@ -30,11 +31,12 @@ use Rattle.keep_edit_spec.proofs.Lists.SetPlaces.{still_place}
 module _ (profile : Profile) (limit : ℕ) (s : Document) (path : List Part) (value : Value) (c : TextChange)
     (other : List Part) (more : Value) (d : TextChange) (fine : IsEditable profile limit s)
     (h : AddsLine profile limit s path value c) (k : SetsValue profile limit s other more d)
-    (clear : strip path other ≡ None) where
+    (clear : strip (first_new s path) other ≡ None) where
   abbrev now : Document
   now = edited_document s (insert path value)
 
-  fact_stays : (q : List Part) → strip path q ≡ None → fact_at q (mentions_in now) ≡ fact_at q (mentions_in s)
+  fact_stays : (q : List Part) → strip (first_new s path) q ≡ None
+      → fact_at q (mentions_in now) ≡ fact_at q (mentions_in s)
   fact_stays q e =
       ap (λ (kinds : List MentionKind). first_of (filter_map fact_of kinds))
       (kinds_stay profile limit s path value c h q e)
@@ -42,7 +44,7 @@ module _ (profile : Profile) (limit : ℕ) (s : Document) (path : List Part) (va
   allowed_now : refusal profile limit now (set other more) ≡ None
   allowed_now =
       facts_kept profile limit other more (mentions_in s) (mentions_in now)
-      (λ q rest is. fact_stays q (prefix_clear path other q rest clear is)) k.allowed
+      (λ q rest is. fact_stays q (prefix_clear (first_new s path) other q rest clear is)) k.allowed
 
   law : IsLawfulEdit profile limit s (set other more)
   law = set_lawful profile limit s other more fine k.given k.allowed

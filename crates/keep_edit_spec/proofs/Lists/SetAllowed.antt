@@ -6,8 +6,8 @@
 -- facts of the old one at each path that does not begin with the one that was set (`fact_stays`). The other path does
 -- not, so none of its prefixes does (`prefix_clear`).
 --
--- Theorems: `prefix_clear`; `set_kept`, `facts_kept`: where what a set asks, or where the facts stay; `fact_stays`: a
--- fact that a set leaves; `set_allowed`: after another set.
+-- Theorems: `prefix_clear`; `unrefused`; `set_kept`, `facts_kept`: where what a set asks, or where the facts stay;
+-- `fact_stays`: a fact that a set leaves; `set_allowed`: after another set.
 use Rattle.std.proofs.Common.{◌≡◌, ℕ, ◌+◌, Bool, true, false, not, List, [], ◌∷◌, ◌++◌, refl, sym, ap, subst, ◌∙◌}
 use Rattle.std.proofs.Common.{append_assoc, arith, Option, Some, None, inl, inr}
 use Rattle.std.specs.List.{list_any}
@@ -39,7 +39,7 @@ use Rattle.keep_edit_spec.proofs.Set.SetIsLawful.{IsSettable, settable}
 
 -- ---- what is not refused
 
-unrefused : (profile : Profile) (limit : ℕ) (path : List Part) (new : Value) (ms : List Mention)
+pub unrefused : (profile : Profile) (limit : ℕ) (path : List Part) (new : Value) (ms : List Mention)
     → IsSettable profile limit path new ms → refusal_by profile limit ms (set path new) ≡ None
 unrefused profile limit path new ms h =
     by (is_node path ms) (has_value path ms) (is_too_deep limit path new ms) (is_allowed_in profile new) h.node h.valued

@@ -7,8 +7,8 @@
 -- moved place, if the one change stays after the other, and the line ends where it did, or moved.
 --
 -- Theorems: `adds_beside`, `removes_beside`, `clears_beside`.
-use Rattle.std.proofs.Common.{◌≡◌, ℕ, suc, ◌+◌, ◌<◌, ◌≤◌, List, [], ◌∷◌, ◌++◌, length, take, sym, ap, ap₂, ◌∙◌}
-use Rattle.std.proofs.Common.{length-append, cond, ◌-◌, arith, Some, None}
+use Rattle.std.proofs.Common.{◌≡◌, ℕ, suc, ◌+◌, ◌<◌, ◌≤◌, List, [], ◌∷◌, ◌++◌, length, map, take, sym, ap}
+use Rattle.std.proofs.Common.{ap₂, ◌∙◌, length-append, cond, ◌-◌, arith, Some, None}
 use Rattle.std.specs.Prelude.{nat_lt}
 use Rattle.keep_types.specs.declared.leaf.Profile.{Profile}
 use Rattle.keep_syntax.specs.Tree.{Document, Value, Written, bom_leaves, ended_leaves, keyval, text, text_of}
@@ -17,7 +17,7 @@ use Rattle.keep_meaning.specs.Marks.{marks, start}
 use Rattle.keep_meaning.specs.Meaning.{lines, mentions_in}
 use Rattle.keep_meaning.specs.Nodes.{kinds_at}
 use Rattle.keep_meaning.specs.Rules.{ObeysRules}
-use Rattle.keep_edit_spec.specs.AddedLines.{AddsLine}
+use Rattle.keep_edit_spec.specs.AddedLines.{AddsLine, AddsLineStill}
 use Rattle.keep_edit_spec.specs.Changed.{Changed, place_of, put}
 use Rattle.keep_edit_spec.specs.ClearedLines.{ClearsLine, line_start}
 use Rattle.keep_edit_spec.specs.Edits.{clear_line, end_of, name_with}
@@ -44,16 +44,17 @@ module _ (profile : Profile) (limit : ℕ) (s : Document) (x : Changed Document)
     (begin : LinesBegin s x) (there : IsChangeAt c x) (some : 0 < c.size) where
   pub adds_beside : (path : List Part) (value : Value) (d : TextChange) → AddsLine profile limit s path value d
       → IsBeside c d → newline_of x.to ≡ newline_of s
-      → ((q rest : List Part) → path ≡ q ++ rest → kinds_at q (mentions_in x.to) ≡ kinds_at q (mentions_in s))
+      → ((q rest : List Part) → path ≡ q ++ rest
+      → kinds_at q (mentions_in x.to) ≡ kinds_at q (mentions_in s))
       → end_of x.to (holder path (mentions_in s)) ≡ end_of s (holder path (mentions_in s))
-      → AddsLine profile limit x.to path value (moved c d)
+      → AddsLineStill profile limit s x.to path value (moved c d)
   adds_beside path value d k side newline said end =
       let n : ℕ = k.number in
       let ms = mentions_in s in
       let now = mentions_in x.to in
-      let same : holder path now ≡ holder path ms = holder_same ms now path k.text k.one said in
-      let one : path ≡ holder path now ++ key k.text ∷ [] =
-      k.one ∙ ap (λ (a : List Part). a ++ key k.text ∷ []) (sym same) in
+      let same : holder path now ≡ holder path ms = holder_same ms now path k.text k.more k.new said in
+      let new : path ≡ holder path now ++ map key (k.text ∷ k.more) =
+      k.new ∙ ap (λ (a : List Part). a ++ map key (k.text ∷ k.more)) (sym same) in
       let ends : end_of x.to (holder path now) ≡ Some n = ap (end_of x.to) same ∙ end ∙ k.ends in
       let closed : n ≤ length x.to.ended = omega (arith, k.closed, begin.count) in
       let bom : List ℕ = text_of (bom_leaves x.to.bom) in
@@ -66,23 +67,26 @@ module _ (profile : Profile) (limit : ℕ) (s : Document) (x : Changed Document)
             (omega (arith, at_is profile limit s path value d k)),
       ) in
       let line : Written → List ℕ =
-      λ w. text_of (ended_leaves (new_line w (keyval (name_with (k.text ∷ [])) value))) in
-      record {
-        utf8 = k.utf8;
-        given = k.given;
-        allowed = refusal_same ms now path k.text k.one said profile limit value ∙ k.allowed;
-        text = k.text;
-        one = one;
-        number = n;
-        ends = ends;
-        closed = closed;
-        newline = k.newline;
-        adds = k.adds;
-        is = place_is x.to path value k.text n (no_item profile limit s path value d now k) one ends closed
-            ∙ ap (λ (w : Written). put_in from (line w)) newline
-            ∙ ap (put_in from) (sym (line_is profile limit s path value d k))
-            ∙ ap (λ (i : ℕ). put_in i d.new) at;
-      }
+      λ w. text_of (ended_leaves (new_line w (keyval (name_with (k.text ∷ k.more)) value))) in (
+        record {
+          utf8 = k.utf8;
+          given = k.given;
+          allowed = refusal_same ms now path k.text k.more k.new said profile limit value ∙ k.allowed;
+          text = k.text;
+          more = k.more;
+          new = new;
+          number = n;
+          ends = ends;
+          closed = closed;
+          newline = k.newline;
+          adds = k.adds;
+          is = place_is x.to path value k.text k.more n (no_item profile limit s path value d now k) new ends closed
+              ∙ ap (λ (w : Written). put_in from (line w)) newline
+              ∙ ap (put_in from) (sym (line_is profile limit s path value d k))
+              ∙ ap (λ (i : ℕ). put_in i d.new) at;
+        },
+        ap (λ (a : List Part). take (suc (length a)) path) same,
+      )
 
   pub removes_beside : (path : List Part) (d : TextChange) → RemovesLine profile limit s path d
       → IsBeside c d → ObeysRules (marks (mentions_in x.to))

@@ -1,20 +1,21 @@
 -- An edit makes its change after another that leaves it alone: one law for each two kinds, joined here.
 --
 -- A line that is added comes in the place of one that was taken only after a remove that took it: what any other edit
--- writes has bytes (GivenBytes).
+-- writes has bytes (GivenBytes). Others see the edit as before: an insert as one of the same first new key.
 --
 -- Theorem: `still_makes`.
 use Rattle.std.proofs.Common.{◌≡◌, ◌≢◌, ℕ, List, refl, sym, ap, ◌∙◌, arith, inl, inr, ◌+◌, true, false}
 use Rattle.keep_types.specs.declared.leaf.Profile.{Profile}
-use Rattle.keep_syntax.specs.Tree.{Document}
+use Rattle.keep_syntax.specs.Tree.{Document, Value}
 use Rattle.keep_path.specs.Path.{Part}
+use Rattle.keep_edit_spec.specs.AddedLines.{AddsLineStill, first_new}
 use Rattle.keep_edit_spec.specs.ClearedLines.{ClearsLine}
 use Rattle.keep_edit_spec.specs.Edits.{Edit, append_element, append_table, edited_document, insert, place, remove}
 use Rattle.keep_edit_spec.specs.Edits.{rename, set}
 use Rattle.keep_edit_spec.specs.Laws.{IsEditable}
 use Rattle.keep_edit_spec.specs.RemovedLines.{RemovesLine}
 use Rattle.keep_edit_spec.specs.Runs.{IsStillPlaced, LeavesAlone, MakesChange, StillMakesChange, ComesInPlace}
-use Rattle.keep_edit_spec.specs.Runs.{is_insert}
+use Rattle.keep_edit_spec.specs.Runs.{is_insert, seen}
 use Rattle.keep_edit_spec.specs.TextChanges.{IsBeside, TextChange, moved}
 use Rattle.keep_edit_spec.proofs.Lists.ApartPaths.{apart_renamed, renamed_apart}
 use Rattle.keep_edit_spec.proofs.Lists.ClearAfterRename.{clear_after_rename}
@@ -85,150 +86,205 @@ remove_after : (profile : Profile) (limit : ℕ) (s now : Document) (path : List
 remove_after profile limit s now path c d takes clears (inl k) = inl (takes k)
 remove_after profile limit s now path c d takes clears (inr k) = inr (clears k)
 
+-- in another document, too, and seen as before
+abbrev MakesStill : Profile → ℕ → Document → Document → Edit → TextChange → Type 0
+MakesStill profile limit s now e c = MakesChange profile limit now e c × (seen now e ≡ seen s e)
+
+adds_still : (profile : Profile) (limit : ℕ) (s now : Document) (path : List Part) (value : Value) (c : TextChange)
+    → AddsLineStill profile limit s now path value c → MakesStill profile limit s now (insert path value) c
+adds_still profile limit s now path value c h = (h.0, ap (λ (p : List Part). insert p value) h.1)
+
 -- after a remove that took its line
 after_taken : (profile : Profile) (limit : ℕ) (s : Document) (path : List Part) (c : TextChange) (f : Edit)
     (d : TextChange) → IsEditable profile limit s → RemovesLine profile limit s path c → MakesChange profile limit s f d
-    → LeavesAlone (remove path) f → IsBeside c d → IsStillPlaced s (remove path) c f d
-    → MakesChange profile limit (edited_document s (remove path)) f (moved c d)
+    → LeavesAlone (remove path) (seen s f) → IsBeside c d → IsStillPlaced s (remove path) c f d
+    → MakesStill profile limit s (edited_document s (remove path)) f (moved c d)
 after_taken profile limit s path c (insert other more) d fine h k alone beside placed =
-    elim ((placed refl).1 refl) [
+    adds_still profile limit s (edited_document s (remove path)) other more (moved c d)
+    (elim ((placed refl).1 refl) [
       | inl far ↦ insert_after_remove profile limit s path c other more d fine h k alone beside (placed refl).0 far
       | inr here ↦
           insert_in_place profile limit s path c other more d fine h k alone (placed refl).0 here.next here.said
-    ]
+    ])
 after_taken profile limit s path c (remove other) d fine h k alone beside placed =
-    let differs : path ≢ other = other_path profile limit s path c other d fine (inl h) k beside in
-    remove_after profile limit s (edited_document s (remove path)) other c d
-    (λ x. still_removes profile limit s path c other d fine h x differs)
-    (λ x. clear_after_remove profile limit s path c other d fine h x differs beside) k
+    let differs : path ≢ other = other_path profile limit s path c other d fine (inl h) k beside in (
+      remove_after profile limit s (edited_document s (remove path)) other c d
+          (λ x. still_removes profile limit s path c other d fine h x differs)
+          (λ x. clear_after_remove profile limit s path c other d fine h x differs beside) k,
+      refl,
+    )
 after_taken profile limit s path c (set other more) d fine h k alone beside placed =
-    set_after_remove profile limit s path c other more d fine h k alone beside
-after_taken profile limit s path c (rename other more) d fine h k alone beside placed =
-    rename_after_remove profile limit s path c other more d fine h k alone.0
-    (apart_renamed path other more alone.0 alone.1) beside
-after_taken profile limit s path c (append_table more) d fine h k alone beside placed =
-    table_after_remove profile limit s path c more d fine h k (placed refl).0
-    (no_header s c (append_table more) d refl ((placed refl).1 refl))
-after_taken profile limit s path c (append_element more) d fine h k alone beside placed =
-    element_after_remove profile limit s path c more d fine h k (placed refl).0
-    (no_header s c (append_element more) d refl ((placed refl).1 refl))
+    (set_after_remove profile limit s path c other more d fine h k alone beside, refl)
+after_taken profile limit s path c (rename other more) d fine h k alone beside placed = (
+  rename_after_remove profile limit s path c other more d fine h k alone.0
+      (apart_renamed path other more alone.0 alone.1) beside,
+  refl,
+)
+after_taken profile limit s path c (append_table more) d fine h k alone beside placed = (
+  table_after_remove profile limit s path c more d fine h k (placed refl).0
+      (no_header s c (append_table more) d refl ((placed refl).1 refl)),
+  refl,
+)
+after_taken profile limit s path c (append_element more) d fine h k alone beside placed = (
+  element_after_remove profile limit s path c more d fine h k (placed refl).0
+      (no_header s c (append_element more) d refl ((placed refl).1 refl)),
+  refl,
+)
 
 -- after one that left it with its comment
 after_cleared : (profile : Profile) (limit : ℕ) (s : Document) (path : List Part) (c : TextChange) (f : Edit)
     (d : TextChange) → IsEditable profile limit s → ClearsLine profile limit s path c → MakesChange profile limit s f d
-    → LeavesAlone (remove path) f → IsBeside c d → IsStillPlaced s (remove path) c f d
-    → MakesChange profile limit (edited_document s (remove path)) f (moved c d)
+    → LeavesAlone (remove path) (seen s f) → IsBeside c d → IsStillPlaced s (remove path) c f d
+    → MakesStill profile limit s (edited_document s (remove path)) f (moved c d)
 after_cleared profile limit s path c (insert other more) d fine h k alone beside placed =
-    insert_after_clear profile limit s path c other more d fine h k alone beside (placed refl).0
+    adds_still profile limit s (edited_document s (remove path)) other more (moved c d)
+    (insert_after_clear profile limit s path c other more d fine h k alone beside (placed refl).0
     (elsewhere s c (insert other more) d (λ here. clear_gives profile limit s path c fine h here.takes)
-    ((placed refl).1 refl))
+    ((placed refl).1 refl)))
 after_cleared profile limit s path c (remove other) d fine h k alone beside placed =
-    let differs : path ≢ other = other_path profile limit s path c other d fine (inr h) k beside in
-    remove_after profile limit s (edited_document s (remove path)) other c d
-    (λ x. remove_after_clear profile limit s path c other d fine h x differs beside)
-    (λ x. clear_after_clear profile limit s path c other d fine h x differs beside) k
+    let differs : path ≢ other = other_path profile limit s path c other d fine (inr h) k beside in (
+      remove_after profile limit s (edited_document s (remove path)) other c d
+          (λ x. remove_after_clear profile limit s path c other d fine h x differs beside)
+          (λ x. clear_after_clear profile limit s path c other d fine h x differs beside) k,
+      refl,
+    )
 after_cleared profile limit s path c (set other more) d fine h k alone beside placed =
-    set_after_clear profile limit s path c other more d fine h k alone beside
-after_cleared profile limit s path c (rename other more) d fine h k alone beside placed =
-    rename_after_clear profile limit s path c other more d fine h k alone.0
-    (apart_renamed path other more alone.0 alone.1) beside
-after_cleared profile limit s path c (append_table more) d fine h k alone beside placed =
-    table_after_clear profile limit s path c more d fine h k (placed refl).0
-    (no_header s c (append_table more) d refl ((placed refl).1 refl))
-after_cleared profile limit s path c (append_element more) d fine h k alone beside placed =
-    element_after_clear profile limit s path c more d fine h k (placed refl).0
-    (no_header s c (append_element more) d refl ((placed refl).1 refl))
+    (set_after_clear profile limit s path c other more d fine h k alone beside, refl)
+after_cleared profile limit s path c (rename other more) d fine h k alone beside placed = (
+  rename_after_clear profile limit s path c other more d fine h k alone.0
+      (apart_renamed path other more alone.0 alone.1) beside,
+  refl,
+)
+after_cleared profile limit s path c (append_table more) d fine h k alone beside placed = (
+  table_after_clear profile limit s path c more d fine h k (placed refl).0
+      (no_header s c (append_table more) d refl ((placed refl).1 refl)),
+  refl,
+)
+after_cleared profile limit s path c (append_element more) d fine h k alone beside placed = (
+  element_after_clear profile limit s path c more d fine h k (placed refl).0
+      (no_header s c (append_element more) d refl ((placed refl).1 refl)),
+  refl,
+)
 
 pub still_makes : StillMakesChange
 still_makes profile limit s (insert path value) c (insert other more) d fine h k alone beside placed =
-    still_adds profile limit s path value c other more d fine h k alone
-still_makes profile limit s (insert path value) c (remove other) d fine h k alone beside placed =
-    remove_after profile limit s (edited_document s (insert path value)) other c d
-    (λ x. remove_after_insert profile limit s path value c other d fine h x alone beside)
-    (λ x. clear_after_insert profile limit s path value c other d fine h x alone beside) k
+    adds_still profile limit s (edited_document s (insert path value)) other more (moved c d)
+    (still_adds profile limit s path value c other more d fine h k alone)
+still_makes profile limit s (insert path value) c (remove other) d fine h k alone beside placed = (
+  remove_after profile limit s (edited_document s (insert path value)) other c d
+      (λ x. remove_after_insert profile limit s path value c other d fine h x alone beside)
+      (λ x. clear_after_insert profile limit s path value c other d fine h x alone beside) k,
+  refl,
+)
 still_makes profile limit s (insert path value) c (set other more) d fine h k alone beside placed =
-    set_after_insert profile limit s path value c other more d fine h k alone beside
-still_makes profile limit s (insert path value) c (rename other more) d fine h k alone beside placed =
-    rename_after_insert profile limit s path value c other more d fine h k alone.0
-    (apart_renamed path other more alone.0 alone.1) beside
+    (set_after_insert profile limit s path value c other more d fine h k alone beside, refl)
+still_makes profile limit s (insert path value) c (rename other more) d fine h k alone beside placed = (
+  rename_after_insert profile limit s path value c other more d fine h k alone.0
+      (apart_renamed (first_new s path) other more alone.0 alone.1) beside,
+  refl,
+)
 still_makes profile limit s (insert path value) c (append_table more) d fine h k alone beside placed =
-    table_after_insert profile limit s path value c more d fine h k alone (placed refl).0
+    (table_after_insert profile limit s path value c more d fine h k alone (placed refl).0, refl)
 still_makes profile limit s (insert path value) c (append_element more) d fine h k alone beside placed =
-    element_after_insert profile limit s path value c more d fine h k alone (placed refl).0
+    (element_after_insert profile limit s path value c more d fine h k alone (placed refl).0, refl)
 still_makes profile limit s (remove path) c f d fine (inl h) k alone beside placed =
     after_taken profile limit s path c f d fine h k alone beside placed
 still_makes profile limit s (remove path) c f d fine (inr h) k alone beside placed =
     after_cleared profile limit s path c f d fine h k alone beside placed
 still_makes profile limit s (set path value) c (insert other more) d fine h k alone beside placed =
-    insert_after_set profile limit s path value c other more d fine h k alone beside (placed refl).0
+    adds_still profile limit s (edited_document s (set path value)) other more (moved c d)
+    (insert_after_set profile limit s path value c other more d fine h k alone beside (placed refl).0
     (elsewhere s c (insert other more) d (λ here. set_gives profile limit s path value c fine h here.takes)
-    ((placed refl).1 refl))
-still_makes profile limit s (set path value) c (remove other) d fine h k alone beside placed =
-    remove_after profile limit s (edited_document s (set path value)) other c d
-    (λ x. remove_after_set profile limit s path value c other d fine h x alone beside)
-    (λ x. clear_after_set profile limit s path value c other d fine h x alone beside) k
+    ((placed refl).1 refl)))
+still_makes profile limit s (set path value) c (remove other) d fine h k alone beside placed = (
+  remove_after profile limit s (edited_document s (set path value)) other c d
+      (λ x. remove_after_set profile limit s path value c other d fine h x alone beside)
+      (λ x. clear_after_set profile limit s path value c other d fine h x alone beside) k,
+  refl,
+)
 still_makes profile limit s (set path value) c (set other more) d fine h k alone beside placed =
-    still_sets profile limit s path value c other more d fine h k beside
-still_makes profile limit s (set path value) c (rename other more) d fine h k alone beside placed =
-    rename_after_set profile limit s path value c other more d fine h k alone.0
-    (apart_renamed path other more alone.0 alone.1) beside
-still_makes profile limit s (set path value) c (append_table more) d fine h k alone beside placed =
-    table_after_set profile limit s path value c more d fine h k alone (placed refl).0
-    (no_header s c (append_table more) d refl ((placed refl).1 refl))
-still_makes profile limit s (set path value) c (append_element more) d fine h k alone beside placed =
-    element_after_set profile limit s path value c more d fine h k alone (placed refl).0
-    (no_header s c (append_element more) d refl ((placed refl).1 refl))
+    (still_sets profile limit s path value c other more d fine h k beside, refl)
+still_makes profile limit s (set path value) c (rename other more) d fine h k alone beside placed = (
+  rename_after_set profile limit s path value c other more d fine h k alone.0
+      (apart_renamed path other more alone.0 alone.1) beside,
+  refl,
+)
+still_makes profile limit s (set path value) c (append_table more) d fine h k alone beside placed = (
+  table_after_set profile limit s path value c more d fine h k alone (placed refl).0
+      (no_header s c (append_table more) d refl ((placed refl).1 refl)),
+  refl,
+)
+still_makes profile limit s (set path value) c (append_element more) d fine h k alone beside placed = (
+  element_after_set profile limit s path value c more d fine h k alone (placed refl).0
+      (no_header s c (append_element more) d refl ((placed refl).1 refl)),
+  refl,
+)
 still_makes profile limit s (rename path name) c (insert other more) d fine h k alone beside placed =
-    insert_after_rename profile limit s path name c other more d fine h k alone.0
-    (renamed_apart path name other alone.0 alone.1) beside (placed refl).0
+    adds_still profile limit s (edited_document s (rename path name)) other more (moved c d)
+    (insert_after_rename profile limit s path name c other more d fine h k alone.0
+    (renamed_apart path name (first_new s other) alone.0 alone.1) beside (placed refl).0
     (elsewhere s c (insert other more) d (λ here. rename_gives profile limit s path name c fine h here.takes)
-    ((placed refl).1 refl))
-still_makes profile limit s (rename path name) c (remove other) d fine h k alone beside placed =
-    remove_after profile limit s (edited_document s (rename path name)) other c d
-    (λ x. remove_after_rename profile limit s path name c other d fine h x alone.0
-    (renamed_apart path name other alone.0 alone.1) beside)
-    (λ x. clear_after_rename profile limit s path name c other d fine h x alone.0
-    (renamed_apart path name other alone.0 alone.1) beside) k
-still_makes profile limit s (rename path name) c (set other more) d fine h k alone beside placed =
-    set_after_rename profile limit s path name c other more d fine h k alone.0
-    (renamed_apart path name other alone.0 alone.1) beside
+    ((placed refl).1 refl)))
+still_makes profile limit s (rename path name) c (remove other) d fine h k alone beside placed = (
+  remove_after profile limit s (edited_document s (rename path name)) other c d
+      (λ x. remove_after_rename profile limit s path name c other d fine h x alone.0
+      (renamed_apart path name other alone.0 alone.1) beside)
+      (λ x. clear_after_rename profile limit s path name c other d fine h x alone.0
+      (renamed_apart path name other alone.0 alone.1) beside) k,
+  refl,
+)
+still_makes profile limit s (rename path name) c (set other more) d fine h k alone beside placed = (
+  set_after_rename profile limit s path name c other more d fine h k alone.0
+      (renamed_apart path name other alone.0 alone.1) beside,
+  refl,
+)
 still_makes profile limit s (rename path name) c (rename other more) d fine h k alone beside placed =
-    still_renames profile limit s path name c other more d fine h k alone beside
-still_makes profile limit s (rename path name) c (append_table more) d fine h k alone beside placed =
-    table_after_rename profile limit s path name c more d fine h k alone.0 alone.1 (placed refl).0
-    (no_header s c (append_table more) d refl ((placed refl).1 refl))
-still_makes profile limit s (rename path name) c (append_element more) d fine h k alone beside placed =
-    element_after_rename profile limit s path name c more d fine h k alone.0 alone.1 (placed refl).0
-    (no_header s c (append_element more) d refl ((placed refl).1 refl))
+    (still_renames profile limit s path name c other more d fine h k alone beside, refl)
+still_makes profile limit s (rename path name) c (append_table more) d fine h k alone beside placed = (
+  table_after_rename profile limit s path name c more d fine h k alone.0 alone.1 (placed refl).0
+      (no_header s c (append_table more) d refl ((placed refl).1 refl)),
+  refl,
+)
+still_makes profile limit s (rename path name) c (append_element more) d fine h k alone beside placed = (
+  element_after_rename profile limit s path name c more d fine h k alone.0 alone.1 (placed refl).0
+      (no_header s c (append_element more) d refl ((placed refl).1 refl)),
+  refl,
+)
 still_makes profile limit s (append_table keys) c (insert other more) d fine h k alone beside placed =
-    insert_after_table profile limit s keys c other more d fine h k alone
+    adds_still profile limit s (edited_document s (append_table keys)) other more (moved c d)
+    (insert_after_table profile limit s keys c other more d fine h k alone
     (λ e. elsewhere s c (insert other more) d (λ here. omega (arith, here.some, h.adds)) ((placed refl).1 refl)
-    (omega (arith, e, h.adds))) (placed refl).0
-still_makes profile limit s (append_table keys) c (remove other) d fine h k alone beside placed =
-    remove_after profile limit s (edited_document s (append_table keys)) other c d
-    (λ x. remove_after_table profile limit s keys c other d fine h x)
-    (λ x. clear_after_table profile limit s keys c other d fine h x) k
+    (omega (arith, e, h.adds))) (placed refl).0)
+still_makes profile limit s (append_table keys) c (remove other) d fine h k alone beside placed = (
+  remove_after profile limit s (edited_document s (append_table keys)) other c d
+      (λ x. remove_after_table profile limit s keys c other d fine h x)
+      (λ x. clear_after_table profile limit s keys c other d fine h x) k,
+  refl,
+)
 still_makes profile limit s (append_table keys) c (set other more) d fine h k alone beside placed =
-    set_after_table profile limit s keys c other more d fine h k alone
+    (set_after_table profile limit s keys c other more d fine h k alone, refl)
 still_makes profile limit s (append_table keys) c (rename other more) d fine h k alone beside placed =
-    rename_after_table profile limit s keys c other more d fine h k alone.0 alone.1
+    (rename_after_table profile limit s keys c other more d fine h k alone.0 alone.1, refl)
 still_makes profile limit s (append_table keys) c (append_table more) d fine h k alone beside placed =
-    still_appends_table profile limit s keys c more d fine h k alone
+    (still_appends_table profile limit s keys c more d fine h k alone, refl)
 still_makes profile limit s (append_table keys) c (append_element more) d fine h k alone beside placed =
-    element_after_table profile limit s keys c more d fine h k alone
+    (element_after_table profile limit s keys c more d fine h k alone, refl)
 still_makes profile limit s (append_element keys) c (insert other more) d fine h k alone beside placed =
-    insert_after_element profile limit s keys c other more d fine h k alone
+    adds_still profile limit s (edited_document s (append_element keys)) other more (moved c d)
+    (insert_after_element profile limit s keys c other more d fine h k alone
     (λ e. elsewhere s c (insert other more) d (λ here. omega (arith, here.some, h.adds)) ((placed refl).1 refl)
-    (omega (arith, e, h.adds))) (placed refl).0
-still_makes profile limit s (append_element keys) c (remove other) d fine h k alone beside placed =
-    remove_after profile limit s (edited_document s (append_element keys)) other c d
-    (λ x. remove_after_element profile limit s keys c other d fine h x)
-    (λ x. clear_after_element profile limit s keys c other d fine h x) k
+    (omega (arith, e, h.adds))) (placed refl).0)
+still_makes profile limit s (append_element keys) c (remove other) d fine h k alone beside placed = (
+  remove_after profile limit s (edited_document s (append_element keys)) other c d
+      (λ x. remove_after_element profile limit s keys c other d fine h x)
+      (λ x. clear_after_element profile limit s keys c other d fine h x) k,
+  refl,
+)
 still_makes profile limit s (append_element keys) c (set other more) d fine h k alone beside placed =
-    set_after_element profile limit s keys c other more d fine h k alone
+    (set_after_element profile limit s keys c other more d fine h k alone, refl)
 still_makes profile limit s (append_element keys) c (rename other more) d fine h k alone beside placed =
-    rename_after_element profile limit s keys c other more d fine h k alone.0 alone.1
+    (rename_after_element profile limit s keys c other more d fine h k alone.0 alone.1, refl)
 still_makes profile limit s (append_element keys) c (append_table more) d fine h k alone beside placed =
-    table_after_element profile limit s keys c more d fine h k alone
+    (table_after_element profile limit s keys c more d fine h k alone, refl)
 still_makes profile limit s (append_element keys) c (append_element more) d fine h k alone beside placed =
-    still_appends_element profile limit s keys c more d fine h k alone
+    (still_appends_element profile limit s keys c more d fine h k alone, refl)

@@ -7,7 +7,8 @@
 -- when they are moved. Each is by induction on the changes.
 --
 -- Theorems: `follow_with`, `text_with_one`, `moved_with`, `moved_next`, `beside_past`, `end_apart`,
--- `end_apart_let`, `begins_apart`, `all_with`, `one_of_all`, `rest_of_all`, `none_with`, `length_with`.
+-- `end_apart_let`, `begins_apart`, `all_with`, `one_of_all`, `rest_of_all`, `none_with`, `length_with`; `gone_room`,
+-- `past_later`.
 use Rattle.std.proofs.Common.{◌≡◌, ◌≢◌, ℕ, ◌+◌, ◌-◌, ◌<◌, ◌≤◌, Bool, true, false, cond, List, [], ◌∷◌, ◌++◌, length}
 use Rattle.std.proofs.Common.{take, drop, get_or, suc, All, refl, sym, ap, ap₂, ◌∙◌, append_assoc, arith, length-drop}
 use Rattle.std.proofs.Common.{inl, inr}
@@ -177,7 +178,7 @@ come_more at to [] up = omega arith
 come_more at to (c ∷ cs) up = omega (arith, counted_more at to c (length c.new) up, come_more at to cs up)
 
 -- changes from a byte on that begin where one does that is beside each, or before it, have room between the two
-gone_room : (from : ℕ) (cs : List TextChange) (d : TextChange) → from ≤ d.at → Follow from cs
+pub gone_room : (from : ℕ) (cs : List TextChange) (d : TextChange) → from ≤ d.at → Follow from cs
     → All (λ c. IsBeside c d) cs → gone_to d.at cs + from ≤ d.at
 gone_room from [] d low h beside = omega arith
 gone_room from (c ∷ cs) d low h beside =
@@ -235,7 +236,7 @@ gone_less cs d e less h left right =
 -- ---- changes that are moved
 
 -- one after another, with what is between
-past_later : (cs : List TextChange) (d e : TextChange) → d.at + d.size ≤ e.at → Follow 0 cs
+pub past_later : (cs : List TextChange) (d e : TextChange) → d.at + d.size ≤ e.at → Follow 0 cs
     → All (λ c. IsBeside c d) cs → All (λ c. IsBeside c e) cs
     → moved_by_all cs d.at + d.size ≤ moved_by_all cs e.at
 past_later cs d e up h left right =

@@ -3,7 +3,7 @@ use Rattle.std.specs.Prelude.{◌≡◌, ◌≢◌, ℕ, ◌+◌, List, map}
 use Rattle.keep_types.specs.declared.leaf.Profile.{Profile}
 use Rattle.keep_syntax.specs.Tree.{Document, Value, text}
 use Rattle.keep_path.specs.Path.{Part, beside, key}
-use Rattle.keep_edit_spec.specs.AddedLines.{AddsLine}
+use Rattle.keep_edit_spec.specs.AddedLines.{AddsLine, AddsLineStill, first_new}
 use Rattle.keep_edit_spec.specs.AppendedHeaders.{AppendsElement, AppendsTable}
 use Rattle.keep_edit_spec.specs.Edits.{append_element, append_table, edited_document, insert, remove, rename, set}
 use Rattle.keep_edit_spec.specs.Laws.{IsEditable}
@@ -28,9 +28,9 @@ InsertAfterSet =
     (profile : Profile) (limit : ℕ) (s : Document) (path : List Part) (value : Value) (c : TextChange)
     (other : List Part) (more : Value) (d : TextChange)
     → IsEditable profile limit s → SetsValue profile limit s path value c → AddsLine profile limit s other more d
-    → AreApart path other → IsBeside c d
+    → AreApart path (first_new s other) → IsBeside c d
     → newline_of (edited_document s (set path value)) ≡ newline_of s → c.at + c.size ≢ d.at
-    → AddsLine profile limit (edited_document s (set path value)) other more (moved c d)
+    → AddsLineStill profile limit s (edited_document s (set path value)) other more (moved c d)
 
 abbrev pub RenameAfterSet : Type 0
 RenameAfterSet =
@@ -53,9 +53,9 @@ InsertAfterRemove =
     (profile : Profile) (limit : ℕ) (s : Document) (path : List Part) (c : TextChange)
     (other : List Part) (more : Value) (d : TextChange)
     → IsEditable profile limit s → RemovesLine profile limit s path c → AddsLine profile limit s other more d
-    → AreApart path other → IsBeside c d
+    → AreApart path (first_new s other) → IsBeside c d
     → newline_of (edited_document s (remove path)) ≡ newline_of s → c.at + c.size ≢ d.at
-    → AddsLine profile limit (edited_document s (remove path)) other more (moved c d)
+    → AddsLineStill profile limit s (edited_document s (remove path)) other more (moved c d)
 
 -- the line comes in the place of the one that is taken
 abbrev pub InsertInPlace : Type 0
@@ -63,9 +63,9 @@ InsertInPlace =
     (profile : Profile) (limit : ℕ) (s : Document) (path : List Part) (c : TextChange)
     (other : List Part) (more : Value) (d : TextChange)
     → IsEditable profile limit s → RemovesLine profile limit s path c → AddsLine profile limit s other more d
-    → AreApart path other → newline_of (edited_document s (remove path)) ≡ newline_of s
+    → AreApart path (first_new s other) → newline_of (edited_document s (remove path)) ≡ newline_of s
     → c.at + c.size ≡ d.at → SaysBefore (text s) c.at
-    → AddsLine profile limit (edited_document s (remove path)) other more (moved c d)
+    → AddsLineStill profile limit s (edited_document s (remove path)) other more (moved c d)
 
 abbrev pub RenameAfterRemove : Type 0
 RenameAfterRemove =
@@ -80,7 +80,7 @@ SetAfterInsert =
     (profile : Profile) (limit : ℕ) (s : Document) (path : List Part) (value : Value) (c : TextChange)
     (other : List Part) (more : Value) (d : TextChange)
     → IsEditable profile limit s → AddsLine profile limit s path value c → SetsValue profile limit s other more d
-    → AreApart path other → IsBeside c d
+    → AreApart (first_new s path) other → IsBeside c d
     → SetsValue profile limit (edited_document s (insert path value)) other more (moved c d)
 
 abbrev pub RemoveAfterInsert : Type 0
@@ -88,7 +88,7 @@ RemoveAfterInsert =
     (profile : Profile) (limit : ℕ) (s : Document) (path : List Part) (value : Value) (c : TextChange)
     (other : List Part) (d : TextChange)
     → IsEditable profile limit s → AddsLine profile limit s path value c → RemovesLine profile limit s other d
-    → AreApart path other → IsBeside c d
+    → AreApart (first_new s path) other → IsBeside c d
     → RemovesLine profile limit (edited_document s (insert path value)) other (moved c d)
 
 abbrev pub RenameAfterInsert : Type 0
@@ -96,7 +96,7 @@ RenameAfterInsert =
     (profile : Profile) (limit : ℕ) (s : Document) (path : List Part) (value : Value) (c : TextChange)
     (other : List Part) (text : List ℕ) (d : TextChange)
     → IsEditable profile limit s → AddsLine profile limit s path value c → RenamesKey profile limit s other text d
-    → AreApart path other → AreApart path (beside other text) → IsBeside c d
+    → AreApart (first_new s path) other → AreApart (first_new s path) (beside other text) → IsBeside c d
     → RenamesKey profile limit (edited_document s (insert path value)) other text (moved c d)
 
 abbrev pub SetAfterRename : Type 0
@@ -120,9 +120,9 @@ InsertAfterRename =
     (profile : Profile) (limit : ℕ) (s : Document) (path : List Part) (name : List ℕ) (c : TextChange)
     (other : List Part) (more : Value) (d : TextChange)
     → IsEditable profile limit s → RenamesKey profile limit s path name c → AddsLine profile limit s other more d
-    → AreApart path other → AreApart (beside path name) other → IsBeside c d
+    → AreApart path (first_new s other) → AreApart (beside path name) (first_new s other) → IsBeside c d
     → newline_of (edited_document s (rename path name)) ≡ newline_of s → c.at + c.size ≢ d.at
-    → AddsLine profile limit (edited_document s (rename path name)) other more (moved c d)
+    → AddsLineStill profile limit s (edited_document s (rename path name)) other more (moved c d)
 
 -- ---- headers
 
@@ -211,7 +211,7 @@ TableAfterInsert =
     (profile : Profile) (limit : ℕ) (s : Document) (path : List Part) (value : Value) (c : TextChange)
     (more : List (List ℕ)) (d : TextChange)
     → IsEditable profile limit s → AddsLine profile limit s path value c → AppendsTable profile limit s more d
-    → PassesBy more path → newline_of (edited_document s (insert path value)) ≡ newline_of s
+    → PassesBy more (first_new s path) → newline_of (edited_document s (insert path value)) ≡ newline_of s
     → AppendsTable profile limit (edited_document s (insert path value)) more (moved c d)
 
 abbrev pub ElementAfterInsert : Type 0
@@ -219,7 +219,7 @@ ElementAfterInsert =
     (profile : Profile) (limit : ℕ) (s : Document) (path : List Part) (value : Value) (c : TextChange)
     (more : List (List ℕ)) (d : TextChange)
     → IsEditable profile limit s → AddsLine profile limit s path value c → AppendsElement profile limit s more d
-    → PassesBy more path → newline_of (edited_document s (insert path value)) ≡ newline_of s
+    → PassesBy more (first_new s path) → newline_of (edited_document s (insert path value)) ≡ newline_of s
     → AppendsElement profile limit (edited_document s (insert path value)) more (moved c d)
 
 abbrev pub TableAfterRename : Type 0
@@ -261,13 +261,15 @@ InsertAfterTable =
     (profile : Profile) (limit : ℕ) (s : Document) (keys : List (List ℕ)) (c : TextChange)
     (other : List Part) (more : Value) (d : TextChange)
     → IsEditable profile limit s → AppendsTable profile limit s keys c → AddsLine profile limit s other more d
-    → PassesBy keys other → c.at ≢ d.at → newline_of (edited_document s (append_table keys)) ≡ newline_of s
-    → AddsLine profile limit (edited_document s (append_table keys)) other more (moved c d)
+    → PassesBy keys (first_new s other) → c.at ≢ d.at
+    → newline_of (edited_document s (append_table keys)) ≡ newline_of s
+    → AddsLineStill profile limit s (edited_document s (append_table keys)) other more (moved c d)
 
 abbrev pub InsertAfterElement : Type 0
 InsertAfterElement =
     (profile : Profile) (limit : ℕ) (s : Document) (keys : List (List ℕ)) (c : TextChange)
     (other : List Part) (more : Value) (d : TextChange)
     → IsEditable profile limit s → AppendsElement profile limit s keys c → AddsLine profile limit s other more d
-    → PassesBy keys other → c.at ≢ d.at → newline_of (edited_document s (append_element keys)) ≡ newline_of s
-    → AddsLine profile limit (edited_document s (append_element keys)) other more (moved c d)
+    → PassesBy keys (first_new s other) → c.at ≢ d.at
+    → newline_of (edited_document s (append_element keys)) ≡ newline_of s
+    → AddsLineStill profile limit s (edited_document s (append_element keys)) other more (moved c d)

@@ -1,4 +1,4 @@
-use Rattle.std.proofs.Common.{◌≡◌, ◌-◌, ◌∙◌, Some, ap, arith, length, rules, slice_get, sym}
+use Rattle.std.proofs.Common.{◌≡◌, ◌-◌, ◌∙◌, Some, ap, arith, length, rules, slice_get}
 use Rattle.keep_path.specs.Path.{key}
 use Rattle.keep_edit.proofs.AlikeLaws.{own_beside}
 use Rattle.keep_edit.proofs.alike.is_new_path.Goals as goal

@@ -1,5 +1,5 @@
 use Rattle.std.proofs.Common.{arith}
-use Rattle.keep_edit.proofs.GoneLaws.{last_index_is}
+use Rattle.keep_edit.proofs.GoneFound.{last_index_is}
 use Rattle.keep_edit.proofs.gone.last_index.Goals as goal
 
 pub returns : goal.returns

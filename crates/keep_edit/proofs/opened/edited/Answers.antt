@@ -1,6 +1,5 @@
 use Rattle.std.proofs.Common.{ap, string_bytes, subst, sym}
 use Rattle.std.specs.Prelude.{IfSome}
-use Rattle.keep_path.specs.Path.{index, key}
 use Rattle.keep_path.specs.Step.{part_of}
 use Rattle.keep_edit_plan.specs.OpenValues.{PutsKeyvalText, TakesEntryText}
 use Rattle.keep_edit.specs.ValueAfter.{EndsInStep, MakesValue}

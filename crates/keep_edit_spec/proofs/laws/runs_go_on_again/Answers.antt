@@ -1,3 +1,4 @@
+use Rattle.keep_edit_spec.proofs.Lists.InsertLists.{run_goes_on_inserted}
 use Rattle.keep_edit_spec.proofs.Lists.RenameLists.{run_goes_on_renamed}
 use Rattle.keep_edit_spec.proofs.Lists.RunLists.{run_goes_on_again, run_is_known}
 use Rattle.keep_edit_spec.proofs.laws.runs_go_on_again.Goals as goal
@@ -10,3 +11,6 @@ returns-clause-run c = run_goes_on_again
 
 pub returns-clause-renamed : goal.returns-clause-renamed
 returns-clause-renamed c = run_goes_on_renamed
+
+pub returns-clause-inserted : goal.returns-clause-inserted
+returns-clause-inserted c = run_goes_on_inserted

@@ -1,16 +1,16 @@
 use Rattle.std.proofs.Common.{◌≡◌, ◌+◌, ◌<◌, ℕ, All, List, suc, length, refl, sym, subst}
 use Rattle.std.proofs.Common.{subst₂, ◌∙◌, arith}
-use Rattle.std.proofs.lemmas.List.Elements.{All-nil, All-weaker}
+use Rattle.std.proofs.lemmas.List.Elements.{All-append, All-nil, All-weaker}
 use Rattle.keep_edit_spec.specs.TextChanges.{TextChange}
 use Rattle.keep_edit_plan.specs.TextEdits.{change_of}
-use Rattle.keep_edit.specs.Runs.{Allows, LeavesAlone, MakesInRunHere}
+use Rattle.keep_edit.specs.Again.{outlines_of}
+use Rattle.keep_edit.specs.Runs.{LeavesAlone, MakesInRunHere}
 use Rattle.keep_edit.specs.Seen.{IsSeen}
 use Rattle.keep_edit.specs.declared.outline.Outline.{Outline}
+use Rattle.keep_edit.proofs.AgainSteps.{made_once_more}
 use Rattle.keep_edit.proofs.KindLaws.{placed_of_kind}
-use Rattle.keep_edit.proofs.RenameAgainSteps.{renamed_again}
 use Rattle.keep_edit.proofs.RunSteps.{AreMadeTo, all_made, all_within, more_changes, no_changes}
 use Rattle.keep_edit.proofs.SeenLaws.{more_seen, was_added}
-use Rattle.keep_edit.proofs.SetAgainSteps.{changes_again}
 use Rattle.keep_edit.proofs.document.Document.changes_by.Goals as goal
 use Rattle.keep_edit.proofs.document.Document.changes_by.Goals.{else-leaves_alone, then-leaves_alone}
 
@@ -22,6 +22,7 @@ loop-number-init c =
     let (no_outlines, none) = c.new-so_far.ensures in (
       subst₂ (λ os cs. AreMadeTo edits first first now os cs) (sym no_outlines) (sym none) (no_changes edits first now),
       subst (All (IsSeen c.new-keys.result)) (sym no_outlines) (All-nil (IsSeen c.new-keys.result)),
+      c.new-planner.ensures ∙ c.as_ref.ensures,
     )
 
 pub returns-clause-made : goal.returns-clause-made
@@ -40,43 +41,10 @@ returns-in_default-change_in_run-clause-made c =
     all_made c.args.edits.now c.args.first c.args.self.now _ _ c.loop-number.invariant.0
     c.up_to-in_default-change_in_run.ensures.0 c.up_to-in_default-change_in_run.ensures.1
 
-pub returns-then-not-overwrite-clause-made : goal.returns-then-not-overwrite-clause-made
-returns-then-not-overwrite-clause-made c =
-    all_made c.args.edits.now c.args.first c.args.self.now _ _ c.loop-number.invariant.0
-    (c.up_to.ensures.0 ∙ c.if-not-overwrite.ensures.refused refl) c.up_to.ensures.1
-
 pub returns-then-not-add-clause-made : goal.returns-then-not-add-clause-made
 returns-then-not-add-clause-made c =
     all_made c.args.edits.now c.args.first c.args.self.now _ _ c.loop-number.invariant.0
     (c.up_to-then-not-add.ensures.0 ∙ c.if-not-add.ensures.refused refl) c.up_to-then-not-add.ensures.1
-
-pub loop-number-preserved-in-Some : goal.loop-number-preserved-in-Some
-loop-number-preserved-in-Some c =
-    let edits = c.args.edits.now in
-    let first = c.args.first in
-    let now = c.args.self.now in
-    let number = c.loop-number.number in
-    let x = c.index-edits-number.result in
-    let (so_far, seen) = c.loop-number.invariant in
-    let low : number < length edits = omega (arith, c.loop-number-test.true, c.min-end.ensures) in
-    let one : suc number ≡ number + 1 = omega arith in
-    let same = c.overwrite.ensures.outlines in (
-      subst₂ (λ (n : ℕ) (os : List Outline). AreMadeTo edits first n now os c.overwrite.new.self.changes) one (sym same)
-          (changes_again edits first number now c.loop-number.so_far.outlines.items c.loop-number.so_far.changes
-          c.overwrite.new.self.changes x x c.in-Some.change so_far low (sym c.index-edits-number.is) c.in-Some.ensures
-          (c.overwrite.ensures.changes c.if-not-overwrite.false)),
-      subst (All (IsSeen c.loop-number.keys)) (sym same) seen,
-    )
-
-pub returns-then-not-allow-clause-made : goal.returns-then-not-allow-clause-made
-returns-then-not-allow-clause-made c =
-    all_made c.args.edits.now c.args.first c.args.self.now _ _ c.loop-number.invariant.0
-    c.up_to-then-not-allow.ensures.0 c.up_to-then-not-allow.ensures.1
-
-pub returns-then-not-rename-clause-made : goal.returns-then-not-rename-clause-made
-returns-then-not-rename-clause-made c =
-    all_made c.args.edits.now c.args.first c.args.self.now _ _ c.loop-number.invariant.0
-    (c.up_to-then-not-rename.ensures.0 ∙ c.if-not-rename.ensures.refused refl) c.up_to-then-not-rename.ensures.1
 
 pub returns-clause-within : goal.returns-clause-within
 returns-clause-within c =
@@ -93,52 +61,58 @@ returns-in_default-change_in_run-clause-within c =
     all_within c.args.edits.now c.args.first c.args.self.now _ _ c.loop-number.invariant.0
     c.up_to-in_default-change_in_run.ensures.0
 
-pub returns-then-not-overwrite-clause-within : goal.returns-then-not-overwrite-clause-within
-returns-then-not-overwrite-clause-within c =
-    all_within c.args.edits.now c.args.first c.args.self.now _ _ c.loop-number.invariant.0
-    (c.up_to.ensures.0 ∙ c.if-not-overwrite.ensures.refused refl)
-
-pub returns-then-not-allow-clause-within : goal.returns-then-not-allow-clause-within
-returns-then-not-allow-clause-within c =
-    all_within c.args.edits.now c.args.first c.args.self.now _ _ c.loop-number.invariant.0
-    c.up_to-then-not-allow.ensures.0
-
-pub returns-then-not-rename-clause-within : goal.returns-then-not-rename-clause-within
-returns-then-not-rename-clause-within c =
-    all_within c.args.edits.now c.args.first c.args.self.now _ _ c.loop-number.invariant.0
-    (c.up_to-then-not-rename.ensures.0 ∙ c.if-not-rename.ensures.refused refl)
-
 pub returns-then-not-add-clause-within : goal.returns-then-not-add-clause-within
 returns-then-not-add-clause-within c =
     all_within c.args.edits.now c.args.first c.args.self.now _ _ c.loop-number.invariant.0
     (c.up_to-then-not-add.ensures.0 ∙ c.if-not-add.ensures.refused refl)
 
-pub loop-number-preserved-in-Some-rename_again : goal.loop-number-preserved-in-Some-rename_again
-loop-number-preserved-in-Some-rename_again c =
+pub returns-then-not-allow_again-clause-made : goal.returns-then-not-allow_again-clause-made
+returns-then-not-allow_again-clause-made c =
+    all_made c.args.edits.now c.args.first c.args.self.now _ _ c.loop-number.invariant.0 c.up_to.ensures.0
+    c.up_to.ensures.1
+
+pub returns-then-not-allow_again-clause-within : goal.returns-then-not-allow_again-clause-within
+returns-then-not-allow_again-clause-within c =
+    all_within c.args.edits.now c.args.first c.args.self.now _ _ c.loop-number.invariant.0 c.up_to.ensures.0
+
+pub returns-then-not-put_again-clause-made : goal.returns-then-not-put_again-clause-made
+returns-then-not-put_again-clause-made c =
+    all_made c.args.edits.now c.args.first c.args.self.now _ _ c.loop-number.invariant.0
+    (c.up_to-then-not-put_again.ensures.0 ∙ c.if-not-put_again.ensures.refused refl)
+    c.up_to-then-not-put_again.ensures.1
+
+pub returns-then-not-put_again-clause-within : goal.returns-then-not-put_again-clause-within
+returns-then-not-put_again-clause-within c =
+    all_within c.args.edits.now c.args.first c.args.self.now _ _ c.loop-number.invariant.0
+    (c.up_to-then-not-put_again.ensures.0 ∙ c.if-not-put_again.ensures.refused refl)
+
+pub loop-number-preserved-in-Some : goal.loop-number-preserved-in-Some
+loop-number-preserved-in-Some c =
     let edits = c.args.edits.now in
     let first = c.args.first in
     let now = c.args.self.now in
     let number = c.loop-number.number in
     let x = c.index-edits-number.result in
-    let o = c.in-Some-rename_again.outline in
-    let change = c.in-Some-rename_again.change in
+    let a = c.in-Some.again in
     let outlines = c.loop-number.so_far.outlines.items in
     let changes = c.loop-number.so_far.changes in
-    let (so_far, seen) = c.loop-number.invariant in
+    let new = c.put_again.new.self.changes in
+    let seen_then = IsSeen c.loop-number.keys in
+    let seen_now = IsSeen c.allow_again.new.self in
+    let (so_far, seen, plans) = c.loop-number.invariant in
     let low : number < length edits = omega (arith, c.loop-number-test.true, c.min-end.ensures) in
     let one : suc number ≡ number + 1 = omega arith in
-    let allowed : All (λ y. Allows y o) outlines =
-    All-weaker (IsSeen c.loop-number.keys) (λ y. Allows y o) (c.allow.ensures c.if-not-allow.false) outlines seen in
-    let here : IsSeen c.add.new.self o =
-    was_added (IsSeen c.add.new.self o) c.add.result c.add.ensures.seen
-    (sym c.unwrap_or.ensures ∙ c.if-not-unwrap_or.false) in
-    let replaced = c.rename.ensures.changes c.if-not-rename.false in
-    let pushed = c.rename.ensures.outlines c.if-not-rename.false in (
-      subst₂ (λ (n : ℕ) (os : List Outline). AreMadeTo edits first n now os c.rename.new.self.changes) one (sym pushed)
-          (renamed_again edits first number now outlines changes c.rename.new.self.changes x x o change so_far low
-          (sym c.index-edits-number.is) c.in-Some-rename_again.ensures allowed replaced),
-      subst (All (IsSeen c.add.new.self)) (sym pushed)
-          (more_seen (IsSeen c.loop-number.keys) (IsSeen c.add.new.self) outlines o c.add.ensures.others here seen),
+    let put = c.put_again.ensures.changes c.if-not-put_again.false in
+    let pushed = c.put_again.ensures.outlines c.if-not-put_again.false in (
+      subst₂ (λ (n : ℕ) (os : List Outline). AreMadeTo edits first n now os new) one (sym pushed)
+          (made_once_more edits first number now outlines changes new x x a seen_then so_far low
+          (sym c.index-edits-number.is) c.in-Some.ensures.again
+          (c.allow_again.ensures.allowed c.if-not-allow_again.false) seen put),
+      subst (All seen_now) (sym pushed)
+          (All-append seen_now outlines (outlines_of a)
+          (All-weaker seen_then seen_now c.allow_again.ensures.others outlines seen)
+          (c.allow_again.ensures.seen c.if-not-allow_again.false)),
+      c.again.ensures.planner ∙ plans,
     )
 
 pub loop-number-preserved : goal.loop-number-preserved
@@ -152,7 +126,7 @@ loop-number-preserved c =
     let outlines = c.loop-number.so_far.outlines.items in
     let changes = c.loop-number.so_far.changes in
     let change = c.in-Some-change_in_run.change in
-    let (so_far, seen) = c.loop-number.invariant in
+    let (so_far, seen, plans) = c.loop-number.invariant in
     let low : number < length edits = omega (arith, c.loop-number-test.true, c.min-end.ensures) in
     let one : suc number ≡ number + 1 = omega arith in
     let alone : All (λ y. LeavesAlone y o) outlines = elim c.if-leaves_alone.branch [
@@ -163,10 +137,10 @@ loop-number-preserved c =
           subst (All (λ y. LeavesAlone y o)) w.as_slice.ensures.value
           (w.leave_alone_within.ensures (sym w.value-is ∙ c.if-not-leave_alone_within.false))
     ] in
-    let here : IsSeen c.add-else-not-leave_alone_within.new.self o =
-    was_added (IsSeen c.add-else-not-leave_alone_within.new.self o) c.add-else-not-leave_alone_within.result
-    c.add-else-not-leave_alone_within.ensures.seen
-    (sym c.unwrap_or-else-not-leave_alone_within.ensures ∙ c.if-not-unwrap_or-2.false) in
+    let here : IsSeen c.add.new.self o =
+    was_added (IsSeen c.add.new.self o) c.add.result
+    c.add.ensures.seen
+    (sym c.unwrap_or.ensures ∙ c.if-not-unwrap_or.false) in
     let (beside, with_it) = c.add-in-loop-number.ensures.changes c.if-not-add.false in
     let pushed = c.add-in-loop-number.ensures.outlines c.if-not-add.false in (
       subst (λ (n : ℕ). AreMadeTo edits first n now c.add-in-loop-number.new.self.outlines.items
@@ -174,12 +148,13 @@ loop-number-preserved c =
           (subst₂ (λ (os : List Outline) (cs : List TextChange). AreMadeTo edits first (suc number) now os cs)
           (sym pushed) (sym with_it)
           (more_changes edits first number now outlines changes x x o change so_far low (sym c.index-edits-number.is)
-          (subst (λ a. MakesInRunHere now x a change) (sym c.of-outline.ensures) c.in-Some-change_in_run.ensures) alone
-          beside
-          (placed_of_kind c.add-else-not-leave_alone_within.new.self outlines now.text changes o (change_of change).at
-          (All-weaker (IsSeen c.loop-number.keys) (IsSeen c.add-else-not-leave_alone_within.new.self)
-          c.add-else-not-leave_alone_within.ensures.others outlines seen) here))),
-      subst (All (IsSeen c.add-else-not-leave_alone_within.new.self)) (sym pushed)
-          (more_seen (IsSeen c.loop-number.keys) (IsSeen c.add-else-not-leave_alone_within.new.self) outlines o
-          c.add-else-not-leave_alone_within.ensures.others here seen),
+          (subst (λ a. MakesInRunHere now x a change) (sym c.of-outline.ensures) c.in-Some-change_in_run.ensures.made)
+          alone beside
+          (placed_of_kind c.add.new.self outlines now.text changes o (change_of change).at
+          (All-weaker (IsSeen c.loop-number.keys) (IsSeen c.add.new.self)
+          c.add.ensures.others outlines seen) here))),
+      subst (All (IsSeen c.add.new.self)) (sym pushed)
+          (more_seen (IsSeen c.loop-number.keys) (IsSeen c.add.new.self) outlines o
+          c.add.ensures.others here seen),
+      c.change_in_run.ensures.planner ∙ c.again.ensures.planner ∙ plans,
     )

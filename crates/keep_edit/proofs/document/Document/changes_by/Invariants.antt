@@ -1,4 +1,4 @@
-use Rattle.std.proofs.Common.{All}
+use Rattle.std.proofs.Common.{◌≡◌, All}
 use Rattle.keep_edit.specs.Seen.{IsSeen}
 use Rattle.keep_edit.proofs.RunSteps.{AreMadeTo}
 use Rattle.keep_edit.proofs.document.Document.changes_by.Given as goal
@@ -7,3 +7,4 @@ abbrev pub invariant-loop-number : goal.invariant-loop-number
 invariant-loop-number l =
     AreMadeTo l.edits l.first l.number l.fn.self l.so_far.outlines.items l.so_far.changes
     × All (IsSeen l.keys) l.so_far.outlines.items
+    × (l.planner ≡ l.fn.self)

@@ -10,3 +10,4 @@ invariant-loop-number l =
     × All (IsSeen l.paths) l.so_far.outlines.items
     × (l.is_text_plain ≡ true → IsPlain l.fn.self.text)
     × (l.so_far.are_plain ≡ true → All (λ d. IsPlain d.new) l.so_far.changes)
+    × (l.planner ≡ l.fn.self)

@@ -1,7 +1,8 @@
-use Rattle.keep_edit.proofs.GoneLaws.{left}
+use Rattle.keep_edit.proofs.GoneFound.{left}
 use Rattle.keep_edit.proofs.gone.GoneElements.leave.Goals as goal
 
 pub returns : goal.returns
 returns c =
-    left c.self.inside.array c.args.path.now c.of.result c.of-2.result c.self.inside.numbers.items c.args.self.now
-    c.is_within.result c.self.view_is c.of.ensures c.of-2.ensures c.is_within.ensures
+    left c.self.inside.arrays.items c.as_slice.result.now c.of.result c.args.path.now c.args.self.now
+    c.array_above.result c.is_none.result c.as_slice.ensures.value c.of.ensures c.self.view_is
+    c.array_above.ensures.none c.is_none.ensures

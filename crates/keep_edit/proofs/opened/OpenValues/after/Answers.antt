@@ -1,4 +1,4 @@
-use Rattle.std.proofs.Common.{◌≡◌, ◌∙◌, subst₂, sym}
+use Rattle.std.proofs.Common.{◌≡◌, subst₂, sym}
 use Rattle.std.specs.Prelude.{IfOk}
 use Rattle.keep_edit.specs.ValueAfter.{MakesValue}
 use Rattle.keep_edit.proofs.ValueAfterLaws.{ok_there}

@@ -7,4 +7,4 @@ pub returns-clause-others : goal.returns-clause-others
 returns-clause-others c =
     let (here, on) =
     number_added c.args.self.now.paths c.insert.new.self c.args.number c.in_ok-insert.ensures.updates in
-    (refl, λ path had. on (number_of path) had)
+    (refl, (refl, λ path had. on (number_of path) had))

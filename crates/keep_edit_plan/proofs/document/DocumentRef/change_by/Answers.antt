@@ -1,13 +1,8 @@
 use Rattle.std.proofs.Common.{sym, ap, ◌∙◌}
 use Rattle.keep_edit_spec.specs.TextEnds.{ends_in_newline}
 use Rattle.keep_edit_plan.proofs.AnswerLaws.{text_seen}
-use Rattle.keep_edit_plan.proofs.ChangeLaws.{by_header, by_set_or_rename, insert_here, remove_here}
+use Rattle.keep_edit_plan.proofs.ChangeLaws.{by_header, by_set_or_rename, remove_here}
 use Rattle.keep_edit_plan.proofs.document.DocumentRef.change_by.Goals as goal
-
-pub returns-in-Insert : goal.returns-in-Insert
-returns-in-Insert c =
-    insert_here c.args.self.now c.args.edit.now c.in-Insert.path c.in-Insert.value c.added_line.result c.in-Insert.is
-    c.added_line.ensures.added c.added_line.ensures.within c.added_line.ensures.value
 
 pub returns-in-Remove : goal.returns-in-Remove
 returns-in-Remove c =

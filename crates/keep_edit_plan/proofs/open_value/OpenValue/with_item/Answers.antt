@@ -14,11 +14,11 @@ pub invariant_of-result : goal.invariant_of-result
 invariant_of-result c =
     let can : CanBeNested c.args.item.now = c.if-not-can_be_nested.ensures refl in
     let deep = c.depth.ensures can.0 (in_wide Strict c.args.item.now can.0 can.1) in
-    item_holds _ _ _ _ c.self.invariant c.in-Array.is c.args.number (search rules) c.args.item.now can.0 can.1 can.2 _
+    item_holds _ _ _ _ _ c.self.invariant c.in-Array.is c.args.number (search rules) c.args.item.now can.0 can.1 can.2 _
     _ _ (search rules) (search rules) (search rules)
 
 pub returns : goal.returns
 returns c =
     let can : CanBeNested c.args.item.now = c.if-not-can_be_nested.ensures refl in
-    rw c.self.view_is at (item_puts _ _ _ _ c.self.invariant c.in-Array.is c.args.number (search rules)
+    rw c.self.view_is at (item_puts _ _ _ _ _ c.self.invariant c.in-Array.is c.args.number (search rules)
     c.args.item.now can.0 can.1 can.2 c.in_ok-text.text.bytes.items (search rules))

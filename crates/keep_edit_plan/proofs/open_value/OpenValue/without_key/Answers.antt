@@ -6,14 +6,14 @@ use Rattle.keep_edit_plan.proofs.open_value.OpenValue.without_key.Goals as goal
 
 pub invariant_of-result : goal.invariant_of-result
 invariant_of-result c =
-    (keyval_taken taken_entry_is_value _ _ _ _ c.in_ok-number.number c.args.name.now c.in_ok-cut.cut
+    (keyval_taken taken_entry_is_value _ _ _ _ _ c.in_ok-number.number c.args.name.now c.in_ok-cut.cut
     c.in_ok-places.places.items (string_bytes c.in_ok-text.text) c.as_str.result.now c.deref.result.now
     c.self.invariant c.in-Inline.is (search rules) (search rules) (search rules) (search rules) (search rules)
     (search rules) (search rules)).holds
 
 pub returns : goal.returns
 returns c =
-    let it = (keyval_taken taken_entry_is_value _ _ _ _ c.in_ok-number.number c.args.name.now c.in_ok-cut.cut
+    let it = (keyval_taken taken_entry_is_value _ _ _ _ _ c.in_ok-number.number c.args.name.now c.in_ok-cut.cut
     c.in_ok-places.places.items (string_bytes c.in_ok-text.text) c.as_str.result.now c.deref.result.now
     c.self.invariant c.in-Inline.is (search rules) (search rules) (search rules) (search rules) (search rules)
     (search rules) (search rules)).takes in

@@ -1,20 +1,13 @@
 -- The edit at the place is found by the search, and the two places are compared. So the new edit comes in the place of
 -- one that replaces the same bytes, and the edits still follow one another.
-use Rattle.std.proofs.Common.{◌≡◌, ◌-◌, Bool, true, false, not, List, map, length, set, refl, sym}
-use Rattle.std.proofs.Common.{ap, subst, ◌∙◌, arith, eqb-true}
-use Rattle.std.specs.Prelude.{◌&&◌}
+use Rattle.std.proofs.Common.{◌≡◌, ◌-◌, List, map, length, set, sym, ap, subst, ◌∙◌, arith, eqb-true}
 use Rattle.std.proofs.lemmas.List.Elements.{All-set}
 use Rattle.keep_edit_spec.specs.TextChanges.{Follow, TextChange}
 use Rattle.keep_edit_plan.specs.declared.text_edit.TextEdit.{TextEdit}
 use Rattle.keep_edit_plan.specs.TextEdits.{IsOrdered, IsReplaced, change_of}
-use Rattle.keep_edit_plan.proofs.TextEditLaws.{follow_replaced, set_in_place}
+use Rattle.keep_edit_plan.proofs.TextEditLaws.{both_same, follow_replaced, set_in_place}
 use Rattle.keep_edit_plan.proofs.text_edits.TextEdits.overwrite.Goals as goal
 use Rattle.keep_edit_plan.proofs.text_edits.TextEdits.overwrite.Goals.{After-drop-index_mut}
-
-both_same : (r x y : Bool) → r ≡ not (x && y) → r ≡ false → (x ≡ true) × (y ≡ true)
-both_same r true true e f = (refl, refl)
-both_same r true false e f = absurd cc
-both_same r false y e f = absurd cc
 
 module _ (c : After-drop-index_mut) where
   abbrev edits : List TextEdit

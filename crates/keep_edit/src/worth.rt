@@ -1,0 +1,120 @@
+//! What edits of a list take one by one, beside a reading of the text after all of them. It tells whether they are made
+//! at once, and no answer.
+use crate::document::Document;
+use keep_edit_plan::Edit;
+use keep_rules::{Origin, Path};
+use keep_syntax::{Owner, STANDARD_DEPTH, Span};
+
+/// What it takes to read a text anew, in parts of it.
+const READING: usize = 1000;
+
+impl Document {
+    /// Whether edits take longer one by one than to read the text anew after all of them. It looks at no more of them
+    /// than that takes.
+    pub(crate) fn is_worth_reading(&self, edits: &[Edit]) -> bool {
+        let mut taken = 0usize;
+        for edit in edits {
+            taken = taken.saturating_add(self.part_of_reading(edit));
+            if taken > READING {
+                return true;
+            }
+        }
+        false
+    }
+
+    /// What it takes to make an edit alone, in parts of what it takes to read the text anew.
+    fn part_of_reading(&self, edit: &Edit) -> usize {
+        let of_line = match edit {
+            Edit::Insert(path, _)
+            | Edit::Remove(path)
+            | Edit::Set(path, _)
+            | Edit::Rename(path, _) => self.part_of_line(path),
+            Edit::Table(_) | Edit::Element(_) => 0,
+        };
+        of_line.saturating_add(READING / self.edits_per_reading(edit).max(1))
+    }
+
+    /// How many edits like this one take as long alone as to read the text anew, if the lines that they change are
+    /// short: two for which the index is built anew, removes of tables, elements and lines with several keys, and
+    /// inserts with several keys; 12 to 24 other inserts and removes, or sets of a list; and of renames or sets of a
+    /// scalar 27 at 10 KB, 88 at 100 KB and some 190 from 256 KB on. New headers are so cheap that they are worth it in
+    /// small texts alone.
+    fn edits_per_reading(&self, edit: &Edit) -> usize {
+        let len = self.text.len();
+        match edit {
+            Edit::Set(_, value) if value.depth() > 0 => 23,
+            Edit::Set(_, _) | Edit::Rename(_, _) => 20 + (len / 1500).min(170),
+            Edit::Table(_) | Edit::Element(_) => 25 + len / 600,
+            Edit::Insert(path, _) if !self.has_parent(path) => 2,
+            Edit::Remove(path) if self.has_header(path) || self.has_several_keys(path) => 2,
+            Edit::Insert(_, _) | Edit::Remove(_) => 23,
+        }
+    }
+
+    /// Whether all steps of a path but the last lead to a node.
+    fn has_parent(&self, path: &Path) -> bool {
+        self.index
+            .find_first(path, path.len().saturating_sub(1))
+            .is_some()
+    }
+
+    /// Whether a header defines the table at a path, or begins the element there.
+    fn has_header(&self, path: &Path) -> bool {
+        match self.index.find(path) {
+            Some(id) => matches!(
+                self.index.node(id).origin,
+                Origin::Header(_) | Origin::Element(_)
+            ),
+            None => false,
+        }
+    }
+
+    /// Whether the value at a path has a line of its own, with several keys.
+    fn has_several_keys(&self, path: &Path) -> bool {
+        let Some(id) = self.index.find(path) else {
+            return false;
+        };
+        let Origin::Value(number) = self.index.node(id).origin else {
+            return false;
+        };
+        number < self.syntax.value_count() && self.syntax.value(number).keys > 1
+    }
+
+    /// What it takes to read the line again in which the value at a path is, or comes, in parts of what it takes to
+    /// read the text.
+    fn part_of_line(&self, path: &Path) -> usize {
+        let id = match self.index.find(path) {
+            Some(id) => Some(id),
+            None => self.index.find_first(path, path.len().saturating_sub(1)),
+        };
+        let Some(id) = id else {
+            return 0;
+        };
+        let Origin::Value(number) = self.index.node(id).origin else {
+            return 0;
+        };
+        let Some(line) = self.line_of(number) else {
+            return 0;
+        };
+        let bytes = line.end.saturating_sub(line.start);
+        bytes.saturating_mul(READING) / self.text.len().max(1)
+    }
+
+    /// The line in which a value is, by its number; None if it is in none.
+    fn line_of(&self, number: usize) -> Option<Span> {
+        let mut number = number;
+        for _ in 0..=STANDARD_DEPTH {
+            if number >= self.syntax.value_count() {
+                return None;
+            }
+            match self.syntax.value(number).owner {
+                Owner::Line(statement) if statement < self.syntax.statement_count() => {
+                    return Some(self.syntax.statement(statement).line);
+                }
+                Owner::Line(_) => return None,
+                Owner::Inline(round) | Owner::Item(round) => number = round,
+            }
+        }
+        None
+    }
+}

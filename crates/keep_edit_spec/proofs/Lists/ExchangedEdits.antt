@@ -1,0 +1,239 @@
+-- Edits that are made at once, where an insert has another in its place, of another value at the same path: what is
+-- asked of edits and of their changes.
+--
+-- Edits leave one another alone by their paths (`alone_more`, `left_more`), and the changes are at one place and take
+-- nothing. So where each edit has its place it has it still (`placed_more`), if the newlines that come are alike. What
+-- the insert leaves alone is apart from its first new key, and so from the whole path, which begins with that
+-- (`whole_apart`, `passes_whole`); so a set of the value goes on after it (`set_still`).
+--
+-- Theorems: `each_more`, `changes_more`, `placed_more`, `alone_more`, `left_more`, `set_still`.
+use Rattle.std.proofs.Common.{◌≡◌, ℕ, ◌+◌, ◌<◌, Bool, true, false, List, [], ◌∷◌, ◌++◌, length, map, suc, All, refl}
+use Rattle.std.proofs.Common.{sym, ap, subst, ◌∙◌, arith, None, ◌⊎◌, inl, inr}
+use Rattle.std.specs.Prelude.{IsTrue, nat_lt, ◌&&◌, ◌||◌, ◌==◌}
+use Rattle.std.specs.List.{list_any}
+use Rattle.std.proofs.lemmas.List.{map-append}
+use Rattle.std.proofs.lemmas.List.Elements.{All-cons, All-head, All-tail, All-weaker, filter_map-append}
+use Rattle.keep_types.specs.declared.leaf.Profile.{Profile}
+use Rattle.keep_syntax.specs.Tree.{Document, Value}
+use Rattle.keep_path.specs.Path.{Part, beside, key, strip}
+use Rattle.keep_edit_spec.specs.AddedLines.{AddsLine, first_new}
+use Rattle.keep_edit_spec.specs.Edits.{Edit, append_element, append_table, edited_document, insert, remove, rename, set}
+use Rattle.keep_edit_spec.specs.Laws.{IsEditable}
+use Rattle.keep_edit_spec.specs.Look.{key_text, keys_in}
+use Rattle.keep_edit_spec.specs.RunLists.{MadeEdit, seen_of}
+use Rattle.keep_edit_spec.specs.Runs.{AreApart, ArePlain, IsBeforeHeaders, IsPlain, IsPlainBefore, KeepsPlace}
+use Rattle.keep_edit_spec.specs.Runs.{LeavesAlone, LetsCome, MakesChange, PassesBy, is_header, is_insert, is_new_after}
+use Rattle.keep_edit_spec.specs.Runs.{seen, takes_up_to}
+use Rattle.keep_edit_spec.specs.SetValues.{SetsValue}
+use Rattle.keep_edit_spec.specs.TextChanges.{IsBeside, TextChange, change_at, moved}
+use Rattle.keep_edit_spec.proofs.Insert.KeysAtEnd.{path_goes_on}
+use Rattle.keep_edit_spec.proofs.Lists.AddedLine.{clear_under, path_clear}
+use Rattle.keep_edit_spec.proofs.Lists.ApartPaths.{apart_renamed}
+use Rattle.keep_edit_spec.proofs.Lists.ExchangedChanges.{IsAmong, all_before, all_from, all_join}
+use Rattle.keep_edit_spec.proofs.Lists.NewHolder.{apart_clear}
+use Rattle.keep_edit_spec.proofs.Lists.OtherPaths.{other_first_clear}
+use Rattle.keep_edit_spec.proofs.Lists.SetAfterRename.{set_after_rename}
+use Rattle.keep_edit_spec.proofs.Lists.StillMakes.{still_makes}
+
+-- ---- what leaves alone
+
+-- An edit that leaves an insert alone leaves one of another value there alone.
+pub alone_more : (path : List Part) (value more : Value) (f : Edit) → LeavesAlone f (insert path value)
+    → LeavesAlone f (insert path more)
+alone_more path value more (insert other new) h = h
+alone_more path value more (remove other) h = h
+alone_more path value more (set other new) h = h
+alone_more path value more (rename other name) h = h
+alone_more path value more (append_table keys) h = h
+alone_more path value more (append_element keys) h = h
+
+pub left_more : (path : List Part) (value more : Value) (f : Edit) → LeavesAlone (insert path value) f
+    → LeavesAlone (insert path more) f
+left_more path value more (insert other new) h = h
+left_more path value more (remove other) h = h
+left_more path value more (set other new) h = h
+left_more path value more (rename other name) h = h
+left_more path value more (append_table keys) h = h
+left_more path value more (append_element keys) h = h
+
+-- ---- a set of the value of a line that was added
+
+-- A path apart from that of the first new key is apart from the whole path.
+whole_apart : (profile : Profile) (limit : ℕ) (s : Document) (path : List Part) (value : Value) (c : TextChange)
+    → AddsLine profile limit s path value c → (q : List Part) → AreApart (first_new s path) q → AreApart q path
+whole_apart profile limit s path value c h q apart =
+    let back : AreApart q (first_new s path) = (apart.1, apart.0) in
+    (apart_clear profile limit s path value c h q back, path_clear profile limit s path value c h q apart.0)
+
+passes_whole : (profile : Profile) (limit : ℕ) (s : Document) (path : List Part) (value : Value) (c : TextChange)
+    → AddsLine profile limit s path value c → (keys : List (List ℕ)) → PassesBy keys (first_new s path)
+    → PassesBy keys path
+passes_whole profile limit s path value c h keys passes =
+    let first : List Part = first_new s path in
+    let rest : List (List ℕ) = keys_in (map key h.more) in
+    let whole : map key (keys_in path) ≡ map key (keys_in first) ++ map key rest =
+    ap (λ (p : List Part). map key (keys_in p)) (path_goes_on s path h.text h.more h.new)
+    ∙ ap (map key) (filter_map-append key_text first (map key h.more)) ∙ map-append key (keys_in first) rest in
+    subst (λ (p : List Part). strip p (map key keys) ≡ None) (sym whole)
+    (clear_under (map key (keys_in first)) (map key rest) (map key keys) passes)
+
+-- The document now is after other edits, and the edit makes its change there, as before.
+module _ (profile : Profile) (limit : ℕ) (s now : Document) (path : List Part) (value more : Value) (c : TextChange)
+    (h : AddsLine profile limit s path value c) (y : TextChange) (fine : IsEditable profile limit now)
+    (sets : SetsValue profile limit now path more y) where
+  abbrev IsSetStill : Edit → TextChange → Type 0
+  IsSetStill f x =
+      MakesChange profile limit now f x → seen now f ≡ seen s f → IsBeside x y
+      → SetsValue profile limit (edited_document now f) path more (moved x y)
+
+  by_laws : (f : Edit) (x : TextChange) → LeavesAlone (seen s f) (set path more) → IsSetStill f x
+  by_laws f x alone makes same side =
+      (still_makes profile limit now f x (set path more) y fine makes sets
+      (subst (λ (e : Edit). LeavesAlone e (set path more)) (sym same) alone) side (λ new. absurd (no_place new))).0
+    where
+      no_place : IsTrue (is_new_after f (set path more)) → ⊥
+      no_place new = let no : false ≡ true = new in absurd cc
+
+  -- The set makes its change after an edit that the insert leaves alone.
+  pub set_still : (f : Edit) (x z : TextChange) → MakesChange profile limit s f z
+      → LeavesAlone (seen s (insert path value)) (seen s f) → IsSetStill f x
+  set_still (insert other new) x z k alone =
+      by_laws (insert other new) x
+      (whole_apart profile limit s path value c h (first_new s other) (
+        other_first_clear profile limit s path value c h other new z k alone,
+        other_first_clear profile limit s other new z k path value c h (λ same. alone (sym same)),
+      ))
+  set_still (remove other) x z k alone =
+      by_laws (remove other) x (whole_apart profile limit s path value c h other alone)
+  set_still (set other new) x z k alone = by_laws (set other new) x tt
+  set_still (rename other name) x z k alone = λ makes same side.
+      set_after_rename profile limit now other name x path more y fine makes sets
+      (whole_apart profile limit s path value c h other alone.0)
+      (whole_apart profile limit s path value c h (beside other name)
+      (apart_renamed (first_new s path) other name alone.0 alone.1)) side
+  set_still (append_table keys) x z k alone =
+      by_laws (append_table keys) x (passes_whole profile limit s path value c h keys alone)
+  set_still (append_element keys) x z k alone =
+      by_laws (append_element keys) x (passes_whole profile limit s path value c h keys alone)
+
+-- ---- what holds of all
+
+pub each_more : (s : Document) (P : Edit → Type 0) (m by : MadeEdit) (later earlier : List MadeEdit)
+    → (P (seen s m.edit) → P (seen s by.edit)) → All P (seen_of s (later ++ m ∷ earlier))
+    → All P (seen_of s (later ++ by ∷ earlier))
+each_more s P m by [] earlier on h =
+    All-cons P (seen s by.edit) (seen_of s earlier) (on (All-head P (seen s m.edit) (seen_of s earlier) h))
+    (All-tail P (seen s m.edit) (seen_of s earlier) h)
+each_more s P m by (x ∷ later) earlier on h =
+    All-cons P (seen s x.edit) (seen_of s (later ++ by ∷ earlier))
+    (All-head P (seen s x.edit) (seen_of s (later ++ m ∷ earlier)) h)
+    (each_more s P m by later earlier on (All-tail P (seen s x.edit) (seen_of s (later ++ m ∷ earlier)) h))
+
+pub changes_more : (P : TextChange → Type 0) (c d : TextChange) (xs ys : List TextChange) → IsAmong c d xs ys
+    → (P c → P d) → All P xs → All P ys
+changes_more P c d xs ys k on h =
+    let all : All P (k.before ++ c ∷ k.after) = subst (All P) k.is h in
+    let (one, rest) = all_from P k.before k.after c all in
+    subst (All P) (sym k.other)
+    (all_join P k.before k.after d (all_before P k.before k.after c all) (on one) rest)
+
+-- ---- the places
+
+-- no edit is a header, or none of the changes takes the byte before a place: these are the same tests
+header_none : (s : Document) (path : List Part) (value more : Value) (c d : TextChange) (later earlier : List MadeEdit)
+    → list_any is_header (seen_of s (later ++ record { edit = insert path value; change = c } ∷ earlier))
+    ≡ list_any is_header (seen_of s (later ++ record { edit = insert path more; change = d } ∷ earlier))
+header_none s path value more c d [] earlier = refl
+header_none s path value more c d (x ∷ later) earlier =
+    ap (λ (b : Bool). is_header (seen s x.edit) || b) (header_none s path value more c d later earlier)
+
+any_more : (test : TextChange → Bool) (c d : TextChange) (before after : List TextChange) → test c ≡ test d
+    → list_any test (before ++ c ∷ after) ≡ list_any test (before ++ d ∷ after)
+any_more test c d [] after same = ap (λ (b : Bool). b || list_any test after) same
+any_more test c d (x ∷ before) after same = ap (λ (b : Bool). test x || b) (any_more test c d before after same)
+
+-- two changes at one place, that take nothing
+module _ (c d : TextChange) (at : c.at ≡ d.at) (none : c.size ≡ 0) (no_size : d.size ≡ 0) where
+  pub beside_of : (x : TextChange) → IsBeside x c → IsBeside x d
+  beside_of x (inl ends) = inl (omega (arith, ends, at))
+  beside_of x (inr (less, ends)) = inr (omega (arith, less, at), omega (arith, ends, at, none, no_size))
+
+  pub beside_more : (x : TextChange) → IsBeside c x → IsBeside d x
+  beside_more x (inl ends) = inl (omega (arith, ends, at, none, no_size))
+  beside_more x (inr (less, ends)) = inr (omega (arith, less, at), omega (arith, ends, at))
+
+  takes_none : (to : ℕ) (x : TextChange) → x.size ≡ 0 → takes_up_to to x ≡ false
+  takes_none to x zero_size = ap (λ (n : ℕ). nat_lt 0 n && (x.at + n == to)) zero_size
+
+  module _ (bytes : List ℕ) (xs ys : List TextChange) (k : IsAmong c d xs ys) where
+    takes_alike : (to : ℕ) → list_any (takes_up_to to) xs ≡ list_any (takes_up_to to) ys
+    takes_alike to =
+        ap (list_any (takes_up_to to)) k.is
+        ∙ any_more (takes_up_to to) c d k.before k.after (takes_none to c none ∙ sym (takes_none to d no_size))
+        ∙ sym (ap (list_any (takes_up_to to)) k.other)
+
+    lets_alike : (to : ℕ) (x : TextChange) → LetsCome bytes xs to x → LetsCome bytes ys to x
+    lets_alike to x (inl clear) = inl clear
+    lets_alike to x (inr h) =
+        let line : TextChange = change_at h.said.from (suc (length h.said.line)) [] in
+        inr (record {
+          takes = h.takes;
+          said = h.said;
+          stays = changes_more (λ y. IsBeside y line) c d xs ys k (beside_more line) h.stays;
+          alone = changes_more (λ y. y.at ≡ x.at → 0 < y.size) c d xs ys k
+              (λ all same. absurd (let some : 0 < c.size = all (at ∙ same) in omega (arith, some, none))) h.alone;
+        })
+
+    lets_more : (to : ℕ) → All (LetsCome bytes xs to) xs → All (LetsCome bytes ys to) ys
+    lets_more to h =
+        changes_more (LetsCome bytes ys to) c d xs ys k (λ one. inl (takes_none to d no_size))
+        (All-weaker (LetsCome bytes xs to) (LetsCome bytes ys to) (lets_alike to) xs h)
+
+    plain_more : IsPlain d.new → ArePlain bytes xs → ArePlain bytes ys
+    plain_more new (plain, all) = (plain, changes_more (λ x. IsPlain x.new) c d xs ys k (λ one. new) all)
+
+    module _ (s : Document) (path : List Part) (value more : Value) (later earlier : List MadeEdit) where
+      abbrev was : List Edit
+      was = seen_of s (later ++ record { edit = insert path value; change = c } ∷ earlier)
+
+      abbrev edits : List Edit
+      edits = seen_of s (later ++ record { edit = insert path more; change = d } ∷ earlier)
+
+      headers_more : (to : ℕ) → IsBeforeHeaders bytes was to → IsBeforeHeaders bytes edits to
+      headers_more to (inl clear) = inl (sym (header_none s path value more c d later earlier) ∙ clear)
+      headers_more to (inr before) = inr before
+
+      -- each newline that comes is alike, or all edits add lines, and this one too
+      abbrev pub AreAlike : Edit → Type 0
+      AreAlike f = IsPlain d.new ⊎ (IsTrue (is_insert (seen s f)) × All (λ e. IsTrue (is_insert e)) was)
+
+      all_more : (P : Edit → Type 0) → (P (seen s (insert path value)) → P (seen s (insert path more))) → All P was
+          → All P edits
+      all_more P on =
+          each_more s P (record { edit = insert path value; change = c })
+          (record { edit = insert path more; change = d }) later earlier on
+
+      placed_header : (x : TextChange) → IsPlain d.new
+          → All (λ e. IsTrue (is_header e)) was ⊎ IsPlainBefore bytes xs x.at
+          → All (λ e. IsTrue (is_header e)) edits ⊎ IsPlainBefore bytes ys x.at
+      placed_header x new (inl all) = inl (all_more (λ e. IsTrue (is_header e)) (λ one. one) all)
+      placed_header x new (inr (plain, clear)) = inr (plain_more new plain, sym (takes_alike x.at) ∙ clear)
+
+      no_insert : {A : Type 0} → IsTrue false → A
+      no_insert it = absurd (let e : false ≡ true = it in cc)
+
+      pub placed_more : (f : Edit) (x : TextChange) → AreAlike f → KeepsPlace bytes was xs f x
+          → KeepsPlace bytes edits ys f x
+      placed_more (insert other new) x alike (inl all) =
+          inl (all_more (λ e. IsTrue (is_insert e)) (λ one. one) all)
+      placed_more (insert other new) x (inl plain) (inr (all, (lets, before))) =
+          inr (plain_more plain all, (lets_more x.at lets, headers_more x.at before))
+      placed_more (insert other new) x (inr (own, all)) (inr h) =
+          inl (all_more (λ e. IsTrue (is_insert e)) (λ one. one) all)
+      placed_more (append_table keys) x (inl plain) h = placed_header x plain h
+      placed_more (append_table keys) x (inr (own, all)) h = no_insert own
+      placed_more (append_element keys) x (inl plain) h = placed_header x plain h
+      placed_more (append_element keys) x (inr (own, all)) h = no_insert own
+      placed_more (remove other) x alike h = tt
+      placed_more (set other new) x alike h = tt
+      placed_more (rename other name) x alike h = tt

@@ -1,0 +1,396 @@
+-- If one of some edits that are made at once adds a line, so are the others with an insert of another value there in
+-- its place; and they make what a later set of the value makes after all of them.
+--
+-- Right after the insert the set replaces the line's value (ValueAdded). The insert leaves each later edit alone, whose
+-- change is beside the whole line, so the set makes its change still (`set_there`, by induction on the later edits).
+-- With the later value in the text of the line this is the text that the other edits make, and a text is that of one
+-- document (`same_document`). The insert is found by its change, which no other edit makes (`found_there`, by
+-- OneInsert).
+--
+-- Theorem: `run_goes_on_inserted`.
+use Rattle.std.proofs.Common.{◌≡◌, ◌≢◌, ℕ, ◌+◌, ◌≤◌, List, [], ◌∷◌, ◌++◌, length, map, take, All, refl, sym}
+use Rattle.std.proofs.Common.{ap, ap₂, subst, subst₂, ◌∙◌, arith, length-append, None, ◌⊎◌, inl, inr}
+use Rattle.std.specs.Prelude.{IsTrue}
+use Rattle.std.proofs.lemmas.List.Elements.{All-head, All-nil, All-tail, All-weaker}
+use Rattle.std.proofs.lemmas.Option.{same_Some}
+use Rattle.keep_types.specs.declared.leaf.Profile.{Profile}
+use Rattle.keep_syntax.specs.Tree.{Document, Value, bom_leaves, text, text_of, value_text}
+use Rattle.keep_syntax.proofs.Shared.{one_document}
+use Rattle.keep_path.specs.Path.{Part, key}
+use Rattle.keep_meaning.specs.Meaning.{mentions_in}
+use Rattle.keep_edit_spec.specs.AddedLines.{AddsLine, first_new}
+use Rattle.keep_edit_spec.specs.Changed.{put}
+use Rattle.keep_edit_spec.specs.Edits.{Edit, edited_document, insert, set}
+use Rattle.keep_edit_spec.specs.InsertLists.{RunGoesOnInserted}
+use Rattle.keep_edit_spec.specs.Laws.{IsEditable}
+use Rattle.keep_edit_spec.specs.Lines.{newline_of}
+use Rattle.keep_edit_spec.specs.Look.{holder}
+use Rattle.keep_edit_spec.specs.Refusals.{refusal}
+use Rattle.keep_edit_spec.specs.RunLists.{AreAtOnce, MadeEdit, changes_of, document_after, made, seen_of}
+use Rattle.keep_edit_spec.specs.Runs.{ArePlain, IsBeforeHeaders, IsPlain, IsRun, KeepsPlace, LeavesAlone, LetsCome}
+use Rattle.keep_edit_spec.specs.Runs.{is_insert, path_of, seen}
+use Rattle.keep_edit_spec.specs.SetValues.{SetsValue}
+use Rattle.keep_edit_spec.specs.TextChanges.{Follow, IsBeside, TextChange, change_at, moved_by_all, moved_past}
+use Rattle.keep_edit_spec.specs.TextChanges.{place_of_change, text_with, with_change}
+use Rattle.keep_edit_spec.proofs.EditLaws.{change_put, set_lawful}
+use Rattle.keep_edit_spec.proofs.Insert.KeysAtEnd.{first_is}
+use Rattle.keep_edit_spec.proofs.Lists.ExchangedChanges.{IsAmong, IsAmongFirst, IsAmongMore, IsFoundThere}
+use Rattle.keep_edit_spec.proofs.Lists.ExchangedChanges.{found_other, found_own, goes_among, moved_there, put_among}
+use Rattle.keep_edit_spec.proofs.Lists.ExchangedChanges.{put_part, starts_there, text_after, text_parts, text_to}
+use Rattle.keep_edit_spec.proofs.Lists.ExchangedEdits.{alone_more, beside_more, beside_of, changes_more, each_more}
+use Rattle.keep_edit_spec.proofs.Lists.ExchangedEdits.{left_more, placed_more, set_still}
+use Rattle.keep_edit_spec.proofs.Lists.MadeChanges.{within_text}
+use Rattle.keep_edit_spec.proofs.Lists.OneInsert.{only_insert}
+use Rattle.keep_edit_spec.proofs.Lists.Places.{at_is, width}
+use Rattle.keep_edit_spec.proofs.Lists.RunLists.{run_is_known}
+use Rattle.keep_edit_spec.proofs.Lists.TextChanges.{all_with}
+use Rattle.keep_edit_spec.proofs.Lists.ValueAdded.{keys_text, line_text_is, same_keys, set_after}
+
+-- what holds of all holds of the one
+of_one : (s : Document) (P : Edit → Type 0) (m : MadeEdit) (later earlier : List MadeEdit)
+    → All P (seen_of s (later ++ m ∷ earlier)) → P (seen s m.edit)
+of_one s P m [] earlier h = All-head P (seen s m.edit) (seen_of s earlier) h
+of_one s P m (x ∷ later) earlier h =
+    of_one s P m later earlier (All-tail P (seen s x.edit) (seen_of s (later ++ m ∷ earlier)) h)
+
+module _ (profile : Profile) (limit : ℕ) (s : Document) (path : List Part) (value : Value) (c : TextChange)
+    (more : Value) (d : TextChange) (fine : IsEditable profile limit s) (h : AddsLine profile limit s path value c)
+    (k : AddsLine profile limit s path more d) where
+  abbrev m : MadeEdit
+  m = made (insert path value) c
+
+  abbrev by : MadeEdit
+  by = made (insert path more) d
+
+  -- ---- the two lines
+
+  abbrev keys : List ℕ
+  keys = keys_text (h.text ∷ h.more)
+
+  abbrev newline : List ℕ
+  newline = (newline_of s).text
+
+  c_is : c.new ≡ keys ++ (value_text value ++ newline)
+  c_is = line_text_is profile limit s path value c h
+
+  d_is : d.new ≡ keys ++ (value_text more ++ newline)
+  d_is = line_text_is profile limit s path more d k
+      ∙ ap (λ (ks : List (List ℕ)). keys_text ks ++ (value_text more ++ newline))
+      (same_keys path (holder path (mentions_in s)) (holder path (mentions_in s)) (k.text ∷ k.more) (h.text ∷ h.more)
+      k.new h.new refl)
+
+  at : c.at ≡ d.at
+  at =
+      let number : h.number ≡ k.number = same_Some h.number k.number (sym h.ends ∙ k.ends) in
+      at_is profile limit s path value c h
+      ∙ ap (λ (n : ℕ). length (text_of (bom_leaves s.bom)) + width (take n s.ended)) number
+      ∙ sym (at_is profile limit s path more d k)
+
+  -- the other insert after the edits before it
+  alone_first : (earlier : List MadeEdit)
+      → All (λ e. LeavesAlone e (seen s (insert path value))) (seen_of s earlier)
+      → All (λ e. LeavesAlone e (seen s (insert path more))) (seen_of s earlier)
+  alone_first earlier =
+      All-weaker (λ e. LeavesAlone e (seen s (insert path value))) (λ e. LeavesAlone e (seen s (insert path more)))
+      (alone_more (first_new s path) value more) (seen_of s earlier)
+
+  beside_first : (earlier : List MadeEdit) → All (λ x. IsBeside x c) (changes_of earlier)
+      → All (λ x. IsBeside x d) (changes_of earlier)
+  beside_first earlier =
+      All-weaker (λ x. IsBeside x c) (λ x. IsBeside x d) (beside_of c d at h.adds k.adds) (changes_of earlier)
+
+  placed_first : (earlier : List MadeEdit)
+      → KeepsPlace (text s) (seen_of s earlier) (changes_of earlier) (insert path value) c
+      → KeepsPlace (text s) (seen_of s earlier) (changes_of earlier) (insert path more) d
+  placed_first earlier =
+      subst (λ (n : ℕ). All (λ e. IsTrue (is_insert e)) (seen_of s earlier)
+      ⊎ (ArePlain (text s) (changes_of earlier) × (All (LetsCome (text s) (changes_of earlier) n) (changes_of earlier)
+      × IsBeforeHeaders (text s) (seen_of s earlier) n))) at
+
+  -- ---- the set after the edits
+
+  -- the change of the set where the line begins at this byte
+  abbrev there : ℕ → TextChange
+  there start = change_at (start + length keys) (length (value_text value)) (value_text more)
+
+  record IsSetThere (ms others : List MadeEdit) : Type 0 where
+    among : IsAmong c d (changes_of ms) (changes_of others)
+    sets : SetsValue profile limit (document_after s ms) path more (there (moved_by_all among.before c.at))
+
+  -- where the first new key is the same, it comes after as many steps
+  same_length : (now : Document) (t : List ℕ) (ts : List (List ℕ))
+      → path ≡ holder path (mentions_in now) ++ map key (t ∷ ts) → first_new now path ≡ first_new s path
+      → length (holder path (mentions_in now)) ≡ length (holder path (mentions_in s))
+  same_length now t ts new same =
+      omega (
+        arith,
+        length-append (holder path (mentions_in now)) (key t ∷ []),
+        length-append (holder path (mentions_in s)) (key h.text ∷ []),
+        ap length (sym (first_is now path t ts new) ∙ same ∙ first_is s path h.text h.more h.new),
+      )
+
+  set_first : (earlier : List MadeEdit) → AreAtOnce profile limit s (m ∷ earlier)
+      → IsSetThere (m ∷ earlier) (by ∷ earlier)
+  set_first earlier (makes, (alone, (beside, (placed, others)))) =
+      let run : IsRun profile limit s (seen_of s earlier) (changes_of earlier) (document_after s earlier) =
+      run_is_known profile limit s earlier fine others in
+      let first : IsAmongFirst (changes_of earlier) c d = put_among (changes_of earlier) c d run.follow at in
+      let now : Document = document_after s earlier in
+      let (adds, as_seen) = run.later (insert path value) c makes alone beside placed in
+      let (adds_more, more_seen) =
+      run.later (insert path more) d k (alone_first earlier alone) (beside_first earlier beside)
+      (placed_first earlier placed) in
+      let first_same : first_new now path ≡ first_new s path = ap path_of as_seen in
+      let long : length (holder path (mentions_in now)) ≡ length (holder path (mentions_in s)) =
+      same_length now adds.text adds.more adds.new first_same in
+      let same : adds.text ∷ adds.more ≡ h.text ∷ h.more =
+      same_keys path (holder path (mentions_in now)) (holder path (mentions_in s)) (adds.text ∷ adds.more)
+      (h.text ∷ h.more) adds.new h.new long in
+      record {
+        among = first.among;
+        sets = subst₂ (λ (n : ℕ) (ks : List (List ℕ)). SetsValue profile limit
+            (edited_document now (insert path value)) path more
+            (change_at (n + length (keys_text ks)) (length (value_text value)) (value_text more)))
+            (sym first.start) same
+            (set_after profile limit now path value (moved_past (changes_of earlier) c) run.editable adds more
+            (moved_past (changes_of earlier) d) adds_more);
+      }
+
+  few : length keys + length (value_text value) ≤ length c.new
+  few =
+      omega (
+        arith,
+        ap (λ (t : List ℕ). length t) c_is,
+        length-append keys (value_text value ++ newline),
+        length-append (value_text value) newline,
+      )
+
+  set_there : (later earlier : List MadeEdit) → AreAtOnce profile limit s (later ++ m ∷ earlier)
+      → IsSetThere (later ++ m ∷ earlier) (later ++ by ∷ earlier)
+  set_there [] earlier all = set_first earlier all
+  set_there (x ∷ later) earlier (makes, (alone, (beside, (placed, others)))) =
+      let ms : List MadeEdit = later ++ m ∷ earlier in
+      let now : Document = document_after s ms in
+      let run : IsRun profile limit s (seen_of s ms) (changes_of ms) now =
+      run_is_known profile limit s ms fine others in
+      let before : IsSetThere ms (later ++ by ∷ earlier) = set_there later earlier others in
+      let start : ℕ = moved_by_all before.among.before c.at in
+      let e : TextChange = moved_past (changes_of ms) x.change in
+      let (made_now, as_seen) = run.later x.edit x.change makes alone beside placed in
+      let goes : IsAmongMore c d (changes_of ms) (changes_of (later ++ by ∷ earlier)) start x.change =
+      goes_among c d (changes_of ms) (changes_of (later ++ by ∷ earlier)) before.among x.change h.adds at run.follow
+      beside in
+      let next : ℕ = moved_by_all goes.among.before c.at in
+      let (side, moves) =
+      moved_there start next (length c.new) e (there start) (length keys) refl before.sets.some few goes.there in
+      record {
+        among = goes.among;
+        sets = subst (λ (n : ℕ). SetsValue profile limit (edited_document now x.edit) path more
+            (change_at n (length (value_text value)) (value_text more))) moves
+            (set_still profile limit s now path value more c h (there start) run.editable before.sets x.edit e x.change
+            makes (of_one s (λ f. LeavesAlone f (seen s x.edit)) m later earlier alone) made_now as_seen side);
+      }
+
+  -- ---- the other edits
+
+  at_once : (later earlier : List MadeEdit)
+      → IsPlain d.new ⊎ All (λ e. IsTrue (is_insert e)) (seen_of s (later ++ m ∷ earlier))
+      → AreAtOnce profile limit s (later ++ m ∷ earlier) → AreAtOnce profile limit s (later ++ by ∷ earlier)
+  at_once [] earlier plain (makes, (alone, (beside, (placed, others)))) =
+      (k, (alone_first earlier alone, (beside_first earlier beside, (placed_first earlier placed, others))))
+  at_once (x ∷ later) earlier plain (makes, (alone, (beside, (placed, others)))) =
+      let ms : List MadeEdit = later ++ m ∷ earlier in
+      let among : IsAmong c d (changes_of ms) (changes_of (later ++ by ∷ earlier)) =
+      (set_there later earlier others).among in (
+        makes,
+        (
+          each_more s (λ e. LeavesAlone e (seen s x.edit)) m by later earlier
+              (left_more (first_new s path) value more (seen s x.edit)) alone,
+          (
+            changes_more (λ y. IsBeside y x.change) c d (changes_of ms) (changes_of (later ++ by ∷ earlier)) among
+                (beside_more c d at h.adds k.adds x.change) beside,
+            (
+              placed_more c d at h.adds k.adds (text s) (changes_of ms) (changes_of (later ++ by ∷ earlier)) among s
+                  path value more later earlier x.edit x.change (alike plain) placed,
+              at_once later earlier (fewer plain) others,
+            ),
+          ),
+        ),
+      )
+    where
+      fewer : IsPlain d.new ⊎ All (λ e. IsTrue (is_insert e)) (seen_of s (x ∷ later ++ m ∷ earlier))
+          → IsPlain d.new ⊎ All (λ e. IsTrue (is_insert e)) (seen_of s (later ++ m ∷ earlier))
+      fewer (inl new) = inl new
+      fewer (inr all) =
+          inr (All-tail (λ e. IsTrue (is_insert e)) (seen s x.edit) (seen_of s (later ++ m ∷ earlier)) all)
+
+      alike : IsPlain d.new ⊎ All (λ e. IsTrue (is_insert e)) (seen_of s (x ∷ later ++ m ∷ earlier))
+          → IsPlain d.new
+          ⊎ (IsTrue (is_insert (seen s x.edit)) × All (λ e. IsTrue (is_insert e)) (seen_of s (later ++ m ∷ earlier)))
+      alike (inl new) = inl new
+      alike (inr all) = inr (
+        All-head (λ e. IsTrue (is_insert e)) (seen s x.edit) (seen_of s (later ++ m ∷ earlier)) all,
+        All-tail (λ e. IsTrue (is_insert e)) (seen s x.edit) (seen_of s (later ++ m ∷ earlier)) all,
+      )
+
+  -- ---- the document
+
+  module _ (ms others : List MadeEdit) (it : IsSetThere ms others) (all : AreAtOnce profile limit s ms)
+      (still : AreAtOnce profile limit s others) where
+    abbrev now : Document
+    now = document_after s ms
+
+    run : IsRun profile limit s (seen_of s ms) (changes_of ms) now
+    run = run_is_known profile limit s ms fine all
+
+    other_run : IsRun profile limit s (seen_of s others) (changes_of others) (document_after s others)
+    other_run = run_is_known profile limit s others fine still
+
+    -- the text on both sides of the line
+    abbrev left : List ℕ
+    left = text_to 0 (text s) it.among.before c
+
+    abbrev right : List ℕ
+    right = text_after (text s) c it.among.after
+
+    text_now : text now ≡ left ++ ((keys ++ (value_text value ++ newline)) ++ right)
+    text_now =
+        run.text ∙ ap (text_with 0 (text s)) it.among.is
+        ∙ text_parts 0 (text s) it.among.before it.among.after c (subst (Follow 0) it.among.is run.follow)
+        ∙ ap (λ (t : List ℕ). left ++ (t ++ right)) c_is
+
+    text_other : text (document_after s others) ≡ left ++ ((keys ++ (value_text more ++ newline)) ++ right)
+    text_other =
+        let ends : d.at + d.size ≡ c.at + c.size = omega (arith, at, h.adds, k.adds) in
+        other_run.text ∙ ap (text_with 0 (text s)) it.among.other
+        ∙ text_parts 0 (text s) it.among.before it.among.after d (subst (Follow 0) it.among.other other_run.follow)
+        ∙ ap₂ (λ (n z : ℕ).
+        text_with 0 (take n (text s)) it.among.before ++ (d.new ++ text_with z (text s) it.among.after)) (sym at) ends
+        ∙ ap (λ (t : List ℕ). left ++ (t ++ right)) d_is
+
+    starts : length left ≡ moved_by_all it.among.before c.at
+    starts =
+        starts_there (text s) it.among.before it.among.after c
+        (let in_text : c.at + c.size ≤ length (text s) =
+        within_text profile limit s (insert path value) c fine h in omega (arith, in_text))
+        (subst (Follow 0) it.among.is run.follow)
+
+    text_then : text (edited_document now (set path more)) ≡ text (document_after s others)
+    text_then =
+        change_put now (set path more) ∙ ap (put (text now)) it.sets.is
+        ∙ ap (λ (t : List ℕ). put t (place_of_change (there (moved_by_all it.among.before c.at)))) text_now
+        ∙ put_part left keys (value_text value) newline right (value_text more)
+        (moved_by_all it.among.before c.at + length keys) (length (value_text value)) (omega (arith, starts)) refl
+        ∙ sym text_other
+
+    same_document : edited_document now (set path more) ≡ document_after s others
+    same_document =
+        one_document profile (edited_document now (set path more)) (document_after s others)
+        (set_lawful profile limit now path more run.editable it.sets.given it.sets.allowed).reads.valid
+        other_run.editable.valid text_then
+
+-- ---- the insert among the edits
+
+-- The edits with the one, which is an insert of the path, and the others with another in its place.
+record IsFound (path : List Part) (more : Value) (ms : List MadeEdit) (before : List TextChange) (c d : TextChange)
+    (after : List TextChange) : Type 0 where
+  value : Value
+  later : List MadeEdit
+  earlier : List MadeEdit
+  all : ms ≡ later ++ made (insert path value) c ∷ earlier
+  changes : changes_of (later ++ made (insert path more) d ∷ earlier) ≡ before ++ d ∷ after
+
+module _ (profile : Profile) (limit : ℕ) (s : Document) (path : List Part) (value : Value) (c : TextChange)
+    (more : Value) (d : TextChange) (fine : IsEditable profile limit s) (h : AddsLine profile limit s path value c)
+    (same : c.at ≡ d.at) where
+  -- edits that leave an insert of the path alone make other changes
+  others_differ : (ms : List MadeEdit) (new : Value) → AreAtOnce profile limit s ms
+      → All (λ e. LeavesAlone e (seen s (insert path new))) (seen_of s ms) → All (λ x. x ≢ c) (changes_of ms)
+  others_differ [] new all alone = All-nil (λ x. x ≢ c)
+  others_differ (x ∷ ms) new (makes, (its, (beside, (placed, others)))) alone =
+      all_with (λ y. y ≢ c) (changes_of ms) x.change
+      (others_differ ms new others
+      (All-tail (λ e. LeavesAlone e (seen s (insert path new))) (seen s x.edit) (seen_of s ms) alone))
+      (by (only_insert profile limit s path value c fine h x.edit x.change makes)
+      (All-head (λ e. LeavesAlone e (seen s (insert path new))) (seen s x.edit) (seen_of s ms) alone))
+    where
+      by : ((w : Value) × (x.edit ≡ insert path w)) ⊎ (x.change ≢ c)
+          → LeavesAlone (seen s x.edit) (seen s (insert path new)) → x.change ≢ c
+      by (inr differs) apart = differs
+      by (inl (w, is)) apart = λ e.
+          subst (λ (f : Edit). LeavesAlone (seen s f) (seen s (insert path new))) is apart refl
+
+  found_there : (ms : List MadeEdit) (before after : List TextChange) → AreAtOnce profile limit s ms
+      → changes_of ms ≡ before ++ c ∷ after → IsFound path more ms before c d after
+  found_there [] before after all is = absurd (no_more before is)
+    where
+      no_more : (l : List TextChange) → [] ≡ l ++ c ∷ after → ⊥
+      no_more [] e = absurd cc
+      no_more (y ∷ l) e = absurd cc
+  found_there (x ∷ ms) before after (makes, (alone, (beside, (placed, others)))) is =
+      by (only_insert profile limit s path value c fine h x.edit x.change makes)
+      (λ l r. found_there ms l r others)
+    where
+      by : ((w : Value) × (x.edit ≡ insert path w)) ⊎ (x.change ≢ c)
+          → ((l r : List TextChange) → changes_of ms ≡ l ++ c ∷ r → IsFound path more ms l c d r)
+          → IsFound path more (x ∷ ms) before c d after
+      by (inl (w, its)) ih =
+          let apart : All (λ y. y ≢ c) (changes_of ms) =
+          others_differ ms w others
+          (subst (λ (f : Edit). All (λ e. LeavesAlone e (seen s f)) (seen_of s ms)) its alone) in
+          let own : (d.at ≡ x.change.at) → (x.change ≡ c) × (with_change (changes_of ms) d ≡ before ++ d ∷ after) =
+          λ there. found_own (changes_of ms) x.change c d before after apart there is in
+          let is_c : x.change ≡ c =
+          (found_own (changes_of ms) x.change c x.change before after apart refl is).0 in
+          record {
+            value = w;
+            later = [];
+            earlier = ms;
+            all = ap₂ (λ (f : Edit) (y : TextChange). made f y ∷ ms) its is_c;
+            changes = (own (sym same ∙ sym (ap (λ (y : TextChange). y.at) is_c))).1;
+          }
+      by (inr differs) ih =
+          let found : IsFoundThere (changes_of ms) x.change c d before after =
+          found_other (changes_of ms) x.change c d before after differs same is in
+          let more_found : IsFound path more ms found.left c d found.right = ih found.left found.right found.was in
+          record {
+            value = more_found.value;
+            later = x ∷ more_found.later;
+            earlier = more_found.earlier;
+            all = ap (λ (l : List MadeEdit). x ∷ l) more_found.all;
+            changes = ap (λ (l : List TextChange). with_change l x.change) more_found.changes ∙ found.is;
+          }
+
+pub run_goes_on_inserted : RunGoesOnInserted
+run_goes_on_inserted profile limit s ms path value more before c d after fine all adds is makes plain =
+    let same : c.at ≡ d.at = at profile limit s path value c more d fine adds makes in
+    let found : IsFound path more ms before c d after =
+    found_there profile limit s path value c more d fine adds same ms before after all is in
+    let own : Value = found.value in
+    let others : List MadeEdit = found.later ++ made (insert path more) d ∷ found.earlier in
+    let ours : AreAtOnce profile limit s (found.later ++ made (insert path own) c ∷ found.earlier) =
+    subst (AreAtOnce profile limit s) found.all all in
+    let its : AddsLine profile limit s path own c = its_own found.later found.earlier own ours in
+    let still : AreAtOnce profile limit s others =
+    at_once profile limit s path own c more d fine its makes found.later found.earlier
+    (subst (λ (l : List MadeEdit). IsPlain d.new ⊎ All (λ e. IsTrue (is_insert e)) (seen_of s l)) found.all plain)
+    ours in
+    let there_set = set_there profile limit s path own c more d fine its makes found.later found.earlier ours in
+    record {
+      value = own;
+      others = others;
+      exchanged = record { later = found.later; earlier = found.earlier; all = found.all; other = refl };
+      changes = found.changes;
+      at = same;
+      allowed = subst (λ (l : List MadeEdit). refusal profile limit (document_after s l) (set path more) ≡ None)
+          (sym found.all) there_set.sets.allowed;
+      same = ap (λ (l : List MadeEdit). edited_document (document_after s l) (set path more)) found.all
+          ∙ same_document profile limit s path own c more d fine its makes
+          (found.later ++ made (insert path own) c ∷ found.earlier) others there_set ours still;
+      still = still;
+    }
+  where
+    its_own : (later earlier : List MadeEdit) (w : Value)
+        → AreAtOnce profile limit s (later ++ made (insert path w) c ∷ earlier) → AddsLine profile limit s path w c
+    its_own [] earlier w h = h.0
+    its_own (x ∷ later) earlier w h = its_own later earlier w h.1.1.1.1
