@@ -1,16 +1,16 @@
 #!/usr/bin/env python3
-"""Makes long lists of edits on documents of many shapes, and compares with the same edits in short lists.
+"""Makes long lists of edits on documents of many shapes, and compares with the same edits one by one.
 
     tests/properties/edit_runs.py KEEP_TOML [RUNS [SEED]]
 
-Edits that come in a row are made at once, from some 20 of them on, or from three removes of tables or elements with their
-headers, and up to 1,000, by the document before all of them. So each list (of 80 edits, one in twenty of 1,100; RUNS of them,
-100 if not given) is given to the program as one script, and then in scripts of 10, or of 2 where tables or elements are
-removed, each on what the one before gave, where every edit is made by itself. Texts, faults and the number of the refused edit
-have to be the same.
+Edits that come in a row are made at once, from some 20 of them on, or from three of those that take long by themselves, and up
+to 1,000, by the document before all of them. So each list (of 80 edits, one in twenty of 1,100; RUNS of them, 100 if not given)
+is given to the program as one script, and then each edit as a script of its own, on what the one before gave: so it is made by
+itself. Texts, faults and the number of the refused edit have to be the same.
 Most lists are of edits of one kind, a quarter of them of edits of all kinds in turn. A fifth of the lines that are changed have
-a comment. Values are set and keys renamed again, and edits of entries come back to a value, which goes on in the row. Among the
-edits are some that end it: one that is refused, any other of a path that was there before, one that is in another's.
+a comment. Values are set and keys renamed again, values are set that were inserted, and edits of entries come back to a value,
+which goes on in the row. Among the edits are some that end it: one that is refused, any other of a path that was there before,
+one that is in another's.
 """
 import sys
 from pathlib import Path
@@ -21,7 +21,7 @@ sys.path[:0] = [str(Path(__file__).resolve().parents[2] / "tests/rows"), str(Pat
 from ask import Count, answer, in_parallel, short
 from edit_chains import GAPS, KEYS, VALUES, document_of
 
-RUNS, EDITS, MANY, FEW, FEW_TABLES = 100, 80, 1100, 10, 2
+RUNS, EDITS, MANY = 100, 80, 1100
 REFUSED = b"keep-toml: edit "
 
 
@@ -41,11 +41,11 @@ class Run:
 
     def __init__(self, program, seed):
         self.program, self.random = program, Random(seed)
-        self.many, self.few = MANY if seed % 20 == 19 else EDITS, FEW
+        self.many = MANY if seed % 20 == 19 else EDITS
         self.text = document_of(self.random, lambda it: not self.ran([b"check"], it).returncode)
         self.entries = [tuple(it.rsplit(b"\t", 1)) for it in self.ran([b"list"], self.text).stdout.split(b"\n")[:-1]]
         kinds = (self.inserts, self.items, self.removes, self.sections, self.sets, self.renames, self.tables, self.elements)
-        kinds += (self.gone_elements,)
+        kinds += (self.gone_elements, self.gone_below)
         kinds += (self.parts,) + 3 * (self.all_kinds,)
         self.edits = self.random.choice(kinds)()
 
@@ -56,16 +56,24 @@ class Run:
         return [path for path, kind in self.entries if kind in kinds]
 
     def inserts(self):
-        """New keys, nearly all of tables with a header; now and then a key that was given before, or of anything else."""
-        random, edits = self.random, []
+        """New keys, nearly all of tables with a header; now and then a key that was given before, or of anything else. In a third
+        of the lists many of them are set later; in half of them some inserts give several keys, and now and then two the same
+        first one."""
+        random, edits, given = self.random, [], []
+        later, several = random.choice((0, 0, 0.4)), random.choice((0, 0.3))
         tables = [b"", *(it for it in self.of_kind(b"table") if b"[%s]\n" % it in self.text or it.endswith(b"]"))]
         for number in range(self.many):
             if edits and random.random() < 0.003:
                 edits.append(random.choice(edits))
+            elif given and random.random() < later:
+                edits.append(edit_of(b"set", random.choice(given), value_of(random)))
             else:
                 table = random.choice(tables if random.random() < 0.995 else [b"", *(path for path, _ in self.entries)])
-                key = random.choice(KEYS) + b"_%d" % number
-                edits.append(edit_of(b"insert", table + b"." + key if table else key, value_of(random)))
+                key = random.choice(KEYS) + b"_%d" % (number if random.random() < 0.98 else number // 2)
+                if random.random() < several:
+                    key += b"." + b".".join(random.choice(KEYS) for _ in range(random.choice((1, 1, 2, 3))))
+                given.append(table + b"." + key if table else key)
+                edits.append(edit_of(b"insert", given[-1], value_of(random)))
         return edits
 
     def items(self):
@@ -129,7 +137,6 @@ class Run:
     def sections(self):
         """Tables with their headers, each once; now and then something else that is there, or another edit between."""
         random, paths = self.random, self.with_tables() + self.some_of()
-        self.few = FEW_TABLES
         random.shuffle(paths)
         edits = [edit_of(b"remove", it) for it in paths]
         for number in range(random.choice((0, 0, 1, 3))):
@@ -159,7 +166,6 @@ class Run:
     def gone_elements(self):
         """Elements of an array of tables, in a third of the lists of two, each by the number that it has then; tables between."""
         random, edits = self.random, []
-        self.few = FEW_TABLES
         counts, tables = self.with_elements()
         if random.random() < 0.7:
             counts.pop(b"outer.els", None)
@@ -171,6 +177,45 @@ class Run:
             number = random.choice((0, counts[array] - 1, random.randrange(counts[array])))
             counts[array] -= 1
             edits.append(edit_of(b"remove", b"%s[%d]" % (array, number)))
+        return edits
+
+    def with_arrays(self):
+        """New arrays of tables at the end of the text, whose elements come in turn. Of each array its elements: whether one has a
+        table below it, and of how many elements it has an array of its own."""
+        random, more = self.random, b""
+        names = [random.choice((b"", b"", b"outer.")) + b"array_%d" % number for number in range(random.choice((2, 2, 3, 8, 10)))]
+        arrays, nested = {name: [] for name in names}, random.choice((0, 0, 0.05))
+        for number in range(self.many):
+            name = names[number % len(names)] if random.random() < 0.8 else random.choice(names)
+            has_table, count = random.random() < 0.3, random.choice((1, 2)) if random.random() < nested else 0
+            arrays[name].append([has_table, count])
+            headers = [b"[[%s]]" % name] + has_table * [b"[%s.below]" % name] + count * [b"[[%s.inner]]" % name]
+            more += b"".join(random.choice(GAPS) + b"%s\n%s = %s\n" % (it, random.choice(KEYS), value_of(random)) for it in headers)
+        text = self.text + (b"" if self.text.endswith(b"\n") or not self.text else b"\n") + more
+        if self.ran([b"check"], text).returncode:
+            return {}
+        self.text = text
+        return arrays
+
+    def gone_below(self):
+        """Elements of several arrays of tables in turn, each by the number that it has then, and what is below other elements of
+        them: tables, and now and then elements of an array in one; rarely an element with more below it, or one that is not
+        there."""
+        random, edits, arrays = self.random, [], self.with_arrays()
+        while len(edits) < self.many and any(arrays.values()):
+            name = random.choice([it for it in arrays if arrays[it]])
+            elements = arrays[name]
+            number = random.choice((0, len(elements) - 1, random.randrange(len(elements))))
+            path, (has_table, count) = b"%s[%d]" % (name, number), elements[number]
+            if has_table and random.random() < 0.998:
+                path, elements[number][0] = path + b".below", False
+            elif count:
+                path, elements[number][1] = path + b".inner[%d]" % random.randrange(count), count - 1
+            elif random.random() < 0.001:
+                path = b"%s[%d]" % (name, len(elements))
+            else:
+                elements.pop(number)
+            edits.append(edit_of(b"remove", path))
         return edits
 
     def sets(self):
@@ -303,7 +348,8 @@ class Run:
                 edits.append(edit_of(kind, path, key=key))
                 renamed.append(b".".join([*path.split(b".")[:-1], key]))
             elif kind == b"insert":
-                edits.append(edit_of(kind, new(path, number), value_of(random)))
+                are_set.append(new(path, number) + random.choice((b"", b"", b"", b"." + random.choice(KEYS))))
+                edits.append(edit_of(kind, are_set[-1], value_of(random)))
             elif kind == b"set":
                 edits.append(edit_of(kind, path, value_of(random)))
                 are_set.append(path)
@@ -311,22 +357,20 @@ class Run:
                 edits.append(edit_of(kind, path))
         return edits
 
-    def in_short_lists(self):
-        """What the edits come to a few at a time: the text or the number of the refused edit and why."""
+    def one_by_one(self):
+        """What the edits come to one by one: the text, or the number of the refused edit and why."""
         text = self.text
-        for first in range(0, len(self.edits), self.few):
-            ran = self.ran([b"apply", b"".join(self.edits[first : first + self.few])], text)
+        for number, edit in enumerate(self.edits):
+            ran = self.ran([b"apply", edit], text)
             if ran.returncode:
-                number, colon, why = ran.stderr.removeprefix(REFUSED).partition(b":")
-                fault = REFUSED + b"%d" % (first + int(number)) + colon + why if number.isdigit() else ran.stderr
-                return ran.returncode, b"", fault
+                return ran.returncode, b"", ran.stderr.replace(REFUSED + b"0:", REFUSED + b"%d:" % number, 1)
             text = ran.stdout
         return 0, text, b""
 
     def failure(self):
         """What differs, or None."""
         ran = self.ran([b"apply", b"".join(self.edits)], self.text)
-        found, wanted = (ran.returncode, ran.stdout, ran.stderr), self.in_short_lists()
+        found, wanted = (ran.returncode, ran.stdout, ran.stderr), self.one_by_one()
         if found == wanted:
             return None
         return f"{short(repr(found).encode())}, not {short(repr(wanted).encode())}"
