@@ -184,7 +184,7 @@ impl<'a> AtOnce<'a> {
                 .renames
                 .insert(number_beside(path, key), own)
                 .is_ok(),
-            Outline::Insert(path) => self.values.insert(number_of(path), number).is_ok(),
+            Outline::Insert(path) => self.values.insert(number_of(&path.whole()), number).is_ok(),
             _ => true,
         };
         noted && self.outlines.push(outline).is_ok()

@@ -90,6 +90,13 @@ impl<'a> Steps<'a> {
         }
     }
 
+    /// All steps of the path of which these are the first.
+    pub fn whole(&self) -> Steps<'a>
+        ensures { take (length self.now) result ≡ self.now }
+    {
+        Steps::of(self.path)
+    }
+
     /// All of these but the last.
     pub fn parent(&self) -> Steps<'a>
         ensures { result ≡ without_last self.now }
