@@ -1,8 +1,9 @@
 #!/usr/bin/env python3
 """Tries the must-fail edits, wrong bodies and wrong definitions that the prover has to refuse, many in one check.
 
-    tools/gate/edits.py [NAME..]              the edits of these crates (none: of all), over the libraries that `rt check` built here
-    tools/gate/edits.py --unedited [NAME..]   the same checks without the edits: what is refused there is the fault of this script
+    tools/gate/edits.py [CRATE|CRATE/EDIT..]   the edits of these crates (none: of all), or these edits, over the libraries that
+                                               `rt check` built here
+    tools/gate/edits.py --unedited [CRATE..]   the same checks without the edits: what is refused there is the fault of this script
 
 An edit is a file with the lines that `rt must-fail` reads, and a line `# refused in: FUNCTION`: the function, by its path in
 the crate, whose contract the edit breaks. A function is proved by the contracts of those that it calls, whatever their
@@ -287,9 +288,10 @@ def picked(checks, left):
     return chosen
 
 
-def series_of(crate):
-    """The edits of a crate in series of which each is tried one check after the other; those of one function are in different ones."""
-    edits = sorted(edits_of(crate), key=lambda it: it.function)
+def series_of(crate, names=()):
+    """The edits of a crate, or those of these names, in series of which each is tried one check after the other; those of one function
+    are in different ones."""
+    edits = sorted((it for it in edits_of(crate) if not names or it.name in names), key=lambda it: it.function)
     count = -(-len(edits) // MOST)
     return [sorted(edits[number::count], key=lambda it: it.name) for number in range(count)]
 
@@ -331,16 +333,27 @@ def say_unedited(crate, built):
     return len(functions) - len(missed), len(missed)
 
 
-def main(*names):
-    is_unedited = "--unedited" in names
-    names = [it for it in names if it != "--unedited"] or [it for it in crates() if edits_of(it)]
+def named_in(words):
+    """Of each crate that is named, or some of whose edits are, the names of those edits: none stand for all. Without words all crates."""
+    named = {it: set() for it in crates() if not words and edits_of(it)}
+    for word in words:
+        crate, _, edit = word.partition("/")
+        named.setdefault(crate, set()).update([edit] if edit else [])
+    return named
+
+
+def main(*words):
+    is_unedited = "--unedited" in words
+    named = named_in([it for it in words if it != "--unedited"])
+    unknown = [f"{crate}/{it}" for crate, names in named.items() for it in sorted(names - {it.name for it in edits_of(crate)})]
+    print(*(f"there is no edit {it}" for it in unknown), sep="\n", end="\n" if unknown else "")
     with ThreadPoolExecutor(len(os.sched_getaffinity(0))) as pool:
         if is_unedited:
-            done = list(pool.map(lambda it: say_unedited(it, built_here), names))
+            done = list(pool.map(lambda it: say_unedited(it, built_here), named))
         else:
-            series = [(crate, edits) for crate in names for edits in series_of(crate)]
+            series = [(crate, edits) for crate, names in named.items() for edits in series_of(crate, names)]
             done = list(pool.map(lambda it: say_tried(*it, built_here), series))
-    passed, missed = sum(it[0] for it in done), sum(it[1] for it in done)
+    passed, missed = sum(it[0] for it in done), sum(it[1] for it in done) + len(unknown)
     print(f"edits: {passed} passed, {missed} failed")
     return missed > 0
 
