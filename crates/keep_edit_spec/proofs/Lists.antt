@@ -106,8 +106,6 @@ pub mod HeaderLeft
 pub mod PathsBefore
 pub mod StillRemovesHeader
 pub mod HeaderRunLaws
-pub mod StillRemovesSection
-pub mod SectionRunLaws
 pub mod OneValue
 pub mod ValueSet
 pub mod SetTwice

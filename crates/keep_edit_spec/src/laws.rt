@@ -10,7 +10,6 @@ ghost use Rattle.keep_edit_spec.specs.KeyvalLines as keyvals;
 ghost use Rattle.keep_edit_spec.specs.Laws as spec;
 ghost use Rattle.keep_edit_spec.specs.RemovedHeaders as taken;
 ghost use Rattle.keep_edit_spec.specs.RemovedLines as removed;
-ghost use Rattle.keep_edit_spec.specs.RemovedSections as sections;
 ghost use Rattle.keep_edit_spec.specs.RenamedKeys as keys;
 ghost use Rattle.keep_edit_spec.specs.RenameLists as renames;
 ghost use Rattle.keep_edit_spec.specs.RunLists as lists;
@@ -164,17 +163,9 @@ pub fn inserts_add_items()
     ensures { items.ItemRunGoesOn }
 {}
 
-/// A `remove` of a table with its header makes the same change after another of these made its own. So a run of them is
-/// known by the document before it.
-pub fn removes_take_sections()
-    ensures still { sections.StillRemovesSection }
-    ensures none { sections.NoneIsSectionRun }
-    ensures run { sections.SectionRunGoesOn }
-{}
-
-/// So does a `remove` of a table or of an element of an array of tables after one of the other, if the path is followed
-/// that its node has in the meantime: after an element the later ones of its array have numbers one lower. So a run of
-/// them is known by the document before it.
+/// A `remove` of a table or of an element of an array of tables, each with its header, makes the same change after
+/// another of these made its own, if the path is followed that its node has in the meantime: after an element the later
+/// ones of its array have numbers one lower. So a run of them is known by the document before it.
 pub fn removes_take_headers()
     ensures still { taken.StillRemovesHeader }
     ensures none { taken.NoneIsHeaderRun }
