@@ -7,10 +7,10 @@ Edits that come in a row are made at once, from some 20 of them on, or from thre
 to 1,000, by the document before all of them. So each list (of 80 edits, one in twenty of 1,100; RUNS of them, 100 if not given)
 is given to the program as one script, and then each edit as a script of its own, on what the one before gave: so it is made by
 itself. Texts, faults and the number of the refused edit have to be the same.
-Most lists are of edits of one kind, a quarter of them of edits of all kinds in turn. A fifth of the lines that are changed have
+Most lists are of edits of one kind, a fifth of them of edits of all kinds in turn. A fifth of the lines that are changed have
 a comment. Values are set and keys renamed again, values are set that were inserted, and edits of entries come back to a value,
 which goes on in the row. Among the edits are some that end it: one that is refused, any other of a path that was there before,
-one that is in another's.
+one that is in another's, one that adds a line at the place of a line of another table.
 """
 import sys
 from pathlib import Path
@@ -45,7 +45,7 @@ class Run:
         self.text = document_of(self.random, lambda it: not self.ran([b"check"], it).returncode)
         self.entries = [tuple(it.rsplit(b"\t", 1)) for it in self.ran([b"list"], self.text).stdout.split(b"\n")[:-1]]
         kinds = (self.inserts, self.items, self.removes, self.sections, self.sets, self.renames, self.tables, self.elements)
-        kinds += (self.gone_elements, self.gone_below)
+        kinds += (self.gone_elements, self.gone_below, self.dotted)
         kinds += (self.parts,) + 3 * (self.all_kinds,)
         self.edits = self.random.choice(kinds)()
 
@@ -74,6 +74,54 @@ class Run:
                     key += b"." + b".".join(random.choice(KEYS) for _ in range(random.choice((1, 1, 2, 3))))
                 given.append(table + b"." + key if table else key)
                 edits.append(edit_of(b"insert", given[-1], value_of(random)))
+        return edits
+
+    def with_dotted(self):
+        """New tables that dotted keys make, of the root, a table with a header and an element: their paths, of each such table and
+        those in it. Their lines come in turn, so that one line may be the last of several."""
+        random, nests, more, top = self.random, [], [], b""
+        for holder in (b"", b"dot", b"dots[0]"):
+            lines = []
+            for number in range(random.choice((1, 2, 4))):
+                nests.append([b".".join(filter(None, (holder, b"d_%d" % number)))])
+                lines.append(b"d_%d.k" % number)
+                for name in random.choice(((), (b"in",), (b"in", b"deep"))):
+                    nests[-1].append(nests[-1][-1] + b"." + name)
+                    lines.append(nests[-1][-1][len(holder) + 1 if holder else 0 :] + b".k")
+                lines += [b"plain_%d" % number] * random.choice((0, 1))
+            random.shuffle(lines)
+            ends = [random.choice((b"", b"", b"  # some")) + b"\n" for _ in lines]
+            body = b"".join(b"%s = %s%s" % (key, value_of(random), end) for key, end in zip(lines, ends))
+            top, more = (body, more) if not holder else (top, [*more, random.choice(GAPS) + b"[%s]\n" % holder + body])
+        text = b"".join((top, self.text, b"" if self.text.endswith(b"\n") or not self.text else b"\n", *more))
+        text = text.replace(b"[dots[0]]", b"[[dots]]")
+        text = text if random.random() < 0.9 else text.rstrip(b"\n")
+        if self.ran([b"check"], text).returncode:
+            return []
+        self.text = text
+        return nests
+
+    def dotted(self):
+        """New keys of tables that dotted keys make, in most lists of one for each line; now and then of a table that an insert of
+        several keys made, which half of the lists have, or of anything else; rarely a key that was given before. In a third of the
+        lists keys of what holds these tables come between, at the ends of bodies."""
+        random, edits, given = self.random, [], []
+        nests, several = self.with_dotted(), random.choice((0, 0.3))
+        if not nests:
+            return self.inserts()
+        is_one_each = random.random() < 0.7
+        tables = [path for nest in nests for path in ([random.choice(nest)] if is_one_each else nest)]
+        tables = random.sample(tables, random.choice((1, len(tables), len(tables))))
+        tables += random.choice(([], [], [b"", b"dot", b"dots[0]"]))
+        for number in range(self.many):
+            table = random.choice(tables if random.random() < 0.998 else [b"", *(path for path, _ in self.entries)])
+            if given and random.random() < 0.02:
+                table = random.choice(given).rpartition(b".")[0]
+            key = random.choice(KEYS) + b"_%d" % (number if random.random() < 0.99 else number // 2)
+            if random.random() < several:
+                key += b"." + b".".join(random.choice(KEYS) for _ in range(random.choice((1, 1, 2, 3))))
+            given.append(table + b"." + key if table else key)
+            edits.append(edit_of(b"insert", given[-1], value_of(random)))
         return edits
 
     def items(self):

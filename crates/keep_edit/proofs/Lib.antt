@@ -26,5 +26,6 @@ mod ItemSteps
 mod GoneLaws
 mod GoneFound
 mod SectionSteps
+mod LineSteps
 mod ValueAfterLaws
 mod OpenedLaws

@@ -11,3 +11,4 @@ pub mod Seen
 pub mod SeenPaths
 pub mod ValueAfter
 pub mod Again
+pub mod AddedLines

@@ -41,6 +41,7 @@
 //! own (`Memory`, or `AllocError`), after which nothing that was borrowed has changed.
 #![tactic(auto)]
 
+mod added_lines;
 mod again;
 mod alike;
 mod at_once;

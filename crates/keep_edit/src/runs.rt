@@ -27,13 +27,13 @@ use crate::seen_paths::SeenPaths;
 use crate::value_after::value_after;
 use keep_edit_plan::{Edit, Planner, TextEdit, TextEdits, first_steps};
 use keep_edit_spec::EditFault;
-use keep_rules::{Origin, Path, ValueText};
+use keep_rules::{Path, ValueText};
 use keep_syntax::Span;
 use memchr::memchr;
 use std::alloc::Global;
 
 /// No more edits than these are made at once.
-const MOST_AT_ONCE: usize = 1000;
+pub const MOST_AT_ONCE: usize = 1000;
 /// So many pairs of edits are compared in a run, and one more for each byte of the text: to compare more takes longer
 /// than to read the text anew.
 const PAIRS: usize = 5000;
@@ -175,36 +175,39 @@ impl Document {
             };
         }
         let run = self.changes_by(edits, first);
-        if run.end > first
-            && (self.is_worth_reading(&edits[first..run.end])
-                || !self.is_other_kind(&edits[first], edits.get(run.end)))
-        {
+        if run.end > first && self.is_worth_reading(&edits[first..run.end]) {
             return run;
         }
-        let others = self.others_by(edits, first, run.end > first);
-        if others.end > run.end {
-            return others;
+        match self.others_by(edits, first, run.end) {
+            Some(others) if others.end > run.end => others,
+            _ => run,
         }
-        run
     }
 
-    /// The same as far as they are of several kinds, if the first is known to leave others alone; else as far as they
-    /// remove tables and elements with their headers.
-    fn others_by(&self, edits: &[Edit], first: usize, is_known: bool) -> Run
+    /// The same beyond the edit with number `end`, which ends those of one kind: as far as they add lines, if that one
+    /// may add one to a table that dotted keys make; as far as they remove tables and elements with their headers, if
+    /// none comes before that one; or as far as they are of several kinds. None where they are not tried.
+    fn others_by(&self, edits: &[Edit], first: usize, end: usize) -> Option<Run>
         requires { first < length edits.now }
-        ensures few { (first ≤ result.end) × (result.end ≤ length edits.now) }
-        ensures made { MakeChanges edits.now first result.end self.now result.changes }
-        ensures within { All (IsChangeIn self.now.text) result.changes }
+        ensures few { IfSome result (λ run. (first ≤ run.end) × (run.end ≤ length edits.now)) }
+        ensures made { IfSome result (λ run. MakeChanges edits.now first run.end self.now run.changes) }
+        ensures within { IfSome result (λ run. All (IsChangeIn self.now.text) run.changes) }
     {
-        if is_known {
-            self.changes_of_kinds(edits, first)
+        let edit = &edits[first];
+        let next = edits.get(end);
+        let changes = if self.may_be_lines(edit, next) {
+            self.lines_by(edits, first)
+        } else if end == first {
+            self.sections_by(edits, first)
+        } else if self.is_other_kind(edit, next) {
+            return Some(self.changes_of_kinds(edits, first));
         } else {
-            let sections = self.sections_by(edits, first);
-            Run {
-                end: first + sections.len(),
-                changes: sections,
-            }
-        }
+            return None;
+        };
+        Some(Run {
+            end: first + changes.len(),
+            changes,
+        })
     }
 
     /// What the edits from number `first` on change in the text, as far as all are of one kind and each makes its
@@ -405,7 +408,7 @@ impl Document {
     }
 
     /// How an edit is seen by those that are made at once with it.
-    fn seen_as(&self, edit: &Edit) -> SeenAs
+    pub(crate) fn seen_as(&self, edit: &Edit) -> SeenAs
         ensures { IsSeenAs self.now edit.now result }
     {
         match edit {
@@ -425,7 +428,7 @@ impl Document {
     }
 
     /// The outline of an edit of this document.
-    fn outline_of<'a>(&self, edit: &'a Edit) -> Outline<'a> {
+    pub(crate) fn outline_of<'a>(&self, edit: &'a Edit) -> Outline<'a> {
         Outline::of(edit, self.seen_as(edit))
     }
 
@@ -434,6 +437,15 @@ impl Document {
         match other {
             Some(other) => !self.outline_of(edit).is_like(&self.outline_of(other)),
             None => false,
+        }
+    }
+
+    /// Whether an edit inserts, and so does the second, which is there and may add a line to a table that dotted keys
+    /// make.
+    fn may_be_lines(&self, edit: &Edit, next: Option<&Edit>) -> bool {
+        match (edit, next) {
+            (Edit::Insert(_, _), Some(Edit::Insert(path, _))) => self.is_in_dotted(path),
+            _ => false,
         }
     }
 

@@ -5,7 +5,7 @@
 -- were written where the text is not open: a newline has bytes (`newline_some`). If it came before the first line, it
 -- would be put where the lines start.
 --
--- Theorems: `line_is_added`; `at_boundary`: it comes between characters.
+-- Theorems: `line_is_added`; `at_boundary`: it comes between characters; `not_past_last`.
 use Rattle.std.proofs.Common.{◌≡◌, ◌⊎◌, ℕ, zero, suc, ◌+◌, ◌-◌, ◌<◌, ◌≤◌, Bool, true, false, not, cond, List, [], ◌∷◌}
 use Rattle.std.proofs.Common.{◌++◌, length, take, drop, refl, sym, ap, subst, ◌∙◌, arith, append_assoc, length-append}
 use Rattle.std.proofs.Common.{Option, Some, None, Result, Ok, Err, OnOk, inl, inr, map, ◌≢◌}
@@ -114,6 +114,40 @@ keyval_long k ks v newline =
       length-append (text_of name) (text_of (value_leaves v)),
     )
 
+-- Where the text is not open, nothing comes before the keyval, so it is not put after the last line.
+pub not_past_last : (d : ProfiledText) (s : Document) (path : List Part) (v : Value) (n at : ℕ) (k : List ℕ)
+    (ks : List (List ℕ)) (line : List ℕ)
+    → IsTextOfTree d s → change s (insert path v) ≡ at_line s n (keyval (name_with (k ∷ ks)) v ∷ [])
+    → line ≡ (new_line_at s at (k ∷ ks) v).new → place s (insert path v) ≡ put_in at line
+    → false ≡ is_open (drop (lines_start s) (take at d.text)) → n ≤ length s.ended
+not_past_last d s path v n at k ks line read changes line_is is closed = elim (cases_lt (length s.ended) n) [
+  | inl past ↦ absurd (longer past)
+  | inr few ↦ few
+]
+  where
+    longer : length s.ended < n → ⊥
+    longer past =
+        let newline : Written = newline_of s in
+        let new : List Ended = new_line newline (keyval (name_with (k ∷ ks)) v) ∷ [] in
+        let missing : missing_newline (text s) newline.text (lines_start s) at ≡ [] =
+        ap (λ (b : Bool). cond b newline.text [])
+        (ap (λ (t : List ℕ). is_open (drop (lines_start s) (take at t))) (sym read.reads.spelled) ∙ sym closed) in
+        let given : line ≡ keyed_text (k ∷ ks) v ++ newline.text =
+        line_is ∙ ap (λ (t : List ℕ). t ++ (keyed_text (k ∷ ks) v ++ newline.text)) missing in
+        let more : line ≡ newline.text ++ ended_text new =
+        ap (λ (p : Place). p.new) (sym is)
+        ∙ ap (λ (o : Option (Changed Document)). (place_of (changed_or_same s o)).new) changes
+        ∙ past_new n new newline s.ended s.last past in
+        omega (
+          arith,
+          newline_some d.profile s read.reads.valid,
+          ap length given,
+          ap length more,
+          keyval_long k ks v newline,
+          length-append (keyed_text (k ∷ ks) v) newline.text,
+          length-append newline.text (ended_text new),
+        )
+
 -- ---- where the lines start
 
 take_none : (es : List Ended) → take 0 es ≡ []
@@ -165,47 +199,13 @@ module _ (d : ProfiledText) (syntax : Syntax) (nodes : NodeInfos) (path : List P
   texts_are : keys_in (drop i.from path) ≡ new.first ∷ new.more
   texts_are = ap (λ (n : ℕ). keys_in (drop n path)) from_holder ∙ new.keys
 
-  -- what the edit writes
-  written : (n : ℕ) → end_of s a ≡ Some n → (place s (insert path v)).new
-      ≡ (put_lines n (new_line (newline_of s) (new_keyval (drop i.from path) v) ∷ []) (newline_of s) s.ended s.last).new
-  written n ends =
+  -- what the edit changes
+  changes : (n : ℕ) → end_of s a ≡ Some n
+      → change s (insert path v) ≡ at_line s n (keyval (name_with (new.first ∷ new.more)) v ∷ [])
+  changes n ends =
       let is : change s (insert path v) ≡ at_line s n (new_keyval (drop (length a) path) v ∷ []) =
       rw (no_item, change_insert) (rw (ends, insert_line) refl) in
-      ap (λ (o : Option (Changed Document)). (place_of (changed_or_same s o)).new) is
-      ∙ ap (λ (m : ℕ).
-      (put_lines n (new_line (newline_of s) (new_keyval (drop m path) v) ∷ []) (newline_of s) s.ended s.last).new)
-      (sym from_holder)
-
-  -- Where the text is not open, nothing comes before the keyval, so the line is not after the last.
-  not_past : (n at : ℕ) (line : List ℕ) → end_of s a ≡ Some n
-      → line ≡ (new_line_at s at (keys_in (drop i.from path)) v).new
-      → false ≡ is_open (drop (lines_start s) (take at d.text)) → place s (insert path v) ≡ put_in at line
-      → length s.ended < n → ⊥
-  not_past n at line ends line_is closed is past =
-      let k : List ℕ = new.first in
-      let ks : List (List ℕ) = new.more in
-      let newline : Written = newline_of s in
-      let missing : missing_newline (text s) newline.text (lines_start s) at ≡ [] =
-      ap (λ (b : Bool). cond b newline.text [])
-      (ap (λ (t : List ℕ). is_open (drop (lines_start s) (take at t))) (sym read.reads.spelled) ∙ sym closed) in
-      let given : line ≡ keyed_text (k ∷ ks) v ++ newline.text =
-      line_is
-      ∙ ap (λ (t : List ℕ). t ++ (keyed_text (keys_in (drop i.from path)) v ++ newline.text)) missing
-      ∙ ap (λ (l : List (List ℕ)). keyed_text l v ++ newline.text) texts_are in
-      let more : line ≡ newline.text ++ ended_text (new_line newline (keyval (name_with (k ∷ ks)) v) ∷ []) =
-      ap (λ (p : Place). p.new) (sym is) ∙ written n ends
-      ∙ past_new n (new_line newline (new_keyval (drop i.from path) v) ∷ []) newline s.ended s.last past
-      ∙ ap (λ (l : List (List ℕ)). newline.text ++ ended_text (new_line newline (keyval (name_with l) v) ∷ []))
-      texts_are in
-      omega (
-        arith,
-        newline_some d.profile s read.reads.valid,
-        ap length given,
-        ap length more,
-        keyval_long k ks v newline,
-        length-append (keyed_text (k ∷ ks) v) newline.text,
-        length-append newline.text (ended_text (new_line newline (keyval (name_with (k ∷ ks)) v) ∷ [])),
-      )
+      is ∙ ap (λ (l : List (List ℕ)). at_line s n (keyval (name_with l) v ∷ [])) new.keys
 
   -- it comes between characters
   pub at_boundary : (at : ℕ) → at ≡ body_end_of s header → IsCharBoundary d.text at
@@ -240,10 +240,9 @@ module _ (d : ProfiledText) (syntax : Syntax) (nodes : NodeInfos) (path : List P
       in
       let put : place s (insert path v) ≡ put_in at line = placed ∙ ap (put_in at) (sym is) in
       let (number, ends) = body_ends in
-      let few : number ≤ length s.ended = elim (cases_lt (length s.ended) number) [
-        | inl past ↦ absurd (not_past number at line ends line_is closed put past)
-        | inr few ↦ few
-      ] in
+      let few : number ≤ length s.ended =
+      not_past_last d s path v number at new.first new.more line read (changes number ends)
+      (line_is ∙ ap (λ (l : List (List ℕ)). (new_line_at s at l v).new) texts_are) put closed in
       record {
         utf8 = keys_utf8 path utf8;
         given = record { valid = value.reads.valid; obeys = value.obeys };

@@ -37,6 +37,7 @@ pub mod PathNumberLaws
 pub mod LastLineLaws
 pub mod LineChangeLaws
 pub mod AddedLineLaws
+pub mod AddedDottedLaws
 pub mod ItemTexts
 pub mod AddedItemLaws
 pub mod LineValueLaws

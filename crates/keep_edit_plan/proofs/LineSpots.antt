@@ -2,7 +2,7 @@
 -- requires of the spot holds: its header is one of the statements, its keyval's line has an end, and the steps that are
 -- written are keys.
 --
--- Theorems: `body_ready`, `line_ready`, `section_ready`.
+-- Theorems: `body_ready`, `line_ready`, `section_ready`; `dotted_there`: after which line, where dots lead on.
 use Rattle.std.proofs.Common.{◌≡◌, ℕ, ◌<◌, ◌≤◌, true, false, List, ◌∷◌, length, take, drop, slice_get, refl, sym, ap}
 use Rattle.std.proofs.Common.{subst, ◌∙◌, arith, Option, Some, None, inl, inr}
 use Rattle.std.specs.Prelude.{IsCharBoundary}
@@ -117,11 +117,14 @@ module _ (d : ProfiledText) (path : List Part) (v : Value) (s : Document) (read 
     ]);
   }
 
+  pub dotted_there : (from value : ℕ) → IsKeyvalSpot a s from (AfterLine value) → IsDottedPlaced s path v from value
+  dotted_there from value h =
+      dotted_placed d.profile limit s path v read.reads.valid (rules_of_document s read.obeys) no_item allowed from
+      value h.0 (base_at a s from h.1) h.2
+
   pub line_ready : (from value : ℕ) → IsKeyvalSpot a s from (AfterLine value) → IsLineReady path v s from value
   line_ready from value h =
-      let p : IsDottedPlaced s path v from value =
-      dotted_placed d.profile limit s path v read.reads.valid (rules_of_document s read.obeys) no_item allowed from
-      value h.0 (base_at a s from h.1) h.2 in
+      let p : IsDottedPlaced s path v from value = dotted_there from value h in
       record {
         at = p.statement.line.end;
         ends = ap (option_and_then (line_end_of (syntax.statements s))) p.here ∙ by_owner p.own.owner p.line p.owned

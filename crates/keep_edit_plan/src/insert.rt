@@ -20,6 +20,7 @@ ghost use Rattle.keep_edit_plan.specs.Inserting.{IsInsertionOf, IsPutIn, last_ke
 
 mod added;
 mod change;
+mod dotted_line;
 mod keys;
 mod lines;
 mod numbers;

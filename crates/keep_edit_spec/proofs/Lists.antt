@@ -3,7 +3,9 @@ pub mod Places
 pub mod BodyEnds
 pub mod SaidOfPrefixes
 pub mod NewHolder
+pub mod NewPaths
 pub mod OtherPaths
+pub mod PutsKeyval
 pub mod StillAdds
 pub mod SetAllowed
 pub mod SetApart
@@ -124,3 +126,13 @@ pub mod ValueAdded
 pub mod OneInsert
 pub mod ExchangedEdits
 pub mod InsertLists
+pub mod OneLineMore
+pub mod DottedLine
+pub mod DottedSaid
+pub mod DottedLeads
+pub mod DottedAfter
+pub mod StillAddsDotted
+pub mod DottedAfterLine
+pub mod LineAfterDotted
+pub mod StillAddsLineTo
+pub mod LineRunLaws

@@ -31,3 +31,4 @@ pub mod RunLists
 pub mod EntryChanges
 pub mod RenameLists
 pub mod InsertLists
+pub mod DottedLines

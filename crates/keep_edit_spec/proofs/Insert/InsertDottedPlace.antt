@@ -27,7 +27,7 @@ use Rattle.keep_meaning.specs.Meaning.{lines, mentions_in}
 use Rattle.keep_meaning.specs.Counts.{is_value, numbered_in}
 use Rattle.keep_meaning.specs.Nodes.{numbered_at, last_number, statement_number, value_number, is_define, is_begun}
 use Rattle.keep_meaning.specs.Nodes.{is_dotted, is_element, is_through}
-use Rattle.keep_edit_spec.specs.Edits.{insert, at_line, name_with}
+use Rattle.keep_edit_spec.specs.Edits.{insert, at_line, change, end_of, name_with}
 use Rattle.keep_edit_spec.specs.Insertion.{line_at}
 use Rattle.keep_edit_spec.specs.Lines.{newline_of, last_line, begins, leads_dotted, reading_at}
 use Rattle.keep_edit_spec.specs.Look.{holder, is_index, item_number, keys_in}
@@ -140,9 +140,16 @@ value_firm s b n value e = unsaid_of_none is_value value_number b s (dotted_node
 
 -- ---- the place
 
--- The keyval is written after the line of the last one that continues from the holder, with the keys of the path from
--- there on.
+-- No header defines the holder. The keyval is written after the line of the last one that continues from it, with the
+-- keys of the path from there on.
 pub record IsDottedPlaced (s : Document) (path : List Part) (v : Value) (from number : ℕ) : Type 0 where
+  pub bare : end_of s (holder path (mentions_in s)) ≡ None
+  pub last : ℕ
+  pub found : last_line (leads_dotted (holder path (mentions_in s))) start (lines s) ≡ Some last
+  pub first : List ℕ
+  pub more : List (List ℕ)
+  pub texts : keys_in (drop from path) ≡ first ∷ more
+  pub changes : change s (insert path v) ≡ at_line s (suc last) (keyval (name_with (first ∷ more)) v ∷ [])
   pub own : ValueInfo
   pub here : slice_get (syntax.values s) number ≡ Some own
   pub line : ℕ
@@ -174,6 +181,7 @@ module _ (profile : Profile) (limit : ℕ) (s : Document) (path : List Part) (v 
       let begun : last_line (begins a) start (lines s) ≡ None =
       none_of (last_line (begins a) start (lines s))
       (λ n e. unheaded number (headed_at a s n e).number node (headed_at a s n e).headed) in
+      let bare : end_of s a ≡ None = no_end s a (λ e. no_root (subst EndsInKey e ends)) begun in
       let whole : a ++ drop (length a) path ≡ path = ap (λ (l : List Part). a ++ l) new.rest ∙ sym new.whole in
       let rest : List Part = map key d.base.from.prefix ++ map key (new.first ∷ new.more) in
       let cut : drop from path ≡ key d.base.from.first ∷ rest =
@@ -186,7 +194,18 @@ module _ (profile : Profile) (limit : ℕ) (s : Document) (path : List Part) (v 
       let written : keys_in (drop (length b) (a ++ drop (length a) path)) ≡ d.base.from.first ∷ keys_in rest =
       ap (λ (n : ℕ). keys_in (drop n (a ++ drop (length a) path))) (sym length_is)
       ∙ ap (λ (l : List Part). keys_in (drop from l)) whole ∙ keys in
+      let changes : change s (insert path v)
+      ≡ at_line s (suc i) (keyval (name_with (d.base.from.first ∷ keys_in rest)) v ∷ []) =
+      change_there s path v i no_item bare found
+      ∙ ap (λ (l : List (List ℕ)). at_line s (suc i) (keyval (name_with l) v ∷ [])) written in
       record {
+        bare = bare;
+        last = i;
+        found = found;
+        first = d.base.from.first;
+        more = keys_in rest;
+        texts = keys;
+        changes = changes;
         own = d.own;
         here = ap (slice_get (syntax.values s)) (sym same) ∙ d.here;
         line = d.line;
@@ -202,8 +221,7 @@ module _ (profile : Profile) (limit : ℕ) (s : Document) (path : List Part) (v 
             (suc i) valid
             (line_placed s (insert path v) (suc i) d.base.from.first (keys_in rest) v
             (open_before profile s (suc i) valid d.before)
-            (change_there s path v i no_item (no_end s a (λ e. no_root (subst EndsInKey e ends)) begun) found
-            ∙ ap (λ (l : List (List ℕ)). at_line s (suc i) (keyval (name_with l) v ∷ [])) written)
+            changes
             ∙ ap (λ (l : List (List ℕ)). line_at (text s) (newline_of s).text (bom_width s) (line_begins s (suc i)) l v)
             (sym keys)
             ∙ ap (λ (n : ℕ). line_at (text s) (newline_of s).text (bom_width s) n (keys_in (drop from path)) v)

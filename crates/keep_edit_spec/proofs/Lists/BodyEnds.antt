@@ -1,10 +1,10 @@
--- Where bodies end after an insert that adds a line.
+-- Where bodies end once there is one keyval line more, where a body ends.
 --
--- The insert puts one keyval line before the line at which its holder's body ends (`edited_is` of Places). A body's
--- length is counted up to a header, so of the bodies only the holder's can become longer: each other body ends before
--- a header at or before that line, or begins after it (`cut_at`). So an end moves as a line does (`end_moves`).
+-- A body's length is counted up to a header, so of the bodies only that one can become longer: each other body ends
+-- before a header at or before that line, or begins after it (`cut_at`). So an end moves as a line does (`end_moves`),
+-- also where lines are cut elsewhere so that each body's length moves so (`IsCut`).
 --
--- Theorems: `end_stays`, `closed_stays`; `header_few`: before a header.
+-- Theorems: `cut_at`, `end_moves`; `header_few`: before a header; `lines_put`: the lines then.
 use Rattle.std.proofs.Common.{◌≡◌, ℕ, zero, suc, ◌+◌, ◌<◌, ◌≤◌, Bool, true, false, cond, List, [], ◌∷◌, ◌++◌, length}
 use Rattle.std.proofs.Common.{map, take, drop, refl, sym, ap, ap₂, ◌∙◌, append_assoc, length-append, arith}
 use Rattle.std.proofs.Common.{Option, Some, None, inl, inr}
@@ -12,19 +12,15 @@ use Rattle.std.specs.Prelude.{⊤}
 use Rattle.std.specs.Option.{option_map}
 use Rattle.std.proofs.lemmas.Bool.{and_parts, cases_lt, lt-ltb, le-ltb}
 use Rattle.std.proofs.lemmas.List.{take-append-drop, length-take-le, drop_at}
-use Rattle.keep_types.specs.declared.leaf.Profile.{Profile}
 use Rattle.keep_syntax.specs.Tree.{Name, Value, Content, blank, keyval, header, element, Line, Ended, Document}
 use Rattle.keep_path.specs.Path.{Part, same_path}
 use Rattle.keep_meaning.specs.Marks.{Reading, start}
-use Rattle.keep_meaning.specs.Meaning.{after_line, reading_after_lines, line_of, lines, mentions_in}
-use Rattle.keep_edit_spec.specs.Edits.{edited_document, end_of, insert, name_with}
+use Rattle.keep_meaning.specs.Meaning.{after_line, reading_after_lines, line_of, lines}
+use Rattle.keep_edit_spec.specs.Edits.{end_of}
 use Rattle.keep_edit_spec.specs.Lines.{last_line, begins, is_header, body_length, body_end}
-use Rattle.keep_edit_spec.specs.Lines.{more_lines, plain_line, new_line, newline_of}
-use Rattle.keep_edit_spec.specs.Look.{holder}
+use Rattle.keep_edit_spec.specs.Lines.{more_lines, plain_line}
 use Rattle.keep_edit_spec.proofs.Common.BodyEnd.{last_found, drop_after, take_before, body_few}
-use Rattle.keep_edit_spec.specs.AddedLines.{AddsLine}
-use Rattle.keep_edit_spec.specs.TextChanges.{TextChange}
-use Rattle.keep_edit_spec.proofs.Lists.Places.{edited_is, later_line}
+use Rattle.keep_edit_spec.proofs.Lists.Places.{later_line}
 
 pub later_before : (n i : ℕ) → i < n → later_line n i ≡ i
 later_before n i h = rw (lt-ltb i n h) refl
@@ -38,8 +34,15 @@ later_suc n i = elim (cases_lt i n) [
   | inr g ↦ ap suc (later_from n i g) ∙ sym (later_from (suc n) (suc i) (omega (arith, g)))
 ]
 
-later_few : (n i m : ℕ) → i ≤ m → later_line n i ≤ suc m
+pub later_few : (n i m : ℕ) → i ≤ m → later_line n i ≤ suc m
 later_few n i m h = elim (cases_lt i n) [
+  | inl l ↦ omega (arith, h, later_before n i l)
+  | inr g ↦ omega (arith, h, later_from n i g)
+]
+
+-- a line with lines before it has some before it later on
+pub later_positive : (n i : ℕ) → 0 < i → 0 < later_line n i
+later_positive n i h = elim (cases_lt i n) [
   | inl l ↦ omega (arith, h, later_before n i l)
   | inr g ↦ omega (arith, h, later_from n i g)
 ]
@@ -143,15 +146,15 @@ end_cons a r l ls = by (last_line (begins a) (after_line r l) ls) (begins a r l)
 -- ---- one line more, and the ends of bodies
 
 module _ (name : Name) (v : Value) where
-  abbrev added : Line
+  abbrev pub added : Line
   added = plain_line (keyval name v)
 
   -- The length of the body that these lines begin moves as the number of a line.
-  abbrev Moves : List Line → List Line → Type 0
+  abbrev pub Moves : List Line → List Line → Type 0
   Moves ls more = body_length (ls ++ added ∷ more) ≡ later_line (length ls) (body_length (ls ++ more))
 
   -- and so does that of each body that begins among them
-  abbrev EachMoves : List Line → List Line → Type 0
+  abbrev pub EachMoves : List Line → List Line → Type 0
   EachMoves [] more = ⊤
   EachMoves (l ∷ ls) more = (is_header l.content ≡ true → Moves ls more) × EachMoves ls more
 
@@ -235,13 +238,13 @@ body_cut ls =
     }
 
 -- lines cut at a line: with one more there, the ends of bodies move
-record IsCut (name : Name) (v : Value) (ls : List Line) (n : ℕ) : Type 0 where
-  first : List Line
-  more : List Line
-  was : ls ≡ first ++ more
-  number : n ≡ length first
-  moves : Moves name v first more
-  each : EachMoves name v first more
+pub record IsCut (name : Name) (v : Value) (ls : List Line) (n : ℕ) : Type 0 where
+  pub first : List Line
+  pub more : List Line
+  pub was : ls ≡ first ++ more
+  pub number : n ≡ length first
+  pub moves : Moves name v first more
+  pub each : EachMoves name v first more
 
 module _ (name : Name) (v : Value) where
   cut_after : (a : List Part) (ls : List Line) (o : Option ℕ) (n : ℕ) → last_line (begins a) start ls ≡ o
@@ -274,7 +277,7 @@ module _ (name : Name) (v : Value) where
         each = each_after name v f.here c.body c.more is c.ends f.pre;
       }
 
-  cut_at : (s : Document) (a : List Part) (n : ℕ) → end_of s a ≡ Some n → IsCut name v (lines s) n
+  pub cut_at : (s : Document) (a : List Part) (n : ℕ) → end_of s a ≡ Some n → IsCut name v (lines s) n
   cut_at s [] n h =
       let c : IsBodyCut (lines s) = body_cut (lines s) in
       let same : n ≡ body_length (lines s) = cc in
@@ -303,12 +306,11 @@ module _ (name : Name) (v : Value) where
   end_moves_among [] ls n c = ap (λ (m : ℕ). Some m) c.moves
   end_moves_among (p ∷ ps) ls n c = end_moves_in name v (p ∷ ps) start c.first c.more c.each
 
-  -- A document with one more line at the end of a body: each end is later as that line makes it.
-  pub end_moves : (s to : Document) (a : List Part) (n : ℕ) (other : List Part) (m : ℕ) → end_of s a ≡ Some n
+  -- A document with one more line at such a cut: each end is later as that line makes it.
+  pub end_moves : (s to : Document) (n : ℕ) (other : List Part) (m : ℕ) → IsCut name v (lines s) n
       → lines to ≡ take n (lines s) ++ added name v ∷ drop n (lines s) → end_of s other ≡ Some m
       → end_of to other ≡ Some (later_line n m)
-  end_moves s to a n other m ends are before =
-      let c : IsCut name v (lines s) n = cut_at s a n ends in
+  end_moves s to n other m c are before =
       let first : take n (lines s) ≡ c.first =
       ap₂ (λ (k : ℕ) (ls : List Line). take k ls) c.number c.was ∙ take_before c.first c.more in
       let more : drop n (lines s) ≡ c.more =
@@ -318,31 +320,3 @@ module _ (name : Name) (v : Value) where
       ∙ end_moves_among other (lines s) n c
       ∙ ap₂ (λ (k : ℕ) (ls : List Line). option_map (later_line k) (end_among other ls)) (sym c.number) (sym c.was)
       ∙ ap (option_map (later_line n)) (sym (end_is_among s other) ∙ before)
-
-pub end_stays : (profile : Profile) (limit : ℕ) (s : Document) (path : List Part) (value : Value) (l : TextChange)
-    (other : List Part) (more : Value) (m : TextChange)
-    → (h : AddsLine profile limit s path value l) → (k : AddsLine profile limit s other more m)
-    → end_of (edited_document s (insert path value)) (holder other (mentions_in s))
-    ≡ Some (later_line h.number k.number)
-end_stays profile limit s path value l other more m h k =
-    end_moves (name_with (h.text ∷ h.more)) value s (edited_document s (insert path value))
-    (holder path (mentions_in s)) h.number (holder other (mentions_in s)) k.number h.ends
-    (ap lines (edited_is profile limit s path value l h)
-    ∙ lines_put h.number (new_line (newline_of s) (keyval (name_with (h.text ∷ h.more)) value)) s.ended s.last h.closed)
-    k.ends
-
-pub closed_stays : (profile : Profile) (limit : ℕ) (s : Document) (path : List Part) (value : Value) (l : TextChange)
-    (other : List Part) (more : Value) (m : TextChange)
-    → (h : AddsLine profile limit s path value l) → (k : AddsLine profile limit s other more m)
-    → later_line h.number k.number ≤ length (edited_document s (insert path value)).ended
-closed_stays profile limit s path value l other more m h k =
-    let new : Ended = new_line (newline_of s) (keyval (name_with (h.text ∷ h.more)) value) in
-    let es : List Ended = s.ended in
-    omega (
-      arith,
-      later_few h.number k.number (length es) k.closed,
-      ap (λ (d : Document). length d.ended) (edited_is profile limit s path value l h),
-      length-append (take h.number es) (new ∷ drop h.number es),
-      length-append (take h.number es) (drop h.number es),
-      ap (λ (x : List Ended). length x) (take-append-drop h.number es),
-    )

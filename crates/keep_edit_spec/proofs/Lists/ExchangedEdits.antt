@@ -31,7 +31,7 @@ use Rattle.keep_edit_spec.proofs.Lists.AddedLine.{clear_under, path_clear}
 use Rattle.keep_edit_spec.proofs.Lists.ApartPaths.{apart_renamed}
 use Rattle.keep_edit_spec.proofs.Lists.ExchangedChanges.{IsAmong, all_before, all_from, all_join}
 use Rattle.keep_edit_spec.proofs.Lists.NewHolder.{apart_clear}
-use Rattle.keep_edit_spec.proofs.Lists.OtherPaths.{other_first_clear}
+use Rattle.keep_edit_spec.proofs.Lists.NewPaths.{InsertsKeys, first_clear, line_keys}
 use Rattle.keep_edit_spec.proofs.Lists.SetAfterRename.{set_after_rename}
 use Rattle.keep_edit_spec.proofs.Lists.StillMakes.{still_makes}
 
@@ -94,14 +94,18 @@ module _ (profile : Profile) (limit : ℕ) (s now : Document) (path : List Part)
       no_place : IsTrue (is_new_after f (set path more)) → ⊥
       no_place new = let no : false ≡ true = new in absurd cc
 
+  abbrev own : InsertsKeys profile limit s path value
+  own = line_keys profile limit s path value c h
+
   -- The set makes its change after an edit that the insert leaves alone.
   pub set_still : (f : Edit) (x z : TextChange) → MakesChange profile limit s f z
       → LeavesAlone (seen s (insert path value)) (seen s f) → IsSetStill f x
   set_still (insert other new) x z k alone =
       by_laws (insert other new) x
       (whole_apart profile limit s path value c h (first_new s other) (
-        other_first_clear profile limit s path value c h other new z k alone,
-        other_first_clear profile limit s other new z k path value c h (λ same. alone (sym same)),
+        first_clear profile limit s path value other new own (line_keys profile limit s other new z k) alone,
+        first_clear profile limit s other new path value (line_keys profile limit s other new z k) own
+            (λ same. alone (sym same)),
       ))
   set_still (remove other) x z k alone =
       by_laws (remove other) x (whole_apart profile limit s path value c h other alone)

@@ -4,8 +4,8 @@
 -- it is a node (`no_node`). The longest prefix that is a node is the one right before it, if that is one
 -- (`holder_whole`). It is one where a body of it ends (`body_node`).
 --
--- Theorems: `path_new`, `holder_here`; `fresh`; `apart_clear`: the path does not begin with one that is apart from the
--- first new key's.
+-- Theorems: `no_node`, `path_new`, `holder_here`; `fresh`; `apart_clear`: the path does not begin with one that is
+-- apart from the first new key's; `clear_longer`: a path that begins with neither of two paths.
 use Rattle.std.proofs.Common.{◌≡◌, ℕ, Bool, true, false, cond, ◌||◌, List, [], ◌∷◌, ◌++◌, map, refl, sym, ap, subst}
 use Rattle.std.proofs.Common.{◌∙◌, append_assoc, Option, Some, None, ◌⊎◌, inl, inr}
 use Rattle.std.specs.List.{list_any}
@@ -22,12 +22,23 @@ use Rattle.keep_edit_spec.specs.Runs.{AreApart}
 use Rattle.keep_edit_spec.specs.TextChanges.{TextChange}
 use Rattle.keep_edit_spec.proofs.Common.BodyEnd.{IsStated, end_is}
 use Rattle.keep_edit_spec.proofs.Common.InsertLaw.{fresh_disjoint, or_true}
+use Rattle.keep_edit_spec.proofs.Common.LineLaws.{beyond, prefix_cases, within_first}
 use Rattle.keep_edit_spec.proofs.Common.Runs.{AllOf, IsDisjoint, SomeOf, kinds_at-disjoint, same_path-refl}
 use Rattle.keep_edit_spec.proofs.Common.Runs.{strip-append}
 use Rattle.keep_edit_spec.proofs.Insert.KeysAtEnd.{path_goes_on, unsaid}
 use Rattle.keep_edit_spec.proofs.Insert.NewPath.{mapped, passing_map}
-use Rattle.keep_edit_spec.proofs.Lists.OtherPaths.{clear_longer}
+use Rattle.keep_edit_spec.proofs.Remove.Shift.{not_reached, unreached}
 use Rattle.keep_edit_spec.proofs.Lists.SaidOfPrefixes.{node_kinds, node_of}
+
+-- what begins with one of two paths, neither of which begins with the other, does not begin with the other
+pub clear_longer : (path other rest : List Part) → strip path other ≡ None → strip other path ≡ None
+    → strip path (other ++ rest) ≡ None
+clear_longer path other rest clear back = unreached path (other ++ rest) (λ u.
+    elim (prefix_cases path other rest u.0 u.1) [
+      | within_first v ↦ not_reached path other clear v
+      | beyond b bs e v ↦
+          (let no : None ≡ Some (b ∷ bs) = sym back ∙ ap (strip other) e ∙ strip-append other (b ∷ bs) in absurd cc)
+    ])
 
 -- ---- the longest prefix that passes, where none that is longer does
 
@@ -86,7 +97,7 @@ module _ (s : Document) (path a : List Part) (text : List ℕ) (more : List (Lis
     nothing_under : AllOf (IsDisjoint first) (mentions_in s)
     nothing_under = fresh_disjoint first (lines s) (a, text, refl) none
 
-    no_node : (r : List Part) → is_node (first ++ r) (mentions_in s) ≡ false
+    pub no_node : (r : List Part) → is_node (first ++ r) (mentions_in s) ≡ false
     no_node r =
         node_kinds (first ++ r) (mentions_in s)
         ∙ ap (node_of (first ++ r))

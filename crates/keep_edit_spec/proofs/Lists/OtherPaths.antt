@@ -2,14 +2,12 @@
 --
 -- All that the new line says is at the path of the first new key or under it (`new_under`), and nothing was there
 -- before (`none_there`). So of a path that does not begin with that one the same is said as before (`kinds_stay`).
--- Another path that can be inserted does not, if its own first new key has another path: neither of the two is below
--- the other, since each comes right after a node (`other_clear`). So the same is said of each of its prefixes, and its
--- holder, its first new key and its refusal stay (SaidOfPrefixes).
+-- Another path that can be inserted does not, if its own first new key has another path (NewPaths). So the same is said
+-- of each of its prefixes, and its holder and its refusal stay (SaidOfPrefixes).
 --
--- Theorems: `no_item`; `none_there`, `kinds_stay`, `node_stays`, `other_first_clear`; `holder_stays`, `first_stays`,
--- `refusal_stays`; `clear_longer`: a path that begins with neither of two paths.
-use Rattle.std.proofs.Common.{◌≡◌, ◌≢◌, ℕ, true, false, List, [], ◌∷◌, ◌++◌, length, map, take, refl, sym, ap}
-use Rattle.std.proofs.Common.{suc, subst, ◌∙◌, Option, None, Some, inl, inr}
+-- Theorems: `no_item`; `none_there`, `kinds_stay`, `node_stays`; `holder_stays`, `refusal_stays`.
+use Rattle.std.proofs.Common.{◌≡◌, ◌≢◌, ℕ, List, [], ◌∷◌, ◌++◌, map, take, refl, sym, ap}
+use Rattle.std.proofs.Common.{subst, ◌∙◌, Option, None}
 use Rattle.keep_types.specs.declared.leaf.Profile.{Profile}
 use Rattle.keep_syntax.specs.Tree.{Value, Document, keyval}
 use Rattle.keep_path.specs.Path.{Part, key, strip}
@@ -23,32 +21,19 @@ use Rattle.keep_edit_spec.specs.Look.{holder, item_number}
 use Rattle.keep_edit_spec.specs.Refusals.{refusal}
 use Rattle.keep_edit_spec.proofs.Common.BodyEnd.{IsBodyEnd, end_is}
 use Rattle.keep_edit_spec.proofs.Common.InsertLaw.{fresh_disjoint, keyed_under, under_both}
-use Rattle.keep_edit_spec.proofs.Common.LineLaws.{beyond, prefix_cases, within_first}
 use Rattle.keep_edit_spec.proofs.Common.PutLines.{IsPut, keyval_put}
-use Rattle.keep_edit_spec.proofs.Common.Runs.{AllOf, IsDisjoint, IsUnder, kinds_at-append, kinds_at-disjoint}
-use Rattle.keep_edit_spec.proofs.Common.Runs.{kinds_at-under, none_or_some, strip-append, strip-sound}
-use Rattle.keep_edit_spec.proofs.Insert.KeysAtEnd.{first_is, means, path_goes_on, unsaid}
-use Rattle.keep_edit_spec.proofs.Insert.NewPath.{new_path}
-use Rattle.keep_edit_spec.proofs.Remove.Shift.{disjoint_step, not_reached, unreached}
+use Rattle.keep_edit_spec.proofs.Common.Runs.{AllOf, IsDisjoint, IsUnder, kinds_at-append}
+use Rattle.keep_edit_spec.proofs.Common.Runs.{kinds_at-under}
+use Rattle.keep_edit_spec.proofs.Insert.KeysAtEnd.{first_is, means, unsaid}
 use Rattle.keep_edit_spec.specs.AddedLines.{AddsLine, first_new}
 use Rattle.keep_edit_spec.specs.TextChanges.{TextChange}
 use Rattle.keep_edit_spec.proofs.Lists.Places.{changes, item_none}
+use Rattle.keep_edit_spec.proofs.Lists.NewPaths.{InsertsKeys, before_clear, line_keys}
 use Rattle.keep_edit_spec.proofs.Lists.SaidOfPrefixes.{holder_same, node_kinds, node_of, refusal_same}
-use Rattle.keep_edit_spec.proofs.Lists.SetAllowed.{prefix_clear}
 
 pub no_item : (profile : Profile) (limit : ℕ) (s : Document) (path : List Part) (value : Value) (l : TextChange)
     (ms : List Mention) → AddsLine profile limit s path value l → item_number path ms ≡ None
 no_item profile limit s path value l ms h = item_none path (holder path (mentions_in s)) h.text h.more h.new ms
-
--- what begins with one of two paths, neither of which begins with the other, does not begin with the other
-pub clear_longer : (path other rest : List Part) → strip path other ≡ None → strip other path ≡ None
-    → strip path (other ++ rest) ≡ None
-clear_longer path other rest clear back = unreached path (other ++ rest) (λ u.
-    elim (prefix_cases path other rest u.0 u.1) [
-      | within_first v ↦ not_reached path other clear v
-      | beyond b bs e v ↦
-          (let no : None ≡ Some (b ∷ bs) = sym back ∙ ap (strip other) e ∙ strip-append other (b ∷ bs) in absurd cc)
-    ])
 
 -- ---- an insert that adds a line
 
@@ -116,62 +101,25 @@ module _ (profile : Profile) (limit : ℕ) (s : Document) (path : List Part) (va
   node_stays q e =
       node_kinds q (mentions_in edited) ∙ ap (node_of q) (kinds_stay q e) ∙ sym (node_kinds q ms)
 
-  -- no node begins with that path
-  pub node_clear : (q : List Part) → is_node q ms ≡ true → strip first q ≡ None
-  node_clear q node = elim (none_or_some (strip first q)) [
-    | inl e ↦ e
-    | inr r ↦
-        let same : q ≡ first ++ r.0 = strip-sound first q r.0 r.1 in
-        let no : is_node q ms ≡ false =
-        node_kinds q ms ∙ ap (node_of q) (kinds_at-disjoint first q r.0 ms none_there r.1)
-        ∙ ap (λ (p : List Part). node_of p [])
-        (same ∙ ap (λ (p : List Part). p ++ r.0) (first_is s path h.text h.more h.new))
-        ∙ no_root (holder path ms) r.0 in
-        absurd cc
-  ]
-    where
-      no_root : (a b : List Part) → node_of ((a ++ key h.text ∷ []) ++ b) [] ≡ false
-      no_root [] b = refl
-      no_root (x ∷ a) b = refl
-
-  -- nor does the path of another first new key
-  pub other_first_clear : (other : List Part) (more : Value) (m : TextChange) → AddsLine profile limit s other more m
-      → first ≢ first_new s other → strip first (first_new s other) ≡ None
-  other_first_clear other more m g differs =
-      let is : first_new s other ≡ holder other ms ++ key g.text ∷ [] = first_is s other g.text g.more g.new in
-      subst (λ (p : List Part). strip first p ≡ None) (sym is)
-      (disjoint_step first (holder other ms) (key g.text)
-      (node_clear (holder other ms)
-      (new_path profile limit ms other more (no_item profile limit s other more m ms g) g.allowed).node)
-      (λ e. differs (sym (is ∙ e))))
-
 -- ---- another path that can be inserted
 
 module _ (profile : Profile) (limit : ℕ) (s : Document) (path : List Part) (value : Value) (l : TextChange)
-    (h : AddsLine profile limit s path value l) (other : List Part) (more : Value) (m : TextChange)
-    (g : AddsLine profile limit s other more m) (differs : first_new s path ≢ first_new s other) where
+    (h : AddsLine profile limit s path value l) (other : List Part) (more : Value)
+    (g : InsertsKeys profile limit s other more) (differs : first_new s path ≢ first_new s other) where
   abbrev was : List Mention
   was = mentions_in s
 
   abbrev left : List Mention
   left = mentions_in (edited_document s (insert path value))
 
-  other_clear : strip (first_new s path) other ≡ None
-  other_clear =
-      subst (λ (p : List Part). strip (first_new s path) p ≡ None) (sym (path_goes_on s other g.text g.more g.new))
-      (clear_longer (first_new s path) (first_new s other) (map key g.more)
-      (other_first_clear profile limit s path value l h other more m g differs)
-      (other_first_clear profile limit s other more m g path value l h (λ e. differs (sym e))))
-
   prefix_same : (q rest : List Part) → other ≡ q ++ rest → kinds_at q left ≡ kinds_at q was
   prefix_same q rest is =
-      kinds_stay profile limit s path value l h q (prefix_clear (first_new s path) other q rest other_clear is)
+      kinds_stay profile limit s path value l h q
+      (before_clear profile limit s path value (line_keys profile limit s path value l h) other more g differs q rest
+      is)
 
   pub holder_stays : holder other left ≡ holder other was
   holder_stays = holder_same was left other g.text g.more g.new prefix_same
-
-  pub first_stays : first_new (edited_document s (insert path value)) other ≡ first_new s other
-  first_stays = ap (λ (a : List Part). take (suc (length a)) other) holder_stays
 
   pub refusal_stays : refusal profile limit (edited_document s (insert path value)) (insert other more) ≡ None
   refusal_stays = refusal_same was left other g.text g.more g.new prefix_same profile limit more ∙ g.allowed

@@ -1,4 +1,4 @@
--- What an insert that adds a line writes, and where: the same line after another such insert, at the moved place.
+-- What an insert that adds a line writes, and where: the place of a line, and the moved place once there is one more.
 --
 -- An insert at the end of a body puts a line in before line n, so its place is the length of the lines before it
 -- (`put_here`). One more line before line n leaves the lines before line i as they are if i comes before n, and else
@@ -6,8 +6,8 @@
 -- their numbers (`width_grows`, `width_stays`). The newline is the document's first, so it is the same if the new value
 -- has none in it, or if a line comes before the new one.
 --
--- Theorems: `place_is`, `edited_is`, `newline_stays`, `place_stays`; `place_moves`: the same of any insert that leaves
--- the newline; `scalar_quiet`: a scalar has no newline in it; `item_none`.
+-- Theorems: `place_is`, `edited_is`, `at_is`, `line_is`, `newline_stays`; `put_place`, `put_document`, `newline_by`,
+-- `line_moves`: of any change that puts in a keyval; `scalar_quiet`: a scalar has no newline in it; `item_none`.
 use Rattle.std.proofs.Common.{◌≡◌, ℕ, zero, suc, ◌+◌, ◌-◌, ◌<◌, ◌≤◌, Bool, true, false, cond, List, [], ◌∷◌, ◌++◌}
 use Rattle.std.proofs.Common.{length, take, drop, refl, sym, ap, subst, ◌∙◌, append_assoc, length-append, arith}
 use Rattle.std.proofs.Common.{Option, Some, None, inl, inr, map}
@@ -18,8 +18,8 @@ use Rattle.std.proofs.lemmas.List.{append-nil}
 use Rattle.keep_types.specs.declared.leaf.Profile.{Profile}
 use Rattle.keep_types.specs.declared.leaf.Leaf.{Leaf}
 use Rattle.keep_types.specs.declared.leaf.Leaf.TheVariants as leaf
-use Rattle.keep_syntax.specs.Tree.{Written, Value, Line, Ended, Document, keyval, bom_leaves, ended_leaves, leaves}
-use Rattle.keep_syntax.specs.Tree.{further_leaves}
+use Rattle.keep_syntax.specs.Tree.{Written, Name, Value, Line, Ended, Document, keyval, bom_leaves, ended_leaves}
+use Rattle.keep_syntax.specs.Tree.{further_leaves, leaves}
 use Rattle.keep_syntax.specs.Tree.{line_leaves, name_leaves, text_of, token, value_leaves, scalar, Entries, none, entry}
 use Rattle.keep_syntax.specs.Grammar.{IsEnded, IsValue}
 use Rattle.keep_path.specs.Path.{EndsInKey, Part, key, last_part}
@@ -28,8 +28,8 @@ use Rattle.keep_token.specs.Encoded.{encoded_key, is_bare_text}
 use Rattle.keep_meaning.specs.Marks.{Mention}
 use Rattle.keep_meaning.specs.Meaning.{mentions_in}
 use Rattle.keep_edit_spec.specs.Changed.{Changed, Place, place_of}
-use Rattle.keep_edit_spec.specs.Edits.{at_line, change, changed_or_same, edited_document, end_of, further_part, insert}
-use Rattle.keep_edit_spec.specs.Edits.{key_part, name_with, new_keyval, place}
+use Rattle.keep_edit_spec.specs.Edits.{Edit, at_line, change, changed_or_same, edited_document, end_of, further_part}
+use Rattle.keep_edit_spec.specs.Edits.{insert, key_part, name_with, new_keyval, place}
 use Rattle.keep_edit_spec.specs.Insertion.{put_in}
 use Rattle.keep_edit_spec.specs.Laws.{IsEditable}
 use Rattle.keep_edit_spec.specs.Lines.{Page, ended_text, first_newline, new_line, newline_of, put_lines}
@@ -82,35 +82,29 @@ put_here (suc m) more newline (e ∷ es) last h =
       new = p.new;
     }
 
--- ---- what an insert at the end of a body writes
+-- ---- what a change writes that puts in a keyval
 
-module _ (s : Document) (path : List Part) (value : Value) (text : List ℕ) (more : List (List ℕ)) (n : ℕ)
-    (no_item : item_number path (mentions_in s) ≡ None)
-    (new : path ≡ holder path (mentions_in s) ++ map key (text ∷ more))
-    (ends : end_of s (holder path (mentions_in s)) ≡ Some n) (few : n ≤ length s.ended) where
+abbrev pub with_line_before : ℕ → Ended → Document → Document
+with_line_before n x s = record { bom = s.bom; ended = take n s.ended ++ x ∷ drop n s.ended; last = s.last }
+
+module _ (s : Document) (e : Edit) (name : Name) (value : Value) (n : ℕ)
+    (changed : change s e ≡ at_line s n (keyval name value ∷ [])) (few : n ≤ length s.ended) where
   abbrev line : Ended
-  line = new_line (newline_of s) (keyval (name_with (text ∷ more)) value)
+  line = new_line (newline_of s) (keyval name value)
 
   here : IsPutHere n (line ∷ []) (newline_of s) s.ended s.last
   here = put_here n (line ∷ []) (newline_of s) s.ended s.last few
-
-  pub changes : change s (insert path value) ≡ at_line s n (keyval (name_with (text ∷ more)) value ∷ [])
-  changes = change_here s path value n no_item ends
-      ∙ ap (λ (ps : List Part). at_line s n (new_keyval ps value ∷ []))
-      (ap (drop (length (holder path (mentions_in s)))) new
-      ∙ drop_prefix_parts (holder path (mentions_in s)) (map key (text ∷ more)))
-      ∙ ap (λ (ks : List (List ℕ)). at_line s n (keyval (name_with ks) value ∷ [])) (keys_of_map (text ∷ more))
 
   abbrev placed : List ℕ → List ℕ → List ℕ → Place
   placed b o w =
       let at : ℕ = length (text_of (bom_leaves s.bom) ++ b) in record { start = at; end = at + length o; new = w }
 
-  pub place_is : place s (insert path value)
+  pub put_place : place s e
       ≡ put_in (length (text_of (bom_leaves s.bom) ++ ended_text (take n s.ended))) (text_of (ended_leaves line))
-  place_is =
+  put_place =
       let bom : List ℕ = text_of (bom_leaves s.bom) in
       let at : ℕ = length (bom ++ ended_text (take n s.ended)) in
-      ap (λ (c : Option (Changed Document)). place_of (changed_or_same s c)) changes
+      ap (λ (c : Option (Changed Document)). place_of (changed_or_same s c)) changed
       ∙ ap (λ (b : List ℕ). placed b (put_lines n (line ∷ []) (newline_of s) s.ended s.last).old
       (put_lines n (line ∷ []) (newline_of s) s.ended s.last).new) here.before
       ∙ ap (λ (o : List ℕ). placed (ended_text (take n s.ended)) o
@@ -118,10 +112,32 @@ module _ (s : Document) (path : List Part) (value : Value) (text : List ℕ) (mo
       ∙ ap (placed (ended_text (take n s.ended)) []) (here.new ∙ ap text_of (append-nil (ended_leaves line)))
       ∙ ap (λ (z : ℕ). record { start = at; end = z; new = text_of (ended_leaves line) }) (omega arith)
 
-  pub put_is : edited_document s (insert path value)
-      ≡ record { bom = s.bom; ended = take n s.ended ++ line ∷ drop n s.ended; last = s.last }
-  put_is = ap (λ (c : Option (Changed Document)). (changed_or_same s c).to) changes
+  pub put_document : edited_document s e ≡ with_line_before n line s
+  put_document =
+      ap (λ (c : Option (Changed Document)). (changed_or_same s c).to) changed
       ∙ ap (λ (b : Page). record { bom = s.bom; ended = b.ended; last = b.last }) here.to
+
+-- ---- what an insert at the end of a body writes
+
+module _ (s : Document) (path : List Part) (value : Value) (text : List ℕ) (more : List (List ℕ)) (n : ℕ)
+    (no_item : item_number path (mentions_in s) ≡ None)
+    (new : path ≡ holder path (mentions_in s) ++ map key (text ∷ more))
+    (ends : end_of s (holder path (mentions_in s)) ≡ Some n) (few : n ≤ length s.ended) where
+  pub changes : change s (insert path value) ≡ at_line s n (keyval (name_with (text ∷ more)) value ∷ [])
+  changes = change_here s path value n no_item ends
+      ∙ ap (λ (ps : List Part). at_line s n (new_keyval ps value ∷ []))
+      (ap (drop (length (holder path (mentions_in s)))) new
+      ∙ drop_prefix_parts (holder path (mentions_in s)) (map key (text ∷ more)))
+      ∙ ap (λ (ks : List (List ℕ)). at_line s n (keyval (name_with ks) value ∷ [])) (keys_of_map (text ∷ more))
+
+  pub place_is : place s (insert path value)
+      ≡ put_in (length (text_of (bom_leaves s.bom) ++ ended_text (take n s.ended)))
+      (text_of (ended_leaves (new_line (newline_of s) (keyval (name_with (text ∷ more)) value))))
+  place_is = put_place s (insert path value) (name_with (text ∷ more)) value n changes few
+
+  pub put_is : edited_document s (insert path value)
+      ≡ with_line_before n (new_line (newline_of s) (keyval (name_with (text ∷ more)) value)) s
+  put_is = put_document s (insert path value) (name_with (text ∷ more)) value n changes few
 
 -- ---- the lengths of the lines before one
 
@@ -188,6 +204,43 @@ width_stays (suc n) zero es h = absurd (omega (arith, h))
 width_stays (suc n) (suc i) [] h = omega arith
 width_stays (suc n) (suc i) (e ∷ es) h =
     omega (arith, width_more e (take n es), width_more e (take i es), width_stays n i es (omega (arith, h)))
+
+-- ---- the place of a line once there is one more before line n
+
+module _ (profile : Profile) (bom : List ℕ) (es : List Ended) (valid : AllByRecursion (IsEnded profile) es) (n k : ℕ)
+    (x : Ended) (l m : TextChange) (closed : n ≤ length es) (few : k ≤ length es) (adds : l.size ≡ 0)
+    (line : l.new ≡ text_of (ended_leaves x)) (at : l.at ≡ length bom + width (take n es))
+    (m_at : m.at ≡ length bom + width (take k es)) where
+  abbrev before : ℕ → List Ended
+  before j = take j (take n es ++ x ∷ drop n es)
+
+  moves_by : (b : Bool) → nat_lt k n ≡ b
+      → length (bom ++ ended_text (before (cond b k (suc k)))) ≡ moved_by l m.at
+  moves_by true e =
+      let less : k < n = ltb-true k n e in
+      let earlier_at : nat_lt m.at l.at ≡ true =
+      lt-ltb m.at l.at (omega (arith, at, m_at, width_grows profile n k es valid less closed)) in
+      length-append bom (ended_text (before k))
+      ∙ ap (λ (fs : List Ended). length bom + width fs) (earlier n k x es less closed)
+      ∙ sym m_at
+      ∙ ap (λ (b : Bool). cond b m.at ((m.at + length l.new) - l.size)) (sym earlier_at)
+  moves_by false e =
+      let past : n ≤ k = ltb-false k n e in
+      let later_at : nat_lt m.at l.at ≡ false =
+      le-ltb m.at l.at (omega (arith, at, m_at, width_stays n k es past)) in
+      let long : length (bom ++ ended_text (before (suc k))) ≡ (m.at + length l.new) - l.size =
+      omega (
+        arith,
+        length-append bom (ended_text (before (suc k))),
+        later_width n k x es past few,
+        m_at,
+        ap (λ (t : List ℕ). length t) line,
+        adds,
+      ) in
+      long ∙ ap (λ (b : Bool). cond b m.at ((m.at + length l.new) - l.size)) (sym later_at)
+
+  pub line_moves : length (bom ++ ended_text (before (later_line n k))) ≡ moved_by l m.at
+  line_moves = moves_by (nat_lt k n) refl
 
 -- ---- the newline
 
@@ -265,11 +318,8 @@ first_line bom e es last = simp append_assoc refl
 abbrev pub or_line_feed : Option Written → Written
 or_line_feed o = elim o [ Some w ↦ w | None ↦ record { leaf = leaf.Newline; text = codes "\n" } ]
 
-abbrev with_line_before : ℕ → Ended → Document → Document
-with_line_before n x s = record { bom = s.bom; ended = take n s.ended ++ x ∷ drop n s.ended; last = s.last }
-
 module _ (profile : Profile) (bom : Bool) (last : Line) (x : Ended) where
-  newline_by : (n : ℕ) (es : List Ended)
+  pub newline_by : (n : ℕ) (es : List Ended)
       → (let s : Document = record { bom = bom; ended = es; last = last } in
       AllByRecursion (IsEnded profile) es → n ≤ length es → x.newline ≡ newline_of s
       → x.newline.leaf ≡ leaf.Newline → (first_newline (line_leaves x.line) ≡ None) ⊎ (0 < n)
@@ -330,78 +380,3 @@ module _ (profile : Profile) (limit : ℕ) (s : Document) (path : List Part) (va
           inl (ap first_newline (append-nil (name ++ value_leaves value))
           ∙ none_before name (value_leaves value) (name_none h.text h.more) ∙ clear)
       by (inr past) = inr past
-
-module _ (profile : Profile) (limit : ℕ) (s : Document) (path : List Part) (value : Value) (l : TextChange)
-    (other : List Part) (more : Value) (m : TextChange) (fine : IsEditable profile limit s)
-    (h : AddsLine profile limit s path value l) (k : AddsLine profile limit s other more m) where
-  abbrev now : Document
-  now = edited_document s (insert path value)
-
-  abbrev bom : List ℕ
-  bom = text_of (bom_leaves s.bom)
-
-  abbrev x : Ended
-  x = added profile limit s path value l h
-
-  abbrev before : ℕ → List Ended
-  before j = take j (take h.number s.ended ++ x ∷ drop h.number s.ended)
-
-  moves_by : (b : Bool) → nat_lt k.number h.number ≡ b
-      → length (bom ++ ended_text (before (cond b k.number (suc k.number)))) ≡ moved_by l m.at
-  moves_by true e =
-      let less : k.number < h.number = ltb-true k.number h.number e in
-      let earlier_at : nat_lt m.at l.at ≡ true =
-      lt-ltb m.at l.at (omega (
-        arith,
-        at_is profile limit s path value l h,
-        at_is profile limit s other more m k,
-        width_grows profile h.number k.number s.ended fine.valid.ended less h.closed,
-      )) in
-      length-append bom (ended_text (before k.number))
-      ∙ ap (λ (es : List Ended). length bom + width es) (earlier h.number k.number x s.ended less h.closed)
-      ∙ sym (at_is profile limit s other more m k)
-      ∙ ap (λ (b : Bool). cond b m.at ((m.at + length l.new) - l.size)) (sym earlier_at)
-  moves_by false e =
-      let past : h.number ≤ k.number = ltb-false k.number h.number e in
-      let later_at : nat_lt m.at l.at ≡ false =
-      le-ltb m.at l.at (omega (
-        arith,
-        at_is profile limit s path value l h,
-        at_is profile limit s other more m k,
-        width_stays h.number k.number s.ended past,
-      )) in
-      let long : length (bom ++ ended_text (before (suc k.number))) ≡ (m.at + length l.new) - l.size =
-      omega (
-        arith,
-        length-append bom (ended_text (before (suc k.number))),
-        later_width h.number k.number x s.ended past k.closed,
-        at_is profile limit s other more m k,
-        ap (λ (t : List ℕ). length t) (line_is profile limit s path value l h),
-        h.adds,
-      ) in
-      long ∙ ap (λ (b : Bool). cond b m.at ((m.at + length l.new) - l.size)) (sym later_at)
-
-  -- after any insert that leaves the newline
-  pub place_moves : newline_of now ≡ newline_of s → holder other (mentions_in now) ≡ holder other (mentions_in s)
-      → end_of now (holder other (mentions_in s)) ≡ Some (later_line h.number k.number)
-      → later_line h.number k.number ≤ length now.ended
-      → place now (insert other more) ≡ put_in (moved_by l m.at) m.new
-  place_moves same holds ends few =
-      let j : ℕ = later_line h.number k.number in
-      let line : Written → List ℕ =
-      λ w. text_of (ended_leaves (new_line w (keyval (name_with (k.text ∷ k.more)) more))) in
-      place_is now other more k.text k.more j
-      (item_none other (holder other (mentions_in s)) k.text k.more k.new (mentions_in now))
-      (k.new ∙ ap (λ (a : List Part). a ++ map key (k.text ∷ k.more)) (sym holds)) (ap (end_of now) holds ∙ ends) few
-      ∙ ap (λ (d : Document). put_in (length (text_of (bom_leaves d.bom) ++ ended_text (take j d.ended)))
-      (line (newline_of now))) (edited_is profile limit s path value l h)
-      ∙ ap (λ (w : Written). put_in (length (bom ++ ended_text (before j))) (line w)) same
-      ∙ ap (put_in (length (bom ++ ended_text (before j)))) (sym (line_is profile limit s other more m k))
-      ∙ ap (λ (at : ℕ). put_in at m.new) (moves_by (nat_lt k.number h.number) refl)
-
-  pub place_stays : (first_newline (value_leaves value) ≡ None) ⊎ (0 < h.number)
-      → holder other (mentions_in now) ≡ holder other (mentions_in s)
-      → end_of now (holder other (mentions_in s)) ≡ Some (later_line h.number k.number)
-      → later_line h.number k.number ≤ length now.ended
-      → place now (insert other more) ≡ put_in (moved_by l m.at) m.new
-  place_stays quiet = place_moves (newline_stays profile limit s path value l h fine quiet)

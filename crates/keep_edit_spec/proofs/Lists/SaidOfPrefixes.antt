@@ -4,7 +4,8 @@
 -- insert of a path that ends in a key is refused by its holder, and by whether that is a table, whether the path is a
 -- node, and how many brackets enclose it (`refused_alike`). So both stay where the same is said of each prefix.
 --
--- Theorems: `holder_same`, `refusal_same`; `refused_alike`, `enclosing_same`: where less is known; `node_kinds`.
+-- Theorems: `holder_same`, `refusal_same`; `holder_alike`, `refused_alike`, `enclosing_same`: where less is known;
+-- `node_kinds`.
 use Rattle.std.proofs.Common.{◌≡◌, ℕ, ◌+◌, Bool, true, false, not, cond, ◌&&◌, ◌||◌, nat_lt, List, [], ◌∷◌, ◌++◌}
 use Rattle.std.proofs.Common.{map}
 use Rattle.std.proofs.Common.{length, drop, refl, sym, ap, ap₂, ◌∙◌, Option, Some, None}
@@ -68,6 +69,12 @@ module _ (was now : List Mention) (path : List Part) where
   enclosing_same same =
       count_same (is_bracket_at now) (is_bracket_at was) path (λ q k qs is. ap bracket_of (same q (k ∷ qs) is))
 
+  pub holder_alike : ((q rest : List Part) → path ≡ q ++ rest → is_node q now ≡ is_node q was)
+      → holder path now ≡ holder path was
+  holder_alike same =
+      ap (λ (o : Option (List Part)). elim o [ Some a ↦ a | None ↦ [] ])
+      (last_same (λ q. is_node q now) (λ q. is_node q was) path (λ q k qs is. same q (k ∷ qs) is))
+
   module _ (text : List ℕ) (more : List (List ℕ)) (new : path ≡ holder path was ++ map key (text ∷ more)) where
     module _ (profile : Profile) (limit : ℕ) (value : Value) where
       abbrev tests : List Part → Bool → Bool → ℕ → Option EditFault
@@ -99,9 +106,7 @@ module _ (was now : List Mention) (path : List Part) where
       node_same q rest is = node_kinds q now ∙ ap (node_of q) (same q rest is) ∙ sym (node_kinds q was)
 
       pub holder_same : holder path now ≡ holder path was
-      holder_same =
-          ap (λ (o : Option (List Part)). elim o [ Some a ↦ a | None ↦ [] ])
-          (last_same (λ q. is_node q now) (λ q. is_node q was) path (λ q k qs is. node_same q (k ∷ qs) is))
+      holder_same = holder_alike node_same
 
       table_same : is_table (holder path now) now ≡ is_table (holder path was) was
       table_same =
