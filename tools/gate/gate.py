@@ -61,6 +61,21 @@ KEEPS_NOT = re.compile(r"rt: note: .*(\bkept\b|cannot be used)")
 TOLD_LATER = re.compile(r"rt: (\w+ is kept: |ok\b)|\d+ passed, \d+ failed$")
 
 
+def processors():
+    return len(os.sched_getaffinity(0))
+
+
+def checks_that_fit():
+    """How many checks have room in the memory that is free; one where that is not told."""
+    available = re.search(r"^MemAvailable:\s+(\d+) kB$", Path("/proc/meminfo").read_text(), re.M)
+    return int(available[1]) * 1024 // MEMORY_OF_A_CHECK if available else 1
+
+
+def at_once(fitting):
+    """How many checks are made at once, if so many have room: one on each processor at most."""
+    return max(1, min(processors(), fitting))
+
+
 class Sampler(threading.Thread):
     """Looks at the processes below one, and sums the time of each prover under the task that it works for."""
 
@@ -127,11 +142,8 @@ class Edits:
         self.proved, self.begun, self.tries = {}, set(), []
         # series of edits that can be tried, the longest first
         self.ready, self.lock = [], threading.Lock()
-        available = re.search(r"^MemAvailable:\s+(\d+) kB$", Path("/proc/meminfo").read_text(), re.M)
-        processors = len(os.sched_getaffinity(0))
         # A check's memory is left to the proofs for each processor; they may have up to twice as many, and `rt ci` looks at what is free.
-        fitting = int(available[1]) * 1024 // MEMORY_OF_A_CHECK - processors if available else 1
-        self.pool = ThreadPoolExecutor(max(1, min(processors, fitting)))
+        self.pool = ThreadPoolExecutor(at_once(checks_that_fit() - processors()))
 
     def has_proved(self, crate, folder):
         self.proved[crate] = folder
@@ -222,7 +234,7 @@ class Proofs:
         self.command, self.room, self.start = command, room, start
         self.below, self.behind = crates(), lines_behind(crates())
         self.edits, self.running, self.runs, self.libraries, self.keeps = Edits(), set(), {}, [], True
-        self.lock, self.pool = threading.RLock(), ThreadPoolExecutor(len(os.sched_getaffinity(0)))
+        self.lock, self.pool = threading.RLock(), ThreadPoolExecutor(processors())
 
     def ran(self, folder, heard, level=0, more=None, command=None):
         """Runs a command in a folder, with more in its environment and each of its lines handed on, and gives its status."""
@@ -306,8 +318,11 @@ class Proofs:
             it.result()
 
     def prove_all(self, copy):
-        """Runs the command over all crates, and gives its status and its last line."""
+        """Runs the command over all crates, and gives its status and its last line. Where nothing was kept it proves all of them: one on each
+        processor, as far as there is room for as many checks of edits. By itself `rt ci` takes most proofs to need more memory than they
+        do, and lets them wait."""
         copied_to(copy)
+        how = {} if self.keeps else {"RT_JOBS": str(at_once(checks_that_fit() // 2))}
         lines = [""]
 
         def heard(line):
@@ -317,7 +332,7 @@ class Proofs:
                 self.has_proved(found[1], copy)
 
         self.keeps = False
-        status = self.ran(copy, heard)
+        status = self.ran(copy, heard, more=how)
         return status, lines[-1]
 
     def stopped(self, number, _):

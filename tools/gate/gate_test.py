@@ -61,10 +61,13 @@ def fault_of(outside, passes, untried):
         ran = begun(room, **outside)
         said = ran.communicate(timeout=100)[0]
         is_built = Path(room, "built").exists()
+        jobs = Path(room, "store/jobs").read_text()
     edits = sum(len(edits_of(it)) for it in CRATES)
     lost = sum(len(edits_of(it)) for it in untried)
     if (ran.returncode == 0) != passes:
         return f"the status is {ran.returncode}"
+    if (jobs != "") != ("KEEPS" in outside):
+        return f"the run over all may make {jobs or 'as many proofs as it takes'} at once"
     if passes and "its run failed" in said:
         return "a crate's own run failed"
     if [it for it in CRATES if f"{it}: its edits were not tried" in said] != untried:
