@@ -55,6 +55,14 @@ class Run:
     def of_kind(self, *kinds):
         return [path for path, kind in self.entries if kind in kinds]
 
+    def new_path(self, table, number, several):
+        """A new key of a table, for the edit of this number, or with a chance of `several` some keys; now and then one that was given."""
+        random = self.random
+        key = random.choice(KEYS) + b"_%d" % (number if random.random() < 0.98 else number // 2)
+        if random.random() < several:
+            key += b"." + b".".join(random.choice(KEYS) for _ in range(random.choice((1, 1, 2, 3))))
+        return table + b"." + key if table else key
+
     def inserts(self):
         """New keys, nearly all of tables with a header; now and then a key that was given before, or of anything else. In a third
         of the lists many of them are set later; in half of them some inserts give several keys, and now and then two the same
@@ -69,10 +77,7 @@ class Run:
                 edits.append(edit_of(b"set", random.choice(given), value_of(random)))
             else:
                 table = random.choice(tables if random.random() < 0.995 else [b"", *(path for path, _ in self.entries)])
-                key = random.choice(KEYS) + b"_%d" % (number if random.random() < 0.98 else number // 2)
-                if random.random() < several:
-                    key += b"." + b".".join(random.choice(KEYS) for _ in range(random.choice((1, 1, 2, 3))))
-                given.append(table + b"." + key if table else key)
+                given.append(self.new_path(table, number, several))
                 edits.append(edit_of(b"insert", given[-1], value_of(random)))
         return edits
 
@@ -117,10 +122,7 @@ class Run:
             table = random.choice(tables if random.random() < 0.998 else [b"", *(path for path, _ in self.entries)])
             if given and random.random() < 0.02:
                 table = random.choice(given).rpartition(b".")[0]
-            key = random.choice(KEYS) + b"_%d" % (number if random.random() < 0.99 else number // 2)
-            if random.random() < several:
-                key += b"." + b".".join(random.choice(KEYS) for _ in range(random.choice((1, 1, 2, 3))))
-            given.append(table + b"." + key if table else key)
+            given.append(self.new_path(table, number, several))
             edits.append(edit_of(b"insert", given[-1], value_of(random)))
         return edits
 
