@@ -7,7 +7,7 @@ Edits that come in a row are made at once, from some 20 of them on, or from thre
 to 1,000, by the document before all of them. So each list (of 80 edits, one in twenty of 1,100; RUNS of them, 100 if not given)
 is given to the program as one script, and then each edit as a script of its own, on what the one before gave: so it is made by
 itself. Texts, faults and the number of the refused edit have to be the same.
-Most lists are of edits of one kind, a fifth of them of edits of all kinds in turn. A fifth of the lines that are changed have
+Most lists are of edits of one kind, a fifth of them of edits of all kinds in turn, among them removes of tables. A fifth of the lines that are changed have
 a comment. Values are set and keys renamed again, values are set that were inserted, and edits of entries come back to a value,
 which goes on in the row. Among the edits are some that end it: one that is refused, any other of a path that was there before,
 one that is in another's, one that adds a line at the place of a line of another table.
@@ -371,9 +371,11 @@ class Run:
         return edits
 
     def all_kinds(self):
-        """Edits of all kinds in turn, nearly all of paths apart; now and then some newlines have a carriage return."""
+        """Edits of all kinds in turn, nearly all of paths apart; now and then some newlines have a carriage return. In half of the
+        lists tables go with their headers between the others, and some of the inserts are into tables that go later."""
         random, paths = self.random, self.with_lines() + self.some_of()
         holders = self.with_holders() if random.random() < 0.5 else []
+        left = self.with_tables() if random.random() < 0.5 else []
         random.shuffle(paths)
         new = lambda path, number: b".".join([*path.split(b".")[:-1], random.choice(KEYS) + b"_more_%d" % number])
         if random.random() < 0.2:
@@ -385,6 +387,10 @@ class Run:
             kind = random.choice((b"insert", b"insert", b"remove", b"remove", b"set", b"rename", b"table", b"element"))
             if holders and random.random() < 0.3:
                 edits.append(self.part(*holders.pop())[0])
+            elif left and random.random() < 0.3:
+                edits.append(edit_of(b"remove", left.pop(random.randrange(len(left)))))
+            elif left and kind == b"insert" and random.random() < 0.5:
+                edits.append(edit_of(kind, random.choice(left) + b".more_%d" % number, value_of(random)))
             elif are_set and random.random() < 0.2:
                 edits.append(edit_of(b"set", random.choice(are_set), value_of(random)))
             elif kind == b"table":

@@ -27,7 +27,7 @@ use crate::seen_paths::SeenPaths;
 use crate::value_after::value_after;
 use keep_edit_plan::{Edit, Planner, TextEdit, TextEdits, first_steps};
 use keep_edit_spec::EditFault;
-use keep_rules::{Path, ValueText};
+use keep_rules::{Origin, Path, ValueText};
 use keep_syntax::Span;
 use memchr::memchr;
 use std::alloc::Global;
@@ -160,7 +160,8 @@ impl Document {
     }
 
     /// What the edits from number `first` on change in the text, as far as they can be made at once: inserts of the
-    /// next items of one array, or edits of one kind, or of several where those are few.
+    /// next items of one array, or edits of one kind, or of several where those are few or end at an element that is
+    /// removed.
     fn changes_at_once(&self, edits: &[Edit], first: usize) -> Run
         requires { first < length edits.now }
         ensures few { (first ≤ result.end) × (result.end ≤ length edits.now) }
@@ -175,7 +176,10 @@ impl Document {
             };
         }
         let run = self.changes_by(edits, first);
-        if run.end > first && self.is_worth_reading(&edits[first..run.end]) {
+        if run.end > first
+            && !self.removes_element(edits.get(run.end))
+            && self.is_worth_reading(&edits[first..run.end])
+        {
             return run;
         }
         match self.others_by(edits, first, run.end) {
@@ -186,7 +190,8 @@ impl Document {
 
     /// The same beyond the edit with number `end`, which ends those of one kind: as far as they add lines, if that one
     /// may add one to a table that dotted keys make; as far as they remove tables and elements with their headers, if
-    /// none comes before that one; or as far as they are of several kinds. None where they are not tried.
+    /// that one removes an element, or none comes before it; or as far as they are of several kinds. None where they
+    /// are not tried.
     fn others_by(&self, edits: &[Edit], first: usize, end: usize) -> Option<Run>
         requires { first < length edits.now }
         ensures few { IfSome result (λ run. (first ≤ run.end) × (run.end ≤ length edits.now)) }
@@ -197,7 +202,7 @@ impl Document {
         let next = edits.get(end);
         let changes = if self.may_be_lines(edit, next) {
             self.lines_by(edits, first)
-        } else if end == first {
+        } else if end == first || self.removes_element(next) {
             self.sections_by(edits, first)
         } else if self.is_other_kind(edit, next) {
             return Some(self.changes_of_kinds(edits, first));
@@ -446,6 +451,17 @@ impl Document {
         match (edit, next) {
             (Edit::Insert(_, _), Some(Edit::Insert(path, _))) => self.is_in_dotted(path),
             _ => false,
+        }
+    }
+
+    /// Whether an edit is there and removes an element of an array of tables.
+    fn removes_element(&self, edit: Option<&Edit>) -> bool {
+        let Some(Edit::Remove(path)) = edit else {
+            return false;
+        };
+        match self.index.find(path) {
+            Some(id) => matches!(self.index.node(id).origin, Origin::Element(_)),
+            None => false,
         }
     }
 

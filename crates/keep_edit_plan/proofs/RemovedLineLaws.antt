@@ -518,7 +518,7 @@ module _ (d : ProfiledText) (syntax : Syntax) (index : NodeInfos) (path : List P
       line_is_removed = by hash refl
         where
           either : (b : Bool) → hash ≡ b → MakesChange d.profile limit s (remove path) (to_end (cond b commented whole))
-          either true e = inr (clears_line e)
+          either true e = inr (inl (clears_line e))
           either false e = inl (takes_line e)
 
           by : (b : Bool) → hash ≡ b → MakesChange d.profile limit s (remove path) (to_end (cut_place d.text cut))

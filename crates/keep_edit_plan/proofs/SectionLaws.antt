@@ -4,9 +4,11 @@
 -- number of its header is that of a statement that defines the path, or begins it.
 --
 -- Theorems: `section_found`: what is known of a section that may be removed; `number_within`: its header is in the
--- syntax; `section_is_removed`, and `section_span`: it is cut from character to character.
-use Rattle.std.proofs.Common.{◌≡◌, ℕ, ◌+◌, ◌-◌, ◌<◌, true, List, [], length, drop, refl, sym, ap, subst}
-use Rattle.std.proofs.Common.{◌∙◌, arith, None, Result, Ok, inl, inr}
+-- syntax; `section_is_removed`, and `section_span`: it is cut from character to character; `each_table`, `table_makes`:
+-- where the path ends in a key, it is of a table, and makes its change in a run.
+use Rattle.std.proofs.Common.{◌≡◌, ℕ, ◌+◌, ◌-◌, ◌<◌, true, List, [], ◌∷◌, ◌++◌, length, drop, refl, sym, ap, subst}
+use Rattle.std.proofs.Common.{◌∙◌, arith, Option, Some, None, Result, Ok, inl, inr}
+use Rattle.std.specs.Prelude.{IfSome}
 use Rattle.keep_types.specs.declared.leaf.Profile.{Profile}
 use Rattle.keep_syntax.specs.declared.syntax.Syntax.{Syntax}
 use Rattle.keep_syntax.specs.Contract.{statements_of}
@@ -15,23 +17,28 @@ use Rattle.keep_syntax.specs.Tree.{Document}
 use Rattle.keep_meaning.specs.KeyText.{text_at}
 use Rattle.keep_meaning.specs.Nodes.{is_begun, is_define, statement_number}
 use Rattle.keep_path.specs.NodeInfos.{NodeInfos}
-use Rattle.keep_path.specs.Path.{Part}
+use Rattle.keep_path.specs.Path as its_last
+use Rattle.keep_path.specs.Path.{Part, key, last_part}
 use Rattle.keep_rules.specs.declared.index.NodeId.{NodeId}
 use Rattle.keep_edit_spec.specs.declared.fault.EditFault.{EditFault}
 use Rattle.keep_edit_spec.specs.Edits.{place, remove}
 use Rattle.keep_edit_spec.specs.Refusals.{refusal}
 use Rattle.keep_edit_spec.specs.Removal.{section_place}
 use Rattle.keep_edit_spec.specs.RemovedHeaders.{RemovesHeader}
+use Rattle.keep_edit_spec.specs.RemovedSections.{RemovesSection}
+use Rattle.keep_edit_spec.specs.Runs.{MakesChange}
 use Rattle.keep_edit_spec.specs.TextChanges.{TextChange, change_at, place_of_change}
 use Rattle.keep_edit_spec.specs.TextEnds.{ends_in_newline}
-use Rattle.keep_edit_spec.proofs.Shared.{same_place}
+use Rattle.keep_edit_spec.proofs.Shared.{EndsInKey, element_ends, last_part-snoc, same_place, snoc_of}
 use Rattle.keep_edit_plan.specs.Answers.{IsSpanOf, value_number_of}
 use Rattle.keep_edit_plan.specs.Plans.{IsNodeOf}
 use Rattle.keep_edit_plan.specs.Reading.{limit, ProfiledText, Holds, IsTextOfTree}
 use Rattle.keep_edit_plan.specs.Removing.{IsCutAt, IsHeaded, IsRemovalFound, KeepsNothing, cut_place}
+use Rattle.keep_edit_plan.specs.TextEdits.{change_of}
 use Rattle.keep_edit_plan.specs.declared.remove.Cut.{Cut}
 use Rattle.keep_edit_plan.specs.declared.remove.Piece.{Piece}
 use Rattle.keep_edit_plan.specs.declared.remove.Piece.TheVariants.{Section}
+use Rattle.keep_edit_plan.specs.declared.text_edit.TextEdit.{TextEdit}
 use Rattle.keep_edit_plan.proofs.RemoveCut.{IsSectionArm, section_arm}
 use Rattle.keep_edit_plan.proofs.RemoveNode.{has_of}
 use Rattle.keep_edit_plan.proofs.RemoveSteps.{text_none}
@@ -100,3 +107,32 @@ module _ (d : ProfiledText) (syntax : Syntax) (index : NodeInfos) (path : List P
               closed = ap ends_in_newline (sym read.reads.spelled) ∙ closed;
               is = place_is new none;
             })
+
+-- ---- a table alone
+
+-- its path ends in a key, and an element's does not
+key_at_end : (path : List Part) → its_last.EndsInKey path → EndsInKey path
+key_at_end [] (text, e) = absurd cc
+key_at_end (p ∷ ps) (text, e) =
+    let (prefix, z, is) = snoc_of p ps in
+    let both : Some z ≡ Some (key text) = sym (last_part-snoc prefix z) ∙ ap last_part (sym is) ∙ e in
+    let same : z ≡ key text = cc in
+    (prefix, text, is ∙ ap (λ (q : Part). prefix ++ q ∷ []) same)
+
+pub table_alone : (profile : Profile) (s : Document) (path : List Part) (c : TextChange) → its_last.EndsInKey path
+    → RemovesHeader profile limit s path c → RemovesSection profile limit s path c
+table_alone profile s path c ends (inl h) = h
+table_alone profile s path c ends (inr h) = absurd (element_ends s path h.begun (key_at_end path ends))
+
+pub each_table : (profile : Profile) (s : Document) (path : List Part) → its_last.EndsInKey path
+    → (o : Option TextEdit) → IfSome o (λ made. RemovesHeader profile limit s path (change_of made))
+    → IfSome o (λ made. RemovesSection profile limit s path (change_of made))
+each_table profile s path ends None h = tt
+each_table profile s path ends (Some made) h = table_alone profile s path (change_of made) ends h
+
+-- it makes its change in a run
+pub table_makes : (profile : Profile) (s : Document) (path : List Part) (o : Option TextEdit)
+    → IfSome o (λ made. RemovesSection profile limit s path (change_of made))
+    → IfSome o (λ made. MakesChange profile limit s (remove path) (change_of made))
+table_makes profile s path None h = tt
+table_makes profile s path (Some made) h = inr (inr h)

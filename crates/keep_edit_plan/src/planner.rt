@@ -62,8 +62,9 @@ impl<'a> Planner<'a> {
     }
 
     /// What an edit changes of the text, if it makes the same change after other such edits that leave it alone: an
-    /// insert that adds a line, a remove that takes one, or leaves it with its comment, a set, a rename, and a header
-    /// after a newline. None for any other edit, where it is refused, and where memory was refused.
+    /// insert that adds a line, a remove that takes one, leaves it with its comment, or takes a table with its header,
+    /// a set, a rename, and a header after a newline. None for any other edit, where it is refused, and where memory
+    /// was refused.
     pub fn change_by(&mut self, alloc: Global, edit: &Edit) -> Option<TextEdit>
         ensures made { IfSome result (MakesChangeHere self.old edit.now) }
         ensures same { self.new ≡ self.old }

@@ -19,7 +19,7 @@ use keep_syntax::STANDARD_DEPTH;
 use std::alloc::Global;
 
 /// Whether the last step of a path is a key.
-fn ends_in_key(path: &Path) -> bool
+pub(crate) fn ends_in_key(path: &Path) -> bool
     ensures { Decides result (EndsInKey path.now) }
 {
     match path.step(path.len().saturating_sub(1)) {

@@ -96,6 +96,7 @@ pub use Rattle.keep_edit_spec.proofs.Lists.EntryEdits.{still_makes_set}
 pub use Rattle.keep_edit_spec.proofs.Lists.EntryChanges.{entry_change_is_set}
 pub use Rattle.keep_edit_spec.proofs.Lists.SetBytes.{set_bytes}
 pub use Rattle.keep_edit_spec.proofs.Lists.SetTwice.{sets_again}
+pub use Rattle.keep_edit_spec.proofs.Lists.HeaderTaken.{element_ends}
 pub use Rattle.keep_edit_spec.proofs.Lists.HeaderRunLaws.{first_with, header_run_goes_on, none_is_header_run}
 pub use Rattle.keep_edit_spec.proofs.Lists.PathsBefore.{apart_before, element_before, no_number_before, stays_below}
 pub use Rattle.keep_edit_spec.proofs.Lists.LineRunLaws.{line_run_goes_on, none_is_line_run}

@@ -16,16 +16,20 @@ use Rattle.keep_edit_spec.specs.Lines.{newline_of}
 use Rattle.keep_edit_spec.specs.Look.{keys_in}
 use Rattle.keep_edit_spec.specs.Refusals.{refusal}
 use Rattle.keep_edit_spec.specs.RemovedLines.{RemovesLine}
+use Rattle.keep_edit_spec.specs.RemovedSections.{RemovesSection}
 use Rattle.keep_edit_spec.specs.RenamedKeys.{ArePathsApart, RenamesKey}
 use Rattle.keep_edit_spec.specs.SaidLines.{SaysBefore}
 use Rattle.keep_edit_spec.specs.SetValues.{SetsValue}
 use Rattle.keep_edit_spec.specs.TextChanges.{Follow, IsBeside, IsWider, TextChange, change_at, moved, moved_by_all}
 use Rattle.keep_edit_spec.specs.TextChanges.{moved_past, place_of_change, text_with, with_change}
 
--- The edit is one whose change of the text is known from the first document on, and this is its change.
+-- The edit is one whose change of the text is known from the first document on, and this is its change. A remove takes
+-- a line, leaves it with its comment, or takes a table with its header.
 abbrev pub MakesChange : Profile → ℕ → Document → Edit → TextChange → Type 0
 MakesChange profile limit s (insert path value) c = AddsLine profile limit s path value c
-MakesChange profile limit s (remove path) c = RemovesLine profile limit s path c ⊎ ClearsLine profile limit s path c
+MakesChange profile limit s (remove path) c =
+    RemovesLine profile limit s path c
+    ⊎ (ClearsLine profile limit s path c ⊎ RemovesSection profile limit s path c)
 MakesChange profile limit s (set path value) c = SetsValue profile limit s path value c
 MakesChange profile limit s (rename path text) c = RenamesKey profile limit s path text c
 MakesChange profile limit s (append_table keys) c = AppendsTable profile limit s keys c

@@ -2,6 +2,7 @@
 ghost use Rattle.std.specs.Prelude.{IfSome};
 ghost use Rattle.keep_syntax.specs.Tree as tree;
 ghost use Rattle.keep_edit_spec.specs.RemovedHeaders.{RemovesHeader};
+ghost use Rattle.keep_edit_spec.specs.RemovedSections.{RemovesSection};
 ghost use Rattle.keep_edit_plan.specs.Answers.{IsSpanOf};
 ghost use Rattle.keep_edit_plan.specs.Reading.{IsTextOfTree, limit};
 ghost use Rattle.keep_edit_plan.specs.TextEdits.{change_of};
@@ -9,6 +10,7 @@ ghost use Rattle.keep_edit_plan.specs.TextEdits.{change_of};
 use super::{Piece, section_cut};
 use crate::append::ends_in_newline;
 use crate::document::DocumentRef;
+use crate::set::ends_in_key;
 use crate::text_edit::TextEdit;
 use keep_rules::Path;
 use std::alloc::Global;
@@ -34,5 +36,17 @@ impl<'a> DocumentRef<'a> {
             place: section_cut(self.syntax, number).span,
             new: String::new(alloc),
         })
+    }
+
+    /// The same of a table alone, whose path ends in a key: an element's path ends in an index.
+    pub(crate) fn removed_table(&self, alloc: Global, path: &Path) -> Option<TextEdit>
+        ensures removed { (s : tree.Document) → IsTextOfTree self.now s
+            → IfSome result (λ made. RemovesSection self.now.profile limit s path.now (change_of made)) }
+        ensures within { IfSome result (λ made. IsSpanOf self.now.text made.place) }
+    {
+        if !ends_in_key(path) {
+            return None;
+        }
+        self.removed_section(alloc, path)
     }
 }

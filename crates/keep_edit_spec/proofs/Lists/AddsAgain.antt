@@ -1,7 +1,8 @@
--- An insert that adds a line adds the same one in a document that says the same but for another path's own line.
+-- An insert that adds a line adds the same one in a document that says the same but for a run at another path and under
+-- it, as that path's own line is, or its table.
 --
--- Of the prefixes of the path, none of which is under the other one, the facts are the same (OwnLine), and nothing is
--- said of its first new key. Where the holder's body still ends somewhere, it is the holder still (NewHolder). So the
+-- Of the prefixes of the path, none of which is under the other one, the facts are the same (Cuts), and nothing is said
+-- of its first new key. Where the holder's body still ends somewhere, it is the holder still (NewHolder). So the
 -- insert is not refused (`allowed_now`, by SaidOfPrefixes). It adds its line at that end, where the line begins
 -- (`adds_again`).
 --
@@ -13,31 +14,28 @@ use Rattle.std.proofs.lemmas.Bool.{and_parts, not-true}
 use Rattle.keep_types.specs.declared.leaf.Profile.{Profile}
 use Rattle.keep_syntax.specs.Tree.{Written, Value, Document, bom_leaves, ended_leaves, keyval, text_of, value_depth}
 use Rattle.keep_path.specs.Path.{Part, key, strip}
-use Rattle.keep_meaning.specs.Marks.{Mention, start}
-use Rattle.keep_meaning.specs.Meaning.{lines, mentions_in}
+use Rattle.keep_meaning.specs.Marks.{Mention}
+use Rattle.keep_meaning.specs.Meaning.{mentions_in}
 use Rattle.keep_meaning.specs.Nodes.{fact_at, has, is_at, is_element, is_node}
 use Rattle.keep_edit_spec.specs.AddedLines.{AddsLine, AddsLineStill}
 use Rattle.keep_edit_spec.specs.ClearedLines.{line_start}
 use Rattle.keep_edit_spec.specs.Edits.{end_of, insert, name_with, place}
 use Rattle.keep_edit_spec.specs.Insertion.{put_in}
-use Rattle.keep_edit_spec.specs.Laws.{IsEditable}
-use Rattle.keep_edit_spec.specs.Lines.{ended_text, last_line, new_line, newline_of}
+use Rattle.keep_edit_spec.specs.Lines.{ended_text, new_line, newline_of}
 use Rattle.keep_edit_spec.specs.Look.{holder, is_table, is_table_fact}
 use Rattle.keep_edit_spec.specs.Refusals.{refusal}
 use Rattle.keep_edit_spec.specs.TextChanges.{TextChange, moved, moved_by}
+use Rattle.keep_edit_spec.proofs.Common.Cuts.{IsCut, cut_by}
 use Rattle.keep_edit_spec.proofs.Insert.NewPath.{new_path}
 use Rattle.keep_edit_spec.proofs.Lists.NewHolder.{fresh, holder_here, path_new}
 use Rattle.keep_edit_spec.proofs.Lists.OtherPaths.{no_item}
-use Rattle.keep_edit_spec.proofs.Lists.OwnLine.{fact_without, kinds_without, unsaid_without, without}
+use Rattle.keep_edit_spec.proofs.Lists.OwnLine.{kinds_cut, unsaid_cut}
 use Rattle.keep_edit_spec.proofs.Lists.Places.{line_is, place_is}
-use Rattle.keep_edit_spec.proofs.Lists.RemovedPlaces.{mine}
 use Rattle.keep_edit_spec.proofs.Lists.SaidOfPrefixes.{enclosing_same, refused_alike}
 use Rattle.keep_edit_spec.proofs.Lists.SetAllowed.{prefix_clear}
 
-module _ (profile : Profile) (limit : ℕ) (s : Document) (path : List Part) (n : ℕ)
-    (fine : IsEditable profile limit s) (own : last_line (mine path) start (lines s) ≡ Some n)
-    (line : n < length s.ended) (now : Document)
-    (said : mentions_in now ≡ without profile limit s path n fine own line)
+module _ (profile : Profile) (limit : ℕ) (s : Document) (path : List Part) (now : Document)
+    (cut : IsCut path (mentions_in s) (mentions_in now))
     (other : List Part) (more : Value) (m : TextChange) (k : AddsLine profile limit s other more m)
     (clear : strip path other ≡ None) (j : ℕ) (ends : end_of now (holder other (mentions_in s)) ≡ Some j) where
   abbrev ms : List Mention
@@ -58,9 +56,7 @@ module _ (profile : Profile) (limit : ℕ) (s : Document) (path : List Part) (n 
   unsaid_then = fresh profile limit s other more m k
 
   unsaid_now : list_any (is_at first) left ≡ false
-  unsaid_now =
-      ap (list_any (is_at first)) said
-      ∙ unsaid_without profile limit s path n fine own line (is_at first) unsaid_then
+  unsaid_now = unsaid_cut (is_at first) path ms left cut unsaid_then
 
   -- ---- the holder
 
@@ -76,9 +72,7 @@ module _ (profile : Profile) (limit : ℕ) (s : Document) (path : List Part) (n 
   -- ---- the refusal
 
   fact_same : (q rest : List Part) → other ≡ q ++ rest → fact_at q left ≡ fact_at q ms
-  fact_same q rest is =
-      ap (fact_at q) said
-      ∙ fact_without profile limit s path n fine own line q (prefix_clear path other q rest clear is)
+  fact_same q rest is = cut_by path ms left cut q None (prefix_clear path other q rest clear is)
 
   table : is_table a ms ≡ true
   table = (new_path profile limit ms other more (no_item profile limit s other more m ms k) k.allowed).table
@@ -87,8 +81,7 @@ module _ (profile : Profile) (limit : ℕ) (s : Document) (path : List Part) (n 
   table_same =
       let (known, single) = and_parts (is_table_fact (fact_at a ms)) (not (has is_element a ms)) table in
       let single_now : has is_element a left ≡ false =
-      ap (has is_element a) said
-      ∙ kinds_without profile limit s path n fine own line is_element a (not-true (has is_element a ms) single) in
+      kinds_cut is_element path a ms left cut (not-true (has is_element a ms) single) in
       ap (λ (q : List Part). is_table q left) holder_now
       ∙ ap₂ (λ (x y : Bool). x && not y)
       (ap is_table_fact (fact_same a (map key (k.text ∷ k.more)) k.new) ∙ known) single_now

@@ -4,7 +4,7 @@
 -- path with first keys of a header that passes it by the same is said (`lets_come`). The last line is the same, and
 -- there is a line with a newline: the new one (`still_closed`). So the header is written as before (HeaderStays).
 --
--- Theorems: `table_after_insert`, `element_after_insert`.
+-- Theorems: `table_after_insert`, `element_after_insert`; `still_closed`.
 use Rattle.std.proofs.Common.{◌≡◌, ℕ, true, List, ◌∷◌, length, take, drop, ap, ◌∙◌}
 use Rattle.std.proofs.Common.{length-append, arith}
 use Rattle.keep_types.specs.declared.leaf.Profile.{Profile}
@@ -43,7 +43,7 @@ module _ (profile : Profile) (limit : ℕ) (s : Document) (path : List Part) (va
       same_lets (mentions_in s) (mentions_in now) more
       (λ q rest is. kinds_stay profile limit s path value c h q (passes_clear more (first_new s path) q rest passes is))
 
-  still_closed : ends_in_newline (text s) ≡ true → ends_in_newline (text now) ≡ true
+  pub still_closed : ends_in_newline (text s) ≡ true → ends_in_newline (text now) ≡ true
   still_closed closed =
       let is : now ≡ _ = edited_is profile limit s path value c h in
       lines_end profile now law.reads.valid

@@ -4,7 +4,7 @@
 -- (`tables_beside`), so the header is let come (`lets_without`). The line does not end where the header comes, so that
 -- is written as before (HeaderStays).
 --
--- Theorems: `table_after_remove`, `element_after_remove`; `lets_without`.
+-- Theorems: `table_after_remove`, `element_after_remove`; `lets_without`; `any_made`.
 use Rattle.std.proofs.Common.{◌≡◌, ℕ, ◌+◌, ◌<◌, Bool, false, ◌||◌, List, [], ◌∷◌, ◌++◌, length, refl, sym, ap, ◌∙◌}
 use Rattle.std.proofs.Common.{Option, Some, None}
 use Rattle.std.specs.List.{cons_option, filter_map, list_any}
@@ -35,11 +35,11 @@ use Rattle.keep_edit_spec.proofs.Lists.RemovedPlaces.{mine}
 
 -- ---- a test of what is made of some
 
-abbrev some_passes : {B : Type 0} → (B → Bool) → Option B → Bool
+abbrev pub some_passes : {B : Type 0} → (B → Bool) → Option B → Bool
 some_passes T None = false
 some_passes T (Some y) = T y
 
-any_made : {A B : Type 0} (f : A → Option B) (T : B → Bool) (xs : List A)
+pub any_made : {A B : Type 0} (f : A → Option B) (T : B → Bool) (xs : List A)
     → list_any T (filter_map f xs) ≡ list_any (λ (x : A). some_passes T (f x)) xs
 any_made f T [] = refl
 any_made {A = A} {B = B} f T (x ∷ xs) = by (f x) (any_made f T xs)

@@ -1,38 +1,40 @@
 -- A header that an append writes at the end of a text that ends in a newline, of a table or of an element.
 --
 -- All that another edit asks of it is in `HeaderComes`: what it says is said after the rest, and has paths that its
--- keys lead to (HeaderSays); it states nothing of a path whose body begins in the document (HeaderNew); it comes before
--- the last line (HeaderLines), where the change is stated to be; and it has no value, nor a key part that leads to a
--- path that its keys pass by.
+-- keys lead to (HeaderSays); it states nothing of a path whose body begins in the document (HeaderNew), so it does not
+-- begin that body once more (`not_begun`); it comes before the last line (HeaderLines), where the change is stated to
+-- be; and it has no value, nor a key part that leads to a path that its keys pass by.
 --
--- Theorems: `table_comes`, `element_comes`.
-use Rattle.std.proofs.Common.{◌≡◌, ℕ, true, List, [], ◌∷◌, ◌++◌, map, refl, sym, ap, subst, ◌∙◌, Option, Some}
-use Rattle.std.proofs.Common.{None}
+-- Theorems: `table_comes`, `element_comes`; `after_header`, `not_begun`, `values_pass`.
+use Rattle.std.proofs.Common.{◌≡◌, ℕ, Bool, true, false, List, [], ◌∷◌, ◌++◌, map, refl, sym, ap, subst, ◌∙◌, Option}
+use Rattle.std.proofs.Common.{Some, None}
 use Rattle.std.specs.Prelude.{position}
 use Rattle.keep_types.specs.declared.leaf.Profile.{Profile}
 use Rattle.keep_syntax.specs.Tree.{Content, Document, Line, blank, comment_leaves, element, header, text}
 use Rattle.keep_syntax.specs.Tree.{text_of}
 use Rattle.keep_path.specs.Path.{Part, same_path}
 use Rattle.keep_meaning.specs.Marks as marks_of
-use Rattle.keep_meaning.specs.Marks.{Mention, Reading, Statement, header_path, marks, statement_mentions}
-use Rattle.keep_meaning.specs.Meaning.{keys_of, line_mentions, mentions_in}
+use Rattle.keep_meaning.specs.Marks.{Mention, Reading, Statement, header_path, marks, start, statement_mentions}
+use Rattle.keep_meaning.specs.Meaning.{keys_of, line_mentions, line_of, lines, mentions_in, reading_after_lines}
 use Rattle.keep_meaning.specs.Rules.{ObeysRules}
 use Rattle.keep_edit_spec.specs.AppendedHeaders.{AppendsElement, AppendsTable}
 use Rattle.keep_edit_spec.specs.Changed.{Changed, place_of, within}
 use Rattle.keep_edit_spec.specs.Edits.{append, changed_or_same, key_with}
 use Rattle.keep_edit_spec.specs.Laws.{IsEditable}
-use Rattle.keep_edit_spec.specs.Lines.{in_content, in_line, key_prefixes, part_paths, plain_line}
+use Rattle.keep_edit_spec.specs.Lines.{begins, in_content, in_line, key_prefixes, part_paths, plain_line}
 use Rattle.keep_edit_spec.specs.Runs.{PassesBy}
 use Rattle.keep_edit_spec.specs.Refusals.{conflict, end_reading, tables_in}
 use Rattle.keep_edit_spec.specs.TextChanges.{TextChange, place_of_change}
 use Rattle.keep_edit_spec.specs.TextEnds.{ends_in_newline}
 use Rattle.keep_edit_spec.specs.Values.{Act}
-use Rattle.keep_edit_spec.proofs.Append.AppendTable.{no_conflict}
+use Rattle.keep_edit_spec.proofs.Append.AppendLaw.{reading_append}
+use Rattle.keep_edit_spec.proofs.Append.AppendTable.{no_conflict, tables_stated}
+use Rattle.keep_edit_spec.proofs.Common.BodyEnd.{IsStated, begins_stated}
 use Rattle.keep_edit_spec.proofs.Common.Marks.{rules_of_document}
 use Rattle.keep_edit_spec.proofs.Common.NewLines.{key_means}
-use Rattle.keep_edit_spec.proofs.Common.Runs.{AllOf, Rules}
+use Rattle.keep_edit_spec.proofs.Common.Runs.{AllOf, Rules, SomeOf, meet}
 use Rattle.keep_edit_spec.proofs.Lists.HeaderLines.{FindsNothing, append_is, headed, last_blank}
-use Rattle.keep_edit_spec.proofs.Lists.HeaderNew.{IsBegunIn, StatesNothing, element_new, table_new}
+use Rattle.keep_edit_spec.proofs.Lists.HeaderNew.{IsBegunIn, StatesNothing, element_new, not_stated, table_new}
 use Rattle.keep_edit_spec.proofs.Lists.HeaderSays.{IsOfHeader, element_own, not_named, table_own}
 use Rattle.keep_edit_spec.proofs.Lists.StillAppends.{said}
 use Rattle.keep_edit_spec.proofs.Rename.KeyTexts.{key_texts}
@@ -54,6 +56,31 @@ pub after_header : (P : Document → Type 0) (s : Document) (content : Content) 
     → HeaderComes s keys c content → P (headed s content).to → P (changed_or_same s (append s content)).to
 after_header P s content keys c h holds =
     subst (λ (o : Option (Changed Document)). P (changed_or_same s o).to) (sym h.made) holds
+
+-- It does not begin once more a body that begins in the document.
+module _ (s : Document) (keys : List (List ℕ)) (c : TextChange) (content : Content) (h : HeaderComes s keys c content)
+  where
+    abbrev at_end : Reading
+    at_end = reading_after_lines start (map line_of s.ended)
+
+    tables : at_end.tables ≡ tables_in (mentions_in s)
+    tables =
+        ap (λ (r : Reading). r.tables)
+        (sym (reading_append start (map line_of s.ended) (s.last ∷ [])
+        ∙ ap (λ (x : Content). reading_after_lines at_end (plain_line x ∷ [])) h.empty))
+        ∙ tables_stated start (lines s)
+
+    pub not_begun : (a : List Part) → IsBegunIn a (mentions_in s) → begins a at_end (plain_line content) ≡ false
+    not_begun a begun = by (begins a at_end (plain_line content)) refl
+      where
+        by : (b : Bool) → begins a at_end (plain_line content) ≡ b → b ≡ false
+        by false e = refl
+        by true e =
+            let (m, stated, nothing) =
+            meet (IsStated a) (StatesNothing a) h.own
+            (subst (SomeOf (IsStated a)) (h.stated at_end tables) (begins_stated a at_end (plain_line content) e))
+            (h.new a begun) in
+            absurd (not_stated a m stated nothing)
 
 -- A search in values passes it.
 pub values_pass : (s : Document) (keys : List (List ℕ)) (c : TextChange) (content : Content)

@@ -4,7 +4,7 @@
 -- do not count, and a header ends the body before it. So a body's length is the same (`lengths_same`), and so is its
 -- end, if the header does not begin it once more (`ends_same`, both by induction over the lines).
 --
--- Theorems: `lengths_same`, `end_headed`.
+-- Theorems: `lengths_same`, `last_headed`, `end_headed`.
 use Rattle.std.proofs.Common.{◌≡◌, ℕ, true, false, List, [], ◌∷◌, ◌++◌, map, refl, sym, ap, ap₂, ◌∙◌, Option, Some}
 use Rattle.std.proofs.Common.{None}
 use Rattle.keep_syntax.specs.Tree.{Content, Document, Line, blank}
@@ -14,7 +14,7 @@ use Rattle.keep_meaning.specs.Meaning.{after_line, line_of, lines, reading_after
 use Rattle.keep_edit_spec.specs.Edits.{end_of}
 use Rattle.keep_edit_spec.specs.Lines.{begins, body_length, is_header, last_line, more_lines, plain_line}
 use Rattle.keep_edit_spec.proofs.Lists.BodyEnds.{end_at, end_cons, end_in, end_or, header_none, length_after}
-use Rattle.keep_edit_spec.proofs.Lists.HeaderLines.{headed, lines_are, not_last, put_is}
+use Rattle.keep_edit_spec.proofs.Lists.HeaderLines.{headed, last_before, lines_are, not_last, put_is}
 
 pub lengths_same : (first more others : List Line) → body_length more ≡ body_length others
     → body_length (first ++ more) ≡ body_length (first ++ others)
@@ -50,19 +50,31 @@ module _ (s : Document) (content : Content) (empty : s.last.content ≡ blank) (
       ap (more_lines false) (header_none content (body_length last) is)
       ∙ sym (ap (λ (x : Content). length_after x 0) empty)
 
+  none_in_last : (a : List Part) (r : Reading) → last_line (begins a) r last ≡ None
+  none_in_last a r =
+      not_last (begins a) r s.last [] (ap (λ (x : Content). begins a r (plain_line x)) empty) refl
+
+  none_in_more : (a : List Part) → begins a at_end (plain_line content) ≡ false
+      → last_line (begins a) at_end more ≡ None
+  none_in_more a other =
+      not_last (begins a) at_end (plain_line blank) (plain_line content ∷ last) refl
+      (not_last (begins a) at_end (plain_line content) last other
+      (none_in_last a (after_line at_end (plain_line content))))
+
   none_begun : (a : List Part) → begins a at_end (plain_line content) ≡ false
       → end_in a at_end more ≡ end_in a at_end last
   none_begun a other =
-      let end : (r : Reading) → last_line (begins a) r last ≡ None =
-      λ r. not_last (begins a) r s.last [] (ap (λ (x : Content). begins a r (plain_line x)) empty) refl in
-      let next : Reading = after_line at_end (plain_line content) in
-      ap (end_at more)
-      (not_last (begins a) at_end (plain_line blank) (plain_line content ∷ last) refl
-      (not_last (begins a) at_end (plain_line content) last other (end next)))
-      ∙ sym (ap (end_at last) (end at_end))
+      ap (end_at more) (none_in_more a other) ∙ sym (ap (end_at last) (none_in_last a at_end))
 
   now_are : lines (headed s content).to ≡ first ++ more
   now_are = ap lines (put_is s content) ∙ lines_are s content
+
+  -- the line that begins a body
+  pub last_headed : (a : List Part) → begins a at_end (plain_line content) ≡ false
+      → last_line (begins a) start (lines (headed s content).to) ≡ last_line (begins a) start (lines s)
+  last_headed a other =
+      ap (last_line (begins a) start) now_are ∙ last_before (begins a) start first more (none_in_more a other)
+      ∙ sym (last_before (begins a) start first last (none_in_last a at_end))
 
   pub end_headed : (a : List Part) → begins a at_end (plain_line content) ≡ false
       → end_of (headed s content).to a ≡ end_of s a

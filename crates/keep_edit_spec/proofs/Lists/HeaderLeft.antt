@@ -4,7 +4,7 @@
 -- After a table no path is another (`table_left`). After an element the numbers of the later ones of its array are one
 -- lower (`element_left`): of the element's header the lines before it and after it are known by `element_cut`.
 --
--- Theorems: `table_left`, `element_left`.
+-- Theorems: `cut`, `table_left`, `element_left`; `section_read`: the reading past a table.
 use Rattle.std.proofs.Common.{◌≡◌, ℕ, false, List, [], ◌∷◌, ◌++◌, map, drop, refl, sym, ap, subst, ◌∙◌}
 use Rattle.std.proofs.Common.{append_assoc, Option, None}
 use Rattle.std.specs.Prelude.{⊤}
@@ -14,7 +14,7 @@ use Rattle.keep_syntax.specs.Tree.{Written, Gap, Content, Line, Document}
 use Rattle.keep_path.specs.Path.{Part, strip}
 use Rattle.keep_meaning.specs.Marks.{Mention, Reading, elements_of, header_path, start}
 use Rattle.keep_meaning.specs.Meaning.{after_line, further_value, key_value, keys_of, line_of, lines, lines_mentions}
-use Rattle.keep_meaning.specs.Meaning.{mentions_in}
+use Rattle.keep_meaning.specs.Meaning.{mentions_in, reading_after_lines}
 use Rattle.keep_meaning.specs.Nodes.{has, is_passed, is_through}
 use Rattle.keep_edit_spec.specs.Laws.{IsEditable}
 use Rattle.keep_edit_spec.specs.Lines.{body_length}
@@ -31,7 +31,7 @@ use Rattle.keep_edit_spec.proofs.Lists.HeaderTaken as taken_of
 use Rattle.keep_edit_spec.proofs.Lists.HeaderTaken.{IsHeaderTaken, element_ends, element_is, element_taken, table_ends}
 use Rattle.keep_edit_spec.proofs.Lists.HeaderTaken.{table_is, table_taken}
 use Rattle.keep_edit_spec.proofs.Lists.SectionAt.{IsSectionAt, lines_were}
-use Rattle.keep_edit_spec.proofs.Lists.SectionsApart.{after, more, more_left, r, without}
+use Rattle.keep_edit_spec.proofs.Lists.SectionsApart.{after, body_keeps, more, more_left, r, without}
 use Rattle.keep_edit_spec.proofs.Remove.RemoveElement.{IsElementCut, IsElementLine, begins_element, element_cut}
 use Rattle.keep_edit_spec.proofs.Remove.RemoveSection.{IsSection, begins_section, section_cut}
 use Rattle.keep_edit_spec.proofs.Remove.Shift.{disjoint_root, element_at, shifted, shifted-injective, shifted_root}
@@ -87,11 +87,11 @@ module _ (profile : Profile) (limit : ℕ) (s : Document) (path : List Part) (c 
   abbrev x : Reading
   x = r s path at
 
-  its : IsSection x path at.head.line.content
+  pub its : IsSection x path at.head.line.content
   its = begins_section path x at.head.line.before at.head.line.after at.head.line.comment at.head.line.content ends
       at.passes
 
-  after_is : after_line x at.head.line ≡ with_body path x
+  pub after_is : after_line x at.head.line ≡ with_body path x
   after_is = by at.head.line.before at.head.line.after at.head.line.comment at.head.line.content its
     where
       by : (before after : Gap) (comment : Option Written) (c : Content) → IsSection x path c
@@ -102,13 +102,17 @@ module _ (profile : Profile) (limit : ℕ) (s : Document) (path : List Part) (c 
           after_line x (record { before = before; content = c; after = after; comment = comment })) i.was
           ∙ ap (λ (p : List Part). with_body p x) i.place
 
+  -- past its header and its body only the body's path is another
+  pub section_read : reading_after_lines x (at.head.line ∷ map line_of at.body) ≡ with_body path x
+  section_read = body_keeps s path at (after_line x at.head.line) ∙ after_is
+
   abbrev pre : List Line
   pre = map line_of at.first
 
   abbrev post : List Line
   post = after s path at
 
-  cut : IsCut path (mentions_in s) (mentions_in (without s path at))
+  pub cut : IsCut path (mentions_in s) (mentions_in (without s path at))
   cut =
       let p : List Part = header_path x.tables [] (keys_of its.keys) in
       let was : lines s ≡ pre ++ at.head.line ∷ post = lines_were s path at in

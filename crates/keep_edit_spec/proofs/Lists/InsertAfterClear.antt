@@ -24,7 +24,7 @@ use Rattle.keep_edit_spec.proofs.Lists.EndsCleared.{end_cleared}
 use Rattle.keep_edit_spec.proofs.Lists.LineCleared as done
 use Rattle.keep_edit_spec.proofs.Lists.LineStarts.{line_moves}
 use Rattle.keep_edit_spec.proofs.Lists.NewHolder.{apart_clear}
-use Rattle.keep_edit_spec.proofs.Lists.OwnLine.{before_length}
+use Rattle.keep_edit_spec.proofs.Lists.OwnLine.{before_length, cut_now}
 use Rattle.keep_edit_spec.proofs.Lists.Places.{at_is}
 
 module _ (profile : Profile) (limit : ℕ) (s : Document) (path : List Part) (l : TextChange)
@@ -66,9 +66,10 @@ module _ (profile : Profile) (limit : ℕ) (s : Document) (path : List Part) (l 
   adds_now : strip path other ≡ None → IsBeside l m → newline_of x.to ≡ newline_of s
       → l.at + l.size ≢ m.at → AddsLineStill profile limit s x.to other more (moved l m)
   adds_now clear side same past =
-      adds_again profile limit s path h.number fine h.own h.closed x.to
-      (ap mentions_in to_is ∙ done.said_now profile limit s path l fine h) other more m k clear k.number
-      (ends_now past) closed_now l (at_now side) same k.newline
+      adds_again profile limit s path x.to
+      (cut_now profile limit s path h.number fine h.own h.closed x.to
+      (ap mentions_in to_is ∙ done.said_now profile limit s path l fine h))
+      other more m k clear k.number (ends_now past) closed_now l (at_now side) same k.newline
 
 pub insert_after_clear : InsertAfterClear
 insert_after_clear profile limit s path l other more m fine h k apart side same past =

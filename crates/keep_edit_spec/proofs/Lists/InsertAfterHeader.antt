@@ -1,11 +1,11 @@
 -- An insert that adds a line adds the same one after a header came at the end of the text, if the header's keys do not
 -- lead to the first new key and it does not write at the end of the text itself.
 --
--- The holder's body begins in the document, so the header states nothing of it (HeaderNew): it does not begin that body
--- once more (`not_begun`), which so ends where it did (HeaderEnds), and the holder is a table as before. The header
--- says nothing of the first new key's path, so nothing is under it (NewHolder), and of the prefixes of the path at most
--- that they are tables (HeaderSays). So the insert is not refused (`allowed_now`, by SaidOfPrefixes). The header comes
--- behind the line, so the place stays (`place_now`).
+-- The holder's body begins in the document, so the header does not begin it once more (HeaderComes): it ends where it
+-- did (HeaderEnds), and the holder is a table as before (HeaderNew). The header says nothing of the first new key's
+-- path, so nothing is under it (NewHolder), and of the prefixes of the path at most that they are tables (HeaderSays).
+-- So the insert is not refused (`allowed_now`, by SaidOfPrefixes). The header comes behind the line, so the place stays
+-- (`place_now`).
 --
 -- Theorems: `insert_after_table`, `insert_after_element`.
 use Rattle.std.proofs.Common.{◌≡◌, ◌≢◌, ℕ, suc, ◌+◌, ◌-◌, ◌<◌, ◌≤◌, Bool, true, false, cond, List, [], ◌∷◌, ◌++◌}
@@ -18,33 +18,30 @@ use Rattle.keep_types.specs.declared.leaf.Profile.{Profile}
 use Rattle.keep_syntax.specs.Tree.{Written, Content, Document, Ended, Value, bom_leaves, element, ended_leaves, header}
 use Rattle.keep_syntax.specs.Tree.{keyval, text, text_of}
 use Rattle.keep_path.specs.Path.{Part, key}
-use Rattle.keep_meaning.specs.Marks.{Mention, MentionKind, Reading, start}
-use Rattle.keep_meaning.specs.Meaning.{line_of, lines, mentions_in, reading_after_lines}
+use Rattle.keep_meaning.specs.Marks.{Mention, MentionKind}
+use Rattle.keep_meaning.specs.Meaning.{mentions_in}
 use Rattle.keep_meaning.specs.Nodes.{is_at, is_node, kinds_at}
 use Rattle.keep_edit_spec.specs.AddedLines.{AddsLine, AddsLineStill, first_new}
 use Rattle.keep_edit_spec.specs.Changed.{Changed, IsChangeOf, Place, place_of}
 use Rattle.keep_edit_spec.specs.Edits.{changed_or_same, end_of, insert, key_with, name_with, place}
 use Rattle.keep_edit_spec.specs.Insertion.{put_in}
 use Rattle.keep_edit_spec.specs.Laws.{IsEditable, IsLawfulEdit}
-use Rattle.keep_edit_spec.specs.Lines.{begins, ended_text, is_header, new_line, newline_of, plain_line}
+use Rattle.keep_edit_spec.specs.Lines.{ended_text, is_header, new_line, newline_of}
 use Rattle.keep_edit_spec.specs.Look.{enclosing, holder, is_bracket_at, is_table}
-use Rattle.keep_edit_spec.specs.Refusals.{refusal, tables_in}
+use Rattle.keep_edit_spec.specs.Refusals.{refusal}
 use Rattle.keep_edit_spec.specs.Runs.{PassesBy}
 use Rattle.keep_edit_spec.specs.TextChanges.{TextChange, moved, moved_by}
 use Rattle.keep_edit_spec.proofs.EditLaws.{insert_lawful}
-use Rattle.keep_edit_spec.proofs.Append.AppendLaw.{reading_append}
 use Rattle.keep_edit_spec.proofs.Append.AppendPlace.{append_place}
-use Rattle.keep_edit_spec.proofs.Append.AppendTable.{tables_stated}
-use Rattle.keep_edit_spec.proofs.Common.BodyEnd.{IsStated, begins_stated, end_is}
+use Rattle.keep_edit_spec.proofs.Common.BodyEnd.{end_is}
 use Rattle.keep_edit_spec.proofs.Common.EntryDepths.{count_same}
 use Rattle.keep_edit_spec.proofs.Common.LineTexts.{change-is}
-use Rattle.keep_edit_spec.proofs.Common.Runs.{SomeOf, meet}
 use Rattle.keep_edit_spec.proofs.Common.Texts.{EachIs}
 use Rattle.keep_edit_spec.proofs.Insert.KeysAtEnd.{first_is}
-use Rattle.keep_edit_spec.proofs.Lists.HeaderComes.{HeaderComes, after_header, element_comes, table_comes}
+use Rattle.keep_edit_spec.proofs.Lists.HeaderComes.{HeaderComes, after_header, element_comes, not_begun, table_comes}
 use Rattle.keep_edit_spec.proofs.Lists.HeaderEnds.{end_headed}
 use Rattle.keep_edit_spec.proofs.Lists.HeaderLines.{header_lines, headed, put_is}
-use Rattle.keep_edit_spec.proofs.Lists.HeaderNew.{IsBegunIn, StatesNothing, not_stated, table_stays}
+use Rattle.keep_edit_spec.proofs.Lists.HeaderNew.{IsBegunIn, table_stays}
 use Rattle.keep_edit_spec.proofs.Lists.HeaderSays.{bracket_same, kinds_same}
 use Rattle.keep_edit_spec.proofs.Lists.NewHolder.{fresh, holder_here, path_new}
 use Rattle.keep_edit_spec.proofs.Lists.OtherPaths.{no_item}
@@ -77,30 +74,8 @@ module _ (profile : Profile) (limit : ℕ) (s : Document) (keys : List (List ℕ
   begun : IsBegunIn a ms
   begun = (end_is s a n k.ends).stated
 
-  abbrev at_end : Reading
-  at_end = reading_after_lines start (map line_of s.ended)
-
-  tables : at_end.tables ≡ tables_in ms
-  tables =
-      ap (λ (r : Reading). r.tables)
-      (sym (reading_append start (map line_of s.ended) (s.last ∷ [])
-      ∙ ap (λ (x : Content). reading_after_lines at_end (plain_line x ∷ [])) h.empty))
-      ∙ tables_stated start (lines s)
-
-  not_begun : begins a at_end (plain_line content) ≡ false
-  not_begun = by (begins a at_end (plain_line content)) refl
-    where
-      by : (b : Bool) → begins a at_end (plain_line content) ≡ b → b ≡ false
-      by false e = refl
-      by true e =
-          let (m, stated, nothing) =
-          meet (IsStated a) (StatesNothing a) h.own
-          (subst (SomeOf (IsStated a)) (h.stated at_end tables) (begins_stated a at_end (plain_line content) e))
-          (h.new a begun) in
-          absurd (not_stated a m stated nothing)
-
   end_now : end_of now a ≡ Some n
-  end_now = end_headed s content h.empty is a not_begun ∙ k.ends
+  end_now = end_headed s content h.empty is a (not_begun s keys c content h a begun) ∙ k.ends
 
   closed_now : n ≤ length now.ended
   closed_now =

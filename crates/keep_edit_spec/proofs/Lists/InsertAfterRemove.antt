@@ -102,8 +102,8 @@ module _ (profile : Profile) (limit : ℕ) (s : Document) (path : List Part) (l 
 
   adds_now : newline_of now ≡ newline_of s → AddsLineStill profile limit s now other more (moved l m)
   adds_now same =
-      adds_again profile limit s path h.number fine h.own h.closed now (gone.said_now profile limit s path l fine h)
-      other more m k clear j end_now.ends closed_now l at_now same newline_now
+      adds_again profile limit s path now (gone.cut_now profile limit s path l fine h) other more m k clear j
+      end_now.ends closed_now l at_now same newline_now
 
 pub insert_after_remove : InsertAfterRemove
 insert_after_remove profile limit s path l other more m fine h k apart beside same past =

@@ -110,9 +110,8 @@ module _ (profile : Profile) (limit : ℕ) (s : Document) (path : List Part) (l 
 
   adds_now : newline_of now ≡ newline_of s → AddsLineStill profile limit s now other more (moved l m)
   adds_now same =
-      adds_again profile limit s path h.number fine h.own h.closed now (gone.said_now profile limit s path l fine h)
-      other more m k clear h.number ends_now (gone.number_few profile limit s path l fine h) l at_now same
-      (inl positive)
+      adds_again profile limit s path now (gone.cut_now profile limit s path l fine h) other more m k clear h.number
+      ends_now (gone.number_few profile limit s path l fine h) l at_now same (inl positive)
 
 pub insert_in_place : InsertInPlace
 insert_in_place profile limit s path l other more m fine h k apart same next says =

@@ -7,8 +7,8 @@
 -- (`lines_without`).
 --
 -- Theorems: `its`, `keeps`, `is_now`, `lines_were`, `lines_are`: the line and the document; `said_was`, `said_now`,
--- `fact_now`: what it says; `before_length`, `length_was`, `number_few`: how many lines
--- there are; `width_same`, `width_less`, `same_to`, `less_from`, `at_before`, `at_from`: the lengths of those before
+-- `cut_now`, `fact_now`: what it says; `before_length`, `length_was`, `number_few`: how many lines there are;
+-- `width_same`, `width_less`, `same_to`, `less_from`, `at_before`, `at_from`: the lengths of those before
 -- one; `document_without`, `line_misses`, `nested_without`, `place_without`: a change after such a remove.
 use Rattle.std.proofs.Common.{◌≡◌, ℕ, zero, suc, ◌+◌, ◌-◌, ◌<◌, ◌≤◌, Bool, true, false, cond, List, [], ◌∷◌, ◌++◌}
 use Rattle.std.proofs.Common.{length, map, take, refl, sym, ap, ap₂, subst, ◌∙◌, append_assoc, length-append, arith}
@@ -31,6 +31,7 @@ use Rattle.keep_edit_spec.specs.Lines.{with_page}
 use Rattle.keep_edit_spec.specs.RemovedLines.{RemovesLine}
 use Rattle.keep_edit_spec.specs.TextChanges.{TextChange, moved, moved_by, place_of_change}
 use Rattle.keep_edit_spec.specs.Values.{Act}
+use Rattle.keep_edit_spec.proofs.Common.Cuts.{IsCut}
 use Rattle.keep_edit_spec.proofs.Common.LineLaws.{lines_mentions-append}
 use Rattle.keep_edit_spec.proofs.Common.LineTexts.{in_line-is}
 use Rattle.keep_edit_spec.proofs.Common.Texts.{EachIs, IsAct}
@@ -220,6 +221,9 @@ module _ (profile : Profile) (limit : ℕ) (s : Document) (path : List Part) (l 
 
   pub said_now : mentions_in now ≡ lines_mentions start before ++ lines_mentions r after
   said_now = ap (lines_mentions start) lines_are ∙ lines_mentions-append start before after
+
+  pub cut_now : IsCut path (mentions_in s) (mentions_in now)
+  cut_now = own.cut_now profile limit s path h.number fine h.own h.closed now said_now
 
   pub fact_now : (q : List Part) → strip path q ≡ None → fact_at q (mentions_in now) ≡ fact_at q (mentions_in s)
   fact_now q e = ap (fact_at q) said_now ∙ own.fact_without profile limit s path h.number fine h.own h.closed q e

@@ -19,6 +19,7 @@ use Rattle.keep_edit_spec.specs.Runs.{IsOfPlace, MakesChange}
 use Rattle.keep_edit_spec.specs.TextChanges.{TextChange, place_of_change, IsWider}
 use Rattle.keep_edit_spec.proofs.EditLaws.{append_element_lawful, append_table_lawful, insert_lawful, place_ordered}
 use Rattle.keep_edit_spec.proofs.EditLaws.{place_within, remove_lawful, rename_lawful, set_lawful}
+use Rattle.keep_edit_spec.proofs.Lists.HeaderTaken.{has_bytes, table_taken}
 use Rattle.keep_edit_spec.proofs.Lists.RemovedPlaces.{line_has_bytes}
 use Rattle.keep_edit_spec.proofs.Lists.WiderChanges.{wider_put}
 
@@ -50,7 +51,11 @@ pub removes_there : (profile : Profile) (limit : ℕ) (s : Document) (path : Lis
     → IsWider (text s) (place s (remove path)) c × (0 < c.size)
 removes_there profile limit s path c fine (inl h) =
     (just_the_place s (remove path) c (h.is ∙ no_text c h.takes), (line_has_bytes profile limit s path c fine h).0)
-removes_there profile limit s path c fine (inr h) = (h.is, omega (arith, h.some, h.is.start, h.is.end))
+removes_there profile limit s path c fine (inr (inl h)) = (h.is, omega (arith, h.some, h.is.start, h.is.end))
+removes_there profile limit s path c fine (inr (inr h)) = (
+  just_the_place s (remove path) c h.is,
+  has_bytes profile limit s path c fine (table_taken profile limit s path c fine h),
+)
 
 pub change_is_there : (profile : Profile) (limit : ℕ) (s : Document) (e : Edit) (c : TextChange)
     → IsEditable profile limit s → MakesChange profile limit s e c → IsOfPlace s e c
@@ -65,7 +70,8 @@ pub change_allowed : (profile : Profile) (limit : ℕ) (s : Document) (e : Edit)
     → MakesChange profile limit s e c → refusal profile limit s e ≡ None
 change_allowed profile limit s (insert path value) c h = h.allowed
 change_allowed profile limit s (remove path) c (inl h) = h.allowed
-change_allowed profile limit s (remove path) c (inr h) = h.allowed
+change_allowed profile limit s (remove path) c (inr (inl h)) = h.allowed
+change_allowed profile limit s (remove path) c (inr (inr h)) = h.allowed
 change_allowed profile limit s (set path value) c h = h.allowed
 change_allowed profile limit s (rename path name) c h = h.allowed
 change_allowed profile limit s (append_table keys) c h = h.allowed

@@ -2,11 +2,12 @@
 --
 -- The line leaves the reading as it is (`keeps`). What it says is at its path or under it, or of tables on the way
 -- there, and no other line says a thing under it (`apart`, `cut_without`). So at a path that is not under it the facts
--- are the same without it (`fact_without`), and what was nowhere said is nowhere said then (`unsaid_without`,
--- `kinds_without`). An act in a value at a path that does not begin with its own finds nothing in it (`line_misses`).
+-- are the same without it (`fact_without`), and what was nowhere said is nowhere said then (`unsaid_without`). An act
+-- in a value at a path that does not begin with its own finds nothing in it (`line_misses`).
 --
--- Theorems: `its`, `keeps`, `lines_were`: the line and the lines beside it; `said_was`, `apart`, `fact_without`,
--- `unsaid_without`, `kinds_without`: what it says; `line_misses`.
+-- Theorems: `its`, `keeps`, `lines_were`: the line and the lines beside it; `said_was`, `apart`, `cut_now`,
+-- `fact_without`, `unsaid_without`: what it says; `line_misses`; `none_of_rest`, `unsaid_cut`, `kinds_cut`:
+-- of what is left once a run is taken out.
 use Rattle.std.proofs.Common.{◌≡◌, ℕ, ◌<◌, Bool, false, List, [], ◌∷◌, ◌++◌, length, map, refl, sym, ap, subst, ◌∙◌}
 use Rattle.std.proofs.Common.{Option, Some, None}
 use Rattle.std.specs.List.{list_any}
@@ -44,6 +45,22 @@ none_of_rest T [] y z e = none_left T y z e
 none_of_rest T (u ∷ x) y z e =
     let (one, others) = or_parts (T u) (list_any T (x ++ (y ++ z))) e in
     or_from (T u) (list_any T (x ++ z)) one (none_of_rest T x y z others)
+
+-- and so of what is said once a run is taken out
+pub unsaid_cut : (T : Mention → Bool) (path : List Part) (from to : List Mention) → IsCut path from to
+    → list_any T from ≡ false → list_any T to ≡ false
+unsaid_cut T path from to c e =
+    ap (list_any T) c.is ∙ none_of_rest T c.before (c.ways ++ c.run) c.after (ap (list_any T) (sym c.was) ∙ e)
+
+pub kinds_cut : (T : MentionKind → Bool) (path q : List Part) (from to : List Mention) → IsCut path from to
+    → list_any T (kinds_at q from) ≡ false → list_any T (kinds_at q to) ≡ false
+kinds_cut T path q from to c e =
+    let gone : List Mention = c.ways ++ c.run in
+    let was : kinds_at q from ≡ kinds_at q c.before ++ (kinds_at q gone ++ kinds_at q c.after) =
+    ap (kinds_at q) c.was ∙ kinds_at-append q c.before (gone ++ c.after)
+    ∙ ap (λ (ks : List MentionKind). kinds_at q c.before ++ ks) (kinds_at-append q gone c.after) in
+    ap (list_any T) (ap (kinds_at q) c.is ∙ kinds_at-append q c.before c.after)
+    ∙ none_of_rest T (kinds_at q c.before) (kinds_at q gone) (kinds_at q c.after) (ap (list_any T) (sym was) ∙ e)
 
 -- ---- the line
 
@@ -97,6 +114,10 @@ module _ (profile : Profile) (limit : ℕ) (s : Document) (path : List Part) (n 
       (line_cut before after c.here.line its.name its.held its.was
       (subst (λ (ls : List Line). Rules (lines_mentions start ls)) lines_were (rules_of_document s fine.obeys))))
 
+  -- in a document that says the others
+  pub cut_now : (now : Document) → mentions_in now ≡ without → IsCut path (mentions_in s) (mentions_in now)
+  cut_now now said = subst (IsCut path (mentions_in s)) (sym said) cut_without
+
   pub apart : IsBeside path (lines_mentions start before) (line_mentions r c.here.line) (lines_mentions r after)
   apart =
       let mid : line_mentions r c.here.line ≡ map (below r.body) (keyval_mentions its.name its.held) =
@@ -114,23 +135,7 @@ module _ (profile : Profile) (limit : ℕ) (s : Document) (path : List Part) (n 
   fact_without q e = cut_by path (mentions_in s) without cut_without q None e
 
   pub unsaid_without : (T : Mention → Bool) → list_any T (mentions_in s) ≡ false → list_any T without ≡ false
-  unsaid_without T e =
-      ap (list_any T) cut_without.is
-      ∙ none_of_rest T cut_without.before (cut_without.ways ++ cut_without.run) cut_without.after
-      (ap (list_any T) (sym cut_without.was) ∙ e)
-
-  pub kinds_without : (T : MentionKind → Bool) (q : List Part) → list_any T (kinds_at q (mentions_in s)) ≡ false
-      → list_any T (kinds_at q without) ≡ false
-  kinds_without T q e =
-      let gone : List Mention = cut_without.ways ++ cut_without.run in
-      let was : kinds_at q (mentions_in s)
-      ≡ kinds_at q cut_without.before ++ (kinds_at q gone ++ kinds_at q cut_without.after) =
-      ap (kinds_at q) cut_without.was ∙ kinds_at-append q cut_without.before (gone ++ cut_without.after)
-      ∙ ap (λ (ks : List MentionKind). kinds_at q cut_without.before ++ ks)
-      (kinds_at-append q gone cut_without.after) in
-      ap (list_any T) (ap (kinds_at q) cut_without.is ∙ kinds_at-append q cut_without.before cut_without.after)
-      ∙ none_of_rest T (kinds_at q cut_without.before) (kinds_at q gone) (kinds_at q cut_without.after)
-      (ap (list_any T) (sym was) ∙ e)
+  unsaid_without T e = unsaid_cut T path (mentions_in s) without cut_without e
 
   -- ---- what is changed in it
 

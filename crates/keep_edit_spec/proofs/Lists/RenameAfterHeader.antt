@@ -56,7 +56,7 @@ renamable_after keys path text ms own clear free of_header h =
 
 -- ---- its change
 
-unnamed : (new : Written) (path : List Part) (r : Reading) (l : Line)
+pub unnamed : (new : Written) (path : List Part) (r : Reading) (l : Line)
     → position (same_path path) (part_paths r l.content) ≡ None → rename_line new path r l ≡ None
 unnamed new path r l e = rw (e, rename_line) refl
 

@@ -59,7 +59,7 @@ mark_solid begun e = absurd cc
 mark_solid passed e = absurd cc
 mark_solid other e = refl
 
-told : (new : Written) (p : List Part) (n : syntax.Count) (r : Reading) (l : Line) (d : Changed Line)
+pub told : (new : Written) (p : List Part) (n : syntax.Count) (r : Reading) (l : Line) (d : Changed Line)
     → rename_line new p r l ≡ Some d → SomeOf (IsSolidAt p) (line_mentions r l)
 told new p n r l d e =
     let x : IsRenamedIn n.at p new.text (line_mentions r l) (line_parts n l) d =

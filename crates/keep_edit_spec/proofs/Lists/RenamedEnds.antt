@@ -2,12 +2,12 @@
 --
 -- A header's line is known by what it says: its last mention, and no other, begins a body (`headed`). The new document
 -- says the same line by line, with the paths changed. So a header comes where one was, and begins the body of a path
--- that stays where it did (`heads_stay`). The lines between are of the same kinds, so bodies are as long as they were
--- (`lengths_stay`).
+-- that stays where it did (`heads_stay`, `begun_stay`). The lines between are of the same kinds, so bodies are as long
+-- as they were (`lengths_stay`).
 --
--- Theorem: `end_renamed`; `headed`, `silent_starts`: what a header's line says.
+-- Theorems: `end_renamed`, `begins_renamed`; `headed`, `silent_starts`: what a header's line says.
 use Rattle.std.proofs.Common.{◌≡◌, ℕ, Bool, true, false, ◌&&◌, ◌||◌, List, [], ◌∷◌, ◌++◌, map, refl, sym, ap, ap₂}
-use Rattle.std.proofs.Common.{◌∙◌, Some, None}
+use Rattle.std.proofs.Common.{subst, ◌∙◌, Some, None}
 use Rattle.std.specs.List.{list_any}
 use Rattle.std.specs.Option.{is_some}
 use Rattle.std.proofs.lemmas.List.{append-nil}
@@ -21,10 +21,11 @@ use Rattle.keep_meaning.specs.Meaning.{after_line, keys_of, keyval_mentions, lin
 use Rattle.keep_meaning.specs.Meaning.{mentions_in, statement_of}
 use Rattle.keep_meaning.specs.Nodes.{is_begun, is_define}
 use Rattle.keep_edit_spec.specs.Edits.{end_of}
-use Rattle.keep_edit_spec.specs.Lines.{begins, body_length, is_header, more_lines}
+use Rattle.keep_edit_spec.specs.Lines.{begins, body_length, is_header, last_line, more_lines}
 use Rattle.keep_edit_spec.proofs.Common.Moves.{moved}
 use Rattle.keep_edit_spec.proofs.Common.Runs.{AllOf, IsDisjoint, all_left, all_map, all_right}
 use Rattle.keep_edit_spec.proofs.Lists.BodyEnds.{end_cons, end_in, end_or, length_after}
+use Rattle.keep_edit_spec.proofs.Lists.RemovedOwn.{last_or}
 use Rattle.keep_edit_spec.proofs.Lists.RenamePlaces.{same_moved}
 use Rattle.keep_edit_spec.proofs.Remove.KeyvalMentions.{mentioned_below, mentions_keyval}
 use Rattle.keep_edit_spec.proofs.Remove.RemoveSection.{silent_prefixes}
@@ -149,12 +150,35 @@ module _ (p b : List Part) where
         (ends_stay (after_line r l) (after_line r' l') ls ls' h.1 later)
         ∙ sym (end_cons a r l ls)
 
+    begun_stay : (r r' : Reading) (ls ls' : List Line) → AreLinesMoved (moved_path p b) r r' ls ls'
+        → AllOf (IsDisjoint b) (lines_mentions r ls) → last_line (begins a) r' ls' ≡ last_line (begins a) r ls
+    begun_stay r r' [] [] h clear = refl
+    begun_stay r r' [] (l' ∷ ls') h clear = absurd h
+    begun_stay r r' (l ∷ ls) [] h clear = absurd h
+    begun_stay r r' (l ∷ ls) (l' ∷ ls') h clear =
+        let rest : List Mention = lines_mentions (after_line r l) ls in
+        ap₂ last_or
+        (heads_stay r r' l l' h.0 (all_left (IsDisjoint b) (line_mentions r l) rest clear) (λ q. same_path q a) keeps)
+        (begun_stay (after_line r l) (after_line r' l') ls ls' h.1
+        (all_right (IsDisjoint b) (line_mentions r l) rest clear))
+
 -- of a path that stays
-pub end_renamed : (p b : List Part) (s s' : Document) (a : List Part) → IsMovedTo p b s s'
-    → AllOf (IsDisjoint b) (mentions_in s) → strip p a ≡ None → strip b a ≡ None → end_of s' a ≡ end_of s a
-end_renamed p b s s' [] h clear apart fresh =
-    ap (λ (n : ℕ). Some n) (lengths_stay p b start start (lines s) (lines s') h clear)
-end_renamed p b s s' (x ∷ xs) h clear apart fresh =
-    ends_stay p b (x ∷ xs)
-    (same_moved (moved_path p b) (λ q. strip b q ≡ None) (renamed_injective p b) (x ∷ xs) (x ∷ xs) fresh
-    (disjoint_renamed p b (x ∷ xs) apart)) start start (lines s) (lines s') h clear
+module _ (p b : List Part) (s s' : Document) (a : List Part) (h : IsMovedTo p b s s')
+    (clear : AllOf (IsDisjoint b) (mentions_in s)) (apart : strip p a ≡ None) (fresh : strip b a ≡ None) where
+  keeps_path : Keeps p b (λ q. same_path q a)
+  keeps_path =
+      same_moved (moved_path p b) (λ q. strip b q ≡ None) (renamed_injective p b) a a fresh
+      (disjoint_renamed p b a apart)
+
+  pub end_renamed : end_of s' a ≡ end_of s a
+  end_renamed = by a refl
+    where
+      by : (q : List Part) → a ≡ q → end_of s' q ≡ end_of s q
+      by [] e = ap (λ (n : ℕ). Some n) (lengths_stay p b start start (lines s) (lines s') h clear)
+      by (x ∷ xs) e =
+          subst (λ (q : List Part). end_in q start (lines s') ≡ end_in q start (lines s)) e
+          (ends_stay p b a keeps_path start start (lines s) (lines s') h clear)
+
+  -- the last line that begins its body
+  pub begins_renamed : last_line (begins a) start (lines s') ≡ last_line (begins a) start (lines s)
+  begins_renamed = begun_stay p b a keeps_path start start (lines s) (lines s') h clear

@@ -60,11 +60,11 @@ module _ (s : Document) (path : List Part) (valueless : SomeOf (IsAloneAt path) 
 
 -- ---- lines that are dropped in a row
 
-record IsRunDropped (first gone more : List Ended) (last : Line) (c : Changed Page) : Type 0 where
-  to : c.to ≡ record { ended = first ++ more; last = last }
-  before : length c.before ≡ width first
-  old : length c.old ≡ width gone
-  new : c.new ≡ []
+pub record IsRunDropped (first gone more : List Ended) (last : Line) (c : Changed Page) : Type 0 where
+  pub to : c.to ≡ record { ended = first ++ more; last = last }
+  pub before : length c.before ≡ width first
+  pub old : length c.old ≡ width gone
+  pub new : c.new ≡ []
 
 run_dropped : (gone more : List Ended) (last : Line)
     → IsRunDropped [] gone more last (drop_prefix (length gone) (gone ++ more) last)
@@ -85,7 +85,7 @@ run_dropped (e ∷ gone) more last =
       new = d.new;
     }
 
-lines_dropped : (first gone more : List Ended) (last : Line)
+pub lines_dropped : (first gone more : List Ended) (last : Line)
     → IsRunDropped first gone more last (drop_lines (length first) (length gone) (first ++ (gone ++ more)) last)
 lines_dropped [] [] [] last = record { to = refl; before = refl; old = refl; new = refl }
 lines_dropped [] [] (e ∷ more) last = record { to = refl; before = refl; old = refl; new = refl }
@@ -135,7 +135,7 @@ module _ (s : Document) (path : List Part) (at : IsSectionAt s path) where
       ap (λ (es : List Ended). map line_of es ++ s.last ∷ []) at.was
       ∙ lines_here at.first at.head (at.body ++ at.more) s.last
 
-  last_is : last_line (begins path) start (lines s) ≡ Some (length at.first)
+  pub last_is : last_line (begins path) start (lines s) ≡ Some (length at.first)
   last_is =
       ap (last_line (begins path) start) lines_were
       ∙ last_at (begins path) start (map line_of at.first) at.head.line after at.passes at.none_later
@@ -153,12 +153,12 @@ module _ (s : Document) (path : List Part) (at : IsSectionAt s path) where
         ])
         (nested removal path s)))
 
-    count : body_length (drop (suc (length at.first)) (lines s)) ≡ length at.body
+    pub count : body_length (drop (suc (length at.first)) (lines s)) ≡ length at.body
     count =
         ap (λ (ls : List Line). body_length (drop (suc (length at.first)) ls)) lines_were
         ∙ ap body_length (after_length at.first at.head.line after) ∙ at.size
 
-    changes : change s (remove path) ≡ without_lines s (length at.first) (suc (length at.body))
+    pub changes : change s (remove path) ≡ without_lines s (length at.first) (suc (length at.body))
     changes =
         ap (λ (o : Option (Changed Page)). by o (last_line (mine path) start (lines s))
         (last_line (begins path) start (lines s))) clear

@@ -5,7 +5,7 @@
 -- the next header (`by_earlier`). If after, all its lines are there (`by_later`). Where the headers' paths go once the
 -- first is gone, is given by a function (HeadersGo); the second's path goes there too.
 --
--- Theorems: `still_at`: where it is; `head_bytes`: a header's line has bytes.
+-- Theorems: `still_at`: where it is; `head_bytes`: a header's line has bytes; `seam_of`: a list that is cut twice.
 use Rattle.std.proofs.Common.{◌≡◌, ◌≢◌, ℕ, zero, suc, ◌+◌, ◌<◌, ◌≤◌, Bool, true, false, List, [], ◌∷◌, ◌++◌, length}
 use Rattle.std.proofs.Common.{map, take, drop, refl, sym, ap, ap₂, subst, ◌∙◌, append_assoc, arith, Option, Some, None}
 use Rattle.std.proofs.Common.{◌⊎◌, inl, inr}
@@ -60,11 +60,11 @@ order_of (c ∷ a) (d ∷ b) h k x y e =
     let rest : a ++ h ∷ x ≡ b ++ k ∷ y = cc in
     subst (λ z. Order (c ∷ a) (z ∷ b) h k x y) one (order_step c a b h k x y (order_of a b h k x y rest))
 
-data Seam {T : Type 0} (a b : List T) (c : List T) (k : T) (y : List T) : Type 0 where
+pub data Seam {T : Type 0} (a b : List T) (c : List T) (k : T) (y : List T) : Type 0 where
   within : (z : List T) → a ≡ c ++ k ∷ z → Seam a b c k y
   beyond : (z : List T) → c ≡ a ++ z → b ≡ z ++ k ∷ y → Seam a b c k y
 
-seam_of : {T : Type 0} (a b c : List T) (k : T) (y : List T) → a ++ b ≡ c ++ k ∷ y → Seam a b c k y
+pub seam_of : {T : Type 0} (a b c : List T) (k : T) (y : List T) → a ++ b ≡ c ++ k ∷ y → Seam a b c k y
 seam_of [] b c k y e = beyond c refl e
 seam_of (x ∷ a) b [] k y e = let one : x ≡ k = cc in within a (ap (λ z. z ∷ a) one)
 seam_of (x ∷ a) b (d ∷ c) k y e =
@@ -76,7 +76,7 @@ seam_of (x ∷ a) b (d ∷ c) k y e =
     by one (within z f) = within z (ap₂ (λ u l. u ∷ l) one f)
     by one (beyond z f g) = beyond z (ap₂ (λ u l. u ∷ l) (sym one) f) g
 
-take_few : {T : Type 0} (n : ℕ) (a b c : List T) → n ≤ length a → take n (a ++ b) ≡ take n (a ++ c)
+pub take_few : {T : Type 0} (n : ℕ) (a b c : List T) → n ≤ length a → take n (a ++ b) ≡ take n (a ++ c)
 take_few zero [] [] [] h = refl
 take_few zero [] [] (y ∷ c) h = refl
 take_few zero [] (x ∷ b) [] h = refl
@@ -86,7 +86,7 @@ take_few zero (x ∷ a) b c h = refl
 take_few (suc n) (x ∷ a) b c h =
     let k : suc n ≤ suc (length a) = h in ap (λ l. x ∷ l) (take_few n a b c (omega (arith, k)))
 
-take_whole : {T : Type 0} (a b : List T) → take (length a) (a ++ b) ≡ a
+pub take_whole : {T : Type 0} (a b : List T) → take (length a) (a ++ b) ≡ a
 take_whole [] [] = refl
 take_whole [] (x ∷ b) = refl
 take_whole (x ∷ a) b = ap (λ l. x ∷ l) (take_whole a b)
@@ -105,7 +105,7 @@ head_bytes profile es first head rest valid was =
 
 -- ---- none of some lines passes
 
-none_or : (b : Bool) (o : Option ℕ) → last_or b o ≡ None → (o ≡ None) × (b ≡ false)
+pub none_or : (b : Bool) (o : Option ℕ) → last_or b o ≡ None → (o ≡ None) × (b ≡ false)
 none_or true None e = absurd cc
 none_or false None e = (refl, refl)
 none_or b (Some n) e = absurd cc
@@ -150,7 +150,7 @@ module _ (s : Document) (path : List Part) (at : IsSectionAt s path) where
       ap (λ (ls : List Line). ls ++ s.last ∷ []) (map-append line_of at.body at.more)
       ∙ append_assoc (map line_of at.body) (map line_of at.more) (s.last ∷ [])
 
-  body_taken : take (body_length after) after ≡ map line_of at.body
+  pub body_taken : take (body_length after) after ≡ map line_of at.body
   body_taken =
       ap₂ (λ (n : ℕ) (ls : List Line). take n ls) (at.size ∙ sym (length-map at.body line_of)) after_split
       ∙ take_prefix (map line_of at.body) more

@@ -2,9 +2,9 @@
 --
 -- A set replaces the run of mentions at and under its path (`document_set`), so of any other path the same is said. It
 -- changes the value of one line alone (`one_line_set`), which is a keyval as before: so the lengths of bodies and the
--- lines that begin them are the same (`length_same`, `end_same`).
+-- lines that begin them are the same (`length_same`, `end_same`, `begun_same`).
 --
--- Theorems: `set_kinds`, `set_ends`.
+-- Theorems: `set_kinds`, `set_ends`, `set_begins`.
 use Rattle.std.proofs.Common.{◌≡◌, ℕ, List, [], ◌∷◌, ◌++◌, sym, ap, ap₂, subst, ◌∙◌, Option, Some, None}
 use Rattle.keep_syntax.specs.Tree.{Name, Value, Content, keyval, Line, Document}
 use Rattle.keep_path.specs.Path.{Part, strip}
@@ -13,11 +13,12 @@ use Rattle.keep_meaning.specs.Meaning.{after_line, body_fact, entries_mentions, 
 use Rattle.keep_meaning.specs.Nodes.{kinds_at}
 use Rattle.keep_edit_spec.specs.Changed.{Changed}
 use Rattle.keep_edit_spec.specs.Edits.{change, end_of, set}
-use Rattle.keep_edit_spec.specs.Lines.{begins, body_length}
+use Rattle.keep_edit_spec.specs.Lines.{begins, body_length, last_line}
 use Rattle.keep_edit_spec.proofs.Common.Runs.{AllOf, IsUnder, Rules, kinds_at-append, kinds_at-under}
 use Rattle.keep_edit_spec.proofs.Common.SetDocument.{LinesSet, document_set, one_line_set, under_run}
 use Rattle.keep_edit_spec.proofs.Common.SetLaw.{EachTo, IsSet, run, tag_of}
 use Rattle.keep_edit_spec.proofs.Lists.BodyEnds.{end_cons, end_in, end_or, length_after}
+use Rattle.keep_edit_spec.proofs.Lists.RemovedOwn.{last_or}
 
 -- ---- what is said of other paths
 
@@ -81,11 +82,34 @@ module _ (name : Name) (v w : Value) (old now : Line) (was : old.content ≡ key
   ends_same s to (p ∷ ps) pre post e f =
       ap (end_in (p ∷ ps) start) f ∙ sym (end_same (p ∷ ps) start pre post) ∙ sym (ap (end_in (p ∷ ps) start) e)
 
-pub set_ends : (s : Document) (path : List Part) (new : Value) (x : Changed Document)
-    → change s (set path new) ≡ Some x → (a : List Part) → end_of x.to a ≡ end_of s a
-set_ends s path new x made a =
-    let h : LinesSet start path new (lines s) (lines x.to) =
-    subst (λ (o : Option (Changed Document)). EachTo (λ t. LinesSet start path new (lines s) (lines t)) o) made
-    (one_line_set s path new) in
-    ends_same h.content.name h.content.old h.content.now h.old h.now h.content.was h.content.is s x.to a h.pre h.post
-    h.was h.is
+  begun_same : (a : List Part) (r : Reading) (pre post : List Line)
+      → last_line (begins a) r (pre ++ old ∷ post) ≡ last_line (begins a) r (pre ++ now ∷ post)
+  begun_same a r [] post = ap (from old) was ∙ sym (ap (from now) is)
+    where
+      from : Line → Content → Option ℕ
+      from l c =
+          let x : Line = record { before = l.before; content = c; after = l.after; comment = l.comment } in
+          last_or (begins a r x) (last_line (begins a) (after_line r x) post)
+  begun_same a r (x ∷ pre) post = ap (last_or (begins a r x)) (begun_same a (after_line r x) pre post)
+
+module _ (s : Document) (path : List Part) (new : Value) (x : Changed Document)
+    (made : change s (set path new) ≡ Some x) where
+  one_line : LinesSet start path new (lines s) (lines x.to)
+  one_line =
+      subst (λ (o : Option (Changed Document)). EachTo (λ t. LinesSet start path new (lines s) (lines t)) o) made
+      (one_line_set s path new)
+
+  pub set_ends : (a : List Part) → end_of x.to a ≡ end_of s a
+  set_ends a =
+      let h : LinesSet start path new (lines s) (lines x.to) = one_line in
+      ends_same h.content.name h.content.old h.content.now h.old h.now h.content.was h.content.is s x.to a h.pre h.post
+      h.was h.is
+
+  -- the last line that begins a body
+  pub set_begins : (a : List Part) → last_line (begins a) start (lines x.to) ≡ last_line (begins a) start (lines s)
+  set_begins a =
+      let h : LinesSet start path new (lines s) (lines x.to) = one_line in
+      ap (last_line (begins a) start) h.is
+      ∙ sym (begun_same h.content.name h.content.old h.content.now h.old h.now h.content.was h.content.is a start h.pre
+      h.post)
+      ∙ sym (ap (last_line (begins a) start) h.was)

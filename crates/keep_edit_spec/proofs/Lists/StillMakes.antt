@@ -14,7 +14,8 @@ use Rattle.keep_edit_spec.specs.Edits.{Edit, append_element, append_table, edite
 use Rattle.keep_edit_spec.specs.Edits.{rename, set}
 use Rattle.keep_edit_spec.specs.Laws.{IsEditable}
 use Rattle.keep_edit_spec.specs.RemovedLines.{RemovesLine}
-use Rattle.keep_edit_spec.specs.Runs.{IsStillPlaced, LeavesAlone, MakesChange, StillMakesChange, ComesInPlace}
+use Rattle.keep_edit_spec.specs.RemovedSections.{RemovesSection}
+use Rattle.keep_edit_spec.specs.Runs.{AreApart, IsStillPlaced, LeavesAlone, MakesChange, StillMakesChange, ComesInPlace}
 use Rattle.keep_edit_spec.specs.Runs.{is_insert, seen}
 use Rattle.keep_edit_spec.specs.TextChanges.{IsBeside, TextChange, moved}
 use Rattle.keep_edit_spec.proofs.Lists.ApartPaths.{apart_renamed, renamed_apart}
@@ -46,9 +47,22 @@ use Rattle.keep_edit_spec.proofs.Lists.InsertAfterHeader.{insert_after_element, 
 use Rattle.keep_edit_spec.proofs.Lists.HeaderAfterInsert.{element_after_insert, table_after_insert}
 use Rattle.keep_edit_spec.proofs.Lists.HeaderAfterRename.{element_after_rename, table_after_rename}
 use Rattle.keep_edit_spec.proofs.Lists.OtherHeader.{element_after_table, table_after_element}
+use Rattle.keep_edit_spec.proofs.Lists.HeaderAfterSection.{element_after_section, table_after_section}
+use Rattle.keep_edit_spec.proofs.Lists.InsertAfterSection.{insert_after_section}
+use Rattle.keep_edit_spec.proofs.Lists.LineApart.{cleared_apart, line_apart}
+use Rattle.keep_edit_spec.proofs.Lists.RemoveAfterSection.{clear_after_section, remove_after_section}
+use Rattle.keep_edit_spec.proofs.Lists.RenameAfterSection.{rename_after_section}
+use Rattle.keep_edit_spec.proofs.Lists.SectionAfterClear.{section_after_clear}
+use Rattle.keep_edit_spec.proofs.Lists.SectionAfterHeader.{section_after_element, section_after_table}
+use Rattle.keep_edit_spec.proofs.Lists.SectionAfterInsert.{section_after_insert}
+use Rattle.keep_edit_spec.proofs.Lists.SectionAfterRemove.{section_after_remove}
+use Rattle.keep_edit_spec.proofs.Lists.SectionAfterRename.{section_after_rename}
+use Rattle.keep_edit_spec.proofs.Lists.SectionAfterSet.{section_after_set}
+use Rattle.keep_edit_spec.proofs.Lists.SetAfterSection.{set_after_section}
 use Rattle.keep_edit_spec.proofs.Lists.StillAdds.{still_adds}
 use Rattle.keep_edit_spec.proofs.Lists.StillAppends.{still_appends_element, still_appends_table}
 use Rattle.keep_edit_spec.proofs.Lists.StillRemoves.{clear_after_remove, still_removes}
+use Rattle.keep_edit_spec.proofs.Lists.StillRemovesHeader.{still_removes_table}
 use Rattle.keep_edit_spec.proofs.Lists.StillRenames.{still_renames}
 use Rattle.keep_edit_spec.proofs.Lists.StillSets.{still_sets}
 use Rattle.std.specs.Prelude.{◌⊎◌}
@@ -78,13 +92,15 @@ other_path profile limit s path c other d fine h k beside same =
     ∙ sym (removes_there profile limit s other d fine k).0.start in
     elim beside [ inl ends ↦ omega (arith, ends, starts, some) | inr before ↦ omega (arith, before.0, starts) ]
 
--- A remove after an edit of another kind takes its line, or leaves it with its comment, as before.
+-- A remove after an edit of another kind takes its line, leaves it with its comment, or takes its table, as before.
 remove_after : (profile : Profile) (limit : ℕ) (s now : Document) (path : List Part) (c d : TextChange)
     → (RemovesLine profile limit s path d → RemovesLine profile limit now path (moved c d))
     → (ClearsLine profile limit s path d → ClearsLine profile limit now path (moved c d))
+    → (RemovesSection profile limit s path d → RemovesSection profile limit now path (moved c d))
     → MakesChange profile limit s (remove path) d → MakesChange profile limit now (remove path) (moved c d)
-remove_after profile limit s now path c d takes clears (inl k) = inl (takes k)
-remove_after profile limit s now path c d takes clears (inr k) = inr (clears k)
+remove_after profile limit s now path c d takes clears goes (inl k) = inl (takes k)
+remove_after profile limit s now path c d takes clears goes (inr (inl k)) = inr (inl (clears k))
+remove_after profile limit s now path c d takes clears goes (inr (inr k)) = inr (inr (goes k))
 
 -- in another document, too, and seen as before
 abbrev MakesStill : Profile → ℕ → Document → Document → Edit → TextChange → Type 0
@@ -93,6 +109,9 @@ MakesStill profile limit s now e c = MakesChange profile limit now e c × (seen 
 adds_still : (profile : Profile) (limit : ℕ) (s now : Document) (path : List Part) (value : Value) (c : TextChange)
     → AddsLineStill profile limit s now path value c → MakesStill profile limit s now (insert path value) c
 adds_still profile limit s now path value c h = (h.0, ap (λ (p : List Part). insert p value) h.1)
+
+swapped : (path other : List Part) → AreApart path other → AreApart other path
+swapped path other apart = (apart.1, apart.0)
 
 -- after a remove that took its line
 after_taken : (profile : Profile) (limit : ℕ) (s : Document) (path : List Part) (c : TextChange) (f : Edit)
@@ -110,7 +129,9 @@ after_taken profile limit s path c (remove other) d fine h k alone beside placed
     let differs : path ≢ other = other_path profile limit s path c other d fine (inl h) k beside in (
       remove_after profile limit s (edited_document s (remove path)) other c d
           (λ x. still_removes profile limit s path c other d fine h x differs)
-          (λ x. clear_after_remove profile limit s path c other d fine h x differs beside) k,
+          (λ x. clear_after_remove profile limit s path c other d fine h x differs beside)
+          (λ x. section_after_remove profile limit s path c other d fine h x
+          (line_apart profile limit s path c other d fine h x (inl beside)) beside) k,
       refl,
     )
 after_taken profile limit s path c (set other more) d fine h k alone beside placed =
@@ -142,10 +163,12 @@ after_cleared profile limit s path c (insert other more) d fine h k alone beside
     (elsewhere s c (insert other more) d (λ here. clear_gives profile limit s path c fine h here.takes)
     ((placed refl).1 refl)))
 after_cleared profile limit s path c (remove other) d fine h k alone beside placed =
-    let differs : path ≢ other = other_path profile limit s path c other d fine (inr h) k beside in (
+    let differs : path ≢ other = other_path profile limit s path c other d fine (inr (inl h)) k beside in (
       remove_after profile limit s (edited_document s (remove path)) other c d
           (λ x. remove_after_clear profile limit s path c other d fine h x differs beside)
-          (λ x. clear_after_clear profile limit s path c other d fine h x differs beside) k,
+          (λ x. clear_after_clear profile limit s path c other d fine h x differs beside)
+          (λ x. section_after_clear profile limit s path c other d fine h x
+          (cleared_apart profile limit s path c other d fine h x (inl beside)) beside) k,
       refl,
     )
 after_cleared profile limit s path c (set other more) d fine h k alone beside placed =
@@ -166,6 +189,43 @@ after_cleared profile limit s path c (append_element more) d fine h k alone besi
   refl,
 )
 
+-- after one that took a table with its header
+after_section : (profile : Profile) (limit : ℕ) (s : Document) (path : List Part) (c : TextChange) (f : Edit)
+    (d : TextChange) → IsEditable profile limit s → RemovesSection profile limit s path c
+    → MakesChange profile limit s f d
+    → LeavesAlone (remove path) (seen s f) → IsBeside c d → IsStillPlaced s (remove path) c f d
+    → MakesStill profile limit s (edited_document s (remove path)) f (moved c d)
+after_section profile limit s path c (insert other more) d fine h k alone beside placed =
+    adds_still profile limit s (edited_document s (remove path)) other more (moved c d)
+    (insert_after_section profile limit s path c other more d fine h k alone beside (placed refl).0)
+after_section profile limit s path c (remove other) d fine h k alone beside placed =
+    let differs : path ≢ other = other_path profile limit s path c other d fine (inr (inr h)) k beside in (
+      remove_after profile limit s (edited_document s (remove path)) other c d
+          (λ x. remove_after_section profile limit s path c other d fine h x
+          (swapped other path (line_apart profile limit s other d path c fine x h (inr beside))) beside)
+          (λ x. clear_after_section profile limit s path c other d fine h x
+          (swapped other path (cleared_apart profile limit s other d path c fine x h (inr beside))) beside)
+          (λ x. still_removes_table profile limit s path c fine other d differs h x) k,
+      refl,
+    )
+after_section profile limit s path c (set other more) d fine h k alone beside placed =
+    (set_after_section profile limit s path c other more d fine h k alone beside, refl)
+after_section profile limit s path c (rename other more) d fine h k alone beside placed = (
+  rename_after_section profile limit s path c other more d fine h k alone.0
+      (apart_renamed path other more alone.0 alone.1) beside,
+  refl,
+)
+after_section profile limit s path c (append_table more) d fine h k alone beside placed = (
+  table_after_section profile limit s path c more d fine h k (placed refl).0
+      (no_header s c (append_table more) d refl ((placed refl).1 refl)),
+  refl,
+)
+after_section profile limit s path c (append_element more) d fine h k alone beside placed = (
+  element_after_section profile limit s path c more d fine h k (placed refl).0
+      (no_header s c (append_element more) d refl ((placed refl).1 refl)),
+  refl,
+)
+
 pub still_makes : StillMakesChange
 still_makes profile limit s (insert path value) c (insert other more) d fine h k alone beside placed =
     adds_still profile limit s (edited_document s (insert path value)) other more (moved c d)
@@ -173,7 +233,8 @@ still_makes profile limit s (insert path value) c (insert other more) d fine h k
 still_makes profile limit s (insert path value) c (remove other) d fine h k alone beside placed = (
   remove_after profile limit s (edited_document s (insert path value)) other c d
       (λ x. remove_after_insert profile limit s path value c other d fine h x alone beside)
-      (λ x. clear_after_insert profile limit s path value c other d fine h x alone beside) k,
+      (λ x. clear_after_insert profile limit s path value c other d fine h x alone beside)
+      (λ x. section_after_insert profile limit s path value c other d fine h x alone beside) k,
   refl,
 )
 still_makes profile limit s (insert path value) c (set other more) d fine h k alone beside placed =
@@ -189,8 +250,10 @@ still_makes profile limit s (insert path value) c (append_element more) d fine h
     (element_after_insert profile limit s path value c more d fine h k alone (placed refl).0, refl)
 still_makes profile limit s (remove path) c f d fine (inl h) k alone beside placed =
     after_taken profile limit s path c f d fine h k alone beside placed
-still_makes profile limit s (remove path) c f d fine (inr h) k alone beside placed =
+still_makes profile limit s (remove path) c f d fine (inr (inl h)) k alone beside placed =
     after_cleared profile limit s path c f d fine h k alone beside placed
+still_makes profile limit s (remove path) c f d fine (inr (inr h)) k alone beside placed =
+    after_section profile limit s path c f d fine h k alone beside placed
 still_makes profile limit s (set path value) c (insert other more) d fine h k alone beside placed =
     adds_still profile limit s (edited_document s (set path value)) other more (moved c d)
     (insert_after_set profile limit s path value c other more d fine h k alone beside (placed refl).0
@@ -199,7 +262,8 @@ still_makes profile limit s (set path value) c (insert other more) d fine h k al
 still_makes profile limit s (set path value) c (remove other) d fine h k alone beside placed = (
   remove_after profile limit s (edited_document s (set path value)) other c d
       (λ x. remove_after_set profile limit s path value c other d fine h x alone beside)
-      (λ x. clear_after_set profile limit s path value c other d fine h x alone beside) k,
+      (λ x. clear_after_set profile limit s path value c other d fine h x alone beside)
+      (λ x. section_after_set profile limit s path value c other d fine h x alone beside) k,
   refl,
 )
 still_makes profile limit s (set path value) c (set other more) d fine h k alone beside placed =
@@ -230,6 +294,8 @@ still_makes profile limit s (rename path name) c (remove other) d fine h k alone
       (λ x. remove_after_rename profile limit s path name c other d fine h x alone.0
       (renamed_apart path name other alone.0 alone.1) beside)
       (λ x. clear_after_rename profile limit s path name c other d fine h x alone.0
+      (renamed_apart path name other alone.0 alone.1) beside)
+      (λ x. section_after_rename profile limit s path name c other d fine h x alone.0
       (renamed_apart path name other alone.0 alone.1) beside) k,
   refl,
 )
@@ -258,7 +324,8 @@ still_makes profile limit s (append_table keys) c (insert other more) d fine h k
 still_makes profile limit s (append_table keys) c (remove other) d fine h k alone beside placed = (
   remove_after profile limit s (edited_document s (append_table keys)) other c d
       (λ x. remove_after_table profile limit s keys c other d fine h x)
-      (λ x. clear_after_table profile limit s keys c other d fine h x) k,
+      (λ x. clear_after_table profile limit s keys c other d fine h x)
+      (λ x. section_after_table profile limit s keys c other d fine h x alone) k,
   refl,
 )
 still_makes profile limit s (append_table keys) c (set other more) d fine h k alone beside placed =
@@ -277,7 +344,8 @@ still_makes profile limit s (append_element keys) c (insert other more) d fine h
 still_makes profile limit s (append_element keys) c (remove other) d fine h k alone beside placed = (
   remove_after profile limit s (edited_document s (append_element keys)) other c d
       (λ x. remove_after_element profile limit s keys c other d fine h x)
-      (λ x. clear_after_element profile limit s keys c other d fine h x) k,
+      (λ x. clear_after_element profile limit s keys c other d fine h x)
+      (λ x. section_after_element profile limit s keys c other d fine h x alone) k,
   refl,
 )
 still_makes profile limit s (append_element keys) c (set other more) d fine h k alone beside placed =

@@ -16,7 +16,7 @@ use Rattle.std.proofs.lemmas.Bool.{le-ltb, lt-ltb}
 use Rattle.keep_types.specs.declared.leaf.Profile.{Profile}
 use Rattle.keep_syntax.specs.Tree.{Line, Ended, Document, bom_leaves, text, text_of}
 use Rattle.keep_path.specs.Path.{Part}
-use Rattle.keep_meaning.specs.Marks.{Mention, MentionKind, start}
+use Rattle.keep_meaning.specs.Marks.{MentionKind, start}
 use Rattle.keep_meaning.specs.Meaning.{line_mentions, line_of, lines_mentions, mentions_in, reading_after_lines}
 use Rattle.keep_meaning.specs.Nodes.{has, is_begun, is_define, is_node, is_passed, is_root, is_through, kinds_at}
 use Rattle.keep_edit_spec.specs.declared.fault.EditFault.TheVariants as fault
@@ -28,11 +28,10 @@ use Rattle.keep_edit_spec.specs.RemovedSections.{RemovesSection}
 use Rattle.keep_edit_spec.specs.TextChanges.{TextChange, moved, moved_by, place_of_change}
 use Rattle.keep_edit_spec.specs.TextEnds.{ends_in_newline}
 use Rattle.keep_edit_spec.proofs.Common.BodyEnd.{IsStated, begins_stated, stated_has}
-use Rattle.keep_edit_spec.proofs.Common.Cuts.{IsCut}
 use Rattle.keep_edit_spec.proofs.Common.Doubles.{has_some}
 use Rattle.keep_edit_spec.proofs.Common.LineLaws.{lines_mentions-append}
 use Rattle.keep_edit_spec.proofs.Common.Moves.{mentions_moved}
-use Rattle.keep_edit_spec.proofs.Common.Runs.{Rules, SomeOf, kinds_at-append, some_left, some_right}
+use Rattle.keep_edit_spec.proofs.Common.Runs.{Rules, SomeOf, some_left, some_right}
 use Rattle.keep_edit_spec.proofs.Common.SetLaw.{IsAloneAt}
 use Rattle.keep_edit_spec.proofs.Common.TableThere.{defined_ends}
 use Rattle.keep_edit_spec.proofs.Lists.HeaderLeft as left_of
@@ -41,7 +40,7 @@ use Rattle.keep_edit_spec.proofs.Lists.HeaderLines.{last_empty, lines_end}
 use Rattle.keep_edit_spec.proofs.Lists.HeaderTaken.{IsElement, IsHeaderTaken, IsTable, at_is, element_is, element_taken}
 use Rattle.keep_edit_spec.proofs.Lists.HeaderTaken.{empty, has_bytes, is_now, new_is, not_begun, not_defined, now}
 use Rattle.keep_edit_spec.proofs.Lists.HeaderTaken.{rules_now, size_is, table_ends, table_is, table_taken, valid_now}
-use Rattle.keep_edit_spec.proofs.Lists.OwnLine.{none_of_rest}
+use Rattle.keep_edit_spec.proofs.Lists.OwnLine.{kinds_cut}
 use Rattle.keep_edit_spec.proofs.Lists.PathsBefore.{before_element, before_table}
 use Rattle.keep_edit_spec.proofs.Lists.Places.{width}
 use Rattle.keep_edit_spec.proofs.Lists.SaidOfPrefixes.{node_kinds}
@@ -62,16 +61,6 @@ first_of_two false b h e = absurd cc
 second_of_two : (d b : Bool) → (d || b) ≡ true → d ≡ false → b ≡ true
 second_of_two true b h e = absurd cc
 second_of_two false b h e = h
-
-kinds_cut : (T : MentionKind → Bool) (path q : List Part) (from to : List Mention) → IsCut path from to
-    → list_any T (kinds_at q from) ≡ false → list_any T (kinds_at q to) ≡ false
-kinds_cut T path q from to c e =
-    let gone : List Mention = c.ways ++ c.run in
-    let was : kinds_at q from ≡ kinds_at q c.before ++ (kinds_at q gone ++ kinds_at q c.after) =
-    ap (kinds_at q) c.was ∙ kinds_at-append q c.before (gone ++ c.after)
-    ∙ ap (λ (ks : List MentionKind). kinds_at q c.before ++ ks) (kinds_at-append q gone c.after) in
-    ap (list_any T) (ap (kinds_at q) c.is ∙ kinds_at-append q c.before c.after)
-    ∙ none_of_rest T (kinds_at q c.before) (kinds_at q gone) (kinds_at q c.after) (ap (list_any T) (sym was) ∙ e)
 
 any_of_some : (T : MentionKind → Bool) (ks : List MentionKind) → list_any T ks ≡ true
     → list_any (λ (k : MentionKind). true) ks ≡ true

@@ -6,8 +6,8 @@ use Rattle.keep_edit_plan.proofs.document.DocumentRef.change_by.Goals as goal
 
 pub returns-in-Remove : goal.returns-in-Remove
 returns-in-Remove c =
-    remove_here c.args.self.now c.args.edit.now c.in-Remove.path c.line_removal.result c.in-Remove.is
-    c.line_removal.ensures.taken c.line_removal.ensures.within
+    remove_here c.args.self.now c.args.edit.now c.in-Remove.path c.removal.result c.in-Remove.is
+    c.removal.ensures.removed c.removal.ensures.within
 
 pub returns-else-not-ends_in_newline : goal.returns-else-not-ends_in_newline
 returns-else-not-ends_in_newline c =

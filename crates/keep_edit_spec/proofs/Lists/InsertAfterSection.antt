@@ -1,0 +1,122 @@
+-- An insert that adds a line adds the same one after a remove, of another path, took a table with its header.
+--
+-- The holder's body is not the table's own, since the insert's path is not under the table's (`differs`). It ends where
+-- it did, before the table, or as many lines earlier as went (`end_now`, by EndsGone), and not where the table began,
+-- as what the insert adds is beside what goes (`number_apart`). That line begins where it did, or earlier by the bytes
+-- of the table (`at_now`). So the insert adds its own there (AddsAgain).
+--
+-- Theorem: `insert_after_section`.
+use Rattle.std.proofs.Common.{◌≡◌, ◌≢◌, ℕ, ◌+◌, ◌<◌, ◌≤◌, List, ◌∷◌, ◌++◌, length, map, sym, ap, subst, ◌∙◌, arith}
+use Rattle.std.proofs.Common.{Some, None, ◌⊎◌, inl, inr}
+use Rattle.keep_types.specs.declared.leaf.Profile.{Profile}
+use Rattle.keep_syntax.specs.Tree.{Value, Document, value_depth}
+use Rattle.keep_path.specs.Path.{Part, key, strip}
+use Rattle.keep_meaning.specs.Meaning.{mentions_in}
+use Rattle.keep_edit_spec.specs.AddedLines.{AddsLine, AddsLineStill}
+use Rattle.keep_edit_spec.specs.ClearedLines.{line_start}
+use Rattle.keep_edit_spec.specs.Laws.{IsEditable}
+use Rattle.keep_edit_spec.specs.Lines.{newline_of}
+use Rattle.keep_edit_spec.specs.Look.{holder}
+use Rattle.keep_edit_spec.specs.RemovedSections.{RemovesSection}
+use Rattle.keep_edit_spec.proofs.Lists.SectionKinds.{InsertAfterSection}
+use Rattle.keep_edit_spec.specs.TextChanges.{IsBeside, TextChange, moved, moved_by}
+use Rattle.keep_edit_spec.proofs.Common.Runs.{strip-append}
+use Rattle.keep_edit_spec.proofs.Lists.AddsAgain.{adds_again}
+use Rattle.keep_edit_spec.proofs.Lists.EndsGone as ends
+use Rattle.keep_edit_spec.proofs.Lists.EndsGone.{IsEndGone}
+use Rattle.keep_edit_spec.proofs.Lists.NewHolder.{apart_clear}
+use Rattle.keep_edit_spec.proofs.Lists.Places.{at_is}
+use Rattle.keep_edit_spec.proofs.Lists.SectionGone as table
+
+-- ---- the document without the table
+
+module _ (profile : Profile) (limit : ℕ) (s : Document) (path : List Part) (c : TextChange)
+    (other : List Part) (more : Value) (d : TextChange) (fine : IsEditable profile limit s)
+    (h : RemovesSection profile limit s path c) (k : AddsLine profile limit s other more d)
+    (clear : strip path other ≡ None) (beside : IsBeside c d) where
+  abbrev now : Document
+  now = table.now profile limit s path c fine h
+
+  abbrev n : ℕ
+  n = table.n profile limit s path c fine h
+
+  abbrev gone : ℕ
+  gone = table.gone profile limit s path c fine h
+
+  abbrev a : List Part
+  a = holder other (mentions_in s)
+
+  d_at : d.at ≡ line_start s k.number
+  d_at = at_is profile limit s other more d k
+
+  length_was : length s.ended ≡ length now.ended + gone
+  length_was = table.length_was profile limit s path c fine h
+
+  few : n + gone ≤ length s.ended
+  few = table.few profile limit s path c fine h
+
+  -- ---- the end of the holder's body
+
+  differs : path ≢ a
+  differs e =
+      let keys : List Part = map key (k.text ∷ k.more) in
+      let under : strip path other ≡ Some keys =
+      ap (strip path) (k.new ∙ ap (λ (q : List Part). q ++ keys) (sym e)) ∙ strip-append path keys in
+      absurd cc
+
+  end_now : IsEndGone now a n gone k.number
+  end_now = ends.end_now profile limit s path c fine h a differs k.number k.ends
+
+  abbrev j : ℕ
+  j = end_now.number
+
+  -- what is added is beside what goes
+  places_differ : c.at ≢ d.at
+  places_differ e = by beside
+    where
+      by : IsBeside c d → ⊥
+      by (inl after) = absurd (omega (arith, e, after, table.has_bytes profile limit s path c fine h))
+      by (inr before) = absurd (omega (arith, e, before.0))
+
+  number_apart : k.number ≢ n
+  number_apart e =
+      places_differ (table.start_is profile limit s path c fine h ∙ ap (line_start s) (sym e) ∙ sym d_at)
+
+  closed_now : j ≤ length now.ended
+  closed_now = elim end_now.moves [
+    | inl to ↦ omega (arith, to.0, to.1, few, length_was)
+    | inr from ↦ omega (arith, from.0, k.closed, length_was)
+  ]
+
+  newline_now : (0 < j) ⊎ (value_depth more ≡ 0)
+  newline_now = elim k.newline [
+    | inl some ↦ inl (elim end_now.moves [
+      | inl to ↦ omega (arith, to.0, some)
+      | inr from ↦ omega (arith, from.1)
+    ])
+    | inr flat ↦ inr flat
+  ]
+
+  at_now : line_start now j ≡ moved_by c d.at
+  at_now = by end_now.moves
+    where
+      by : ends.MovesBack n gone k.number j → line_start now j ≡ moved_by c d.at
+      by (inl to) =
+          let apart : k.number ≢ n = number_apart in
+          let less : j < n = omega (arith, to.0, to.1, apart) in
+          sym (table.at_before profile limit s path c fine h j d.at less (d_at ∙ ap (line_start s) to.0))
+      by (inr from) =
+          sym (table.at_from profile limit s path c fine h j d.at (omega (arith, from.1))
+          (d_at ∙ ap (line_start s) from.0))
+
+  adds_now : newline_of now ≡ newline_of s → AddsLineStill profile limit s now other more (moved c d)
+  adds_now same =
+      adds_again profile limit s path now (table.cut profile limit s path c fine h) other more d k clear j end_now.ends
+      closed_now c at_now same newline_now
+
+pub insert_after_section : InsertAfterSection
+insert_after_section profile limit s path c other more d fine h k apart beside same =
+    let is = table.is_now profile limit s path c fine h in
+    let clear : strip path other ≡ None = apart_clear profile limit s other more d k path apart in
+    subst (λ (z : Document). AddsLineStill profile limit s z other more (moved c d)) (sym is)
+    (adds_now profile limit s path c other more d fine h k clear beside (ap newline_of (sym is) ∙ same))
