@@ -7,10 +7,11 @@ Edits that come in a row are made at once, from some 20 of them on, or from thre
 to 1,000, by the document before all of them. So each list (of 80 edits, one in twenty of 1,100; RUNS of them, 100 if not given)
 is given to the program as one script, and then each edit as a script of its own, on what the one before gave: so it is made by
 itself. Texts, faults and the number of the refused edit have to be the same.
-Most lists are of edits of one kind, a fifth of them of edits of all kinds in turn, among them removes of tables. A fifth of the lines that are changed have
-a comment. Values are set and keys renamed again, values are set that were inserted, and edits of entries come back to a value,
-which goes on in the row. Among the edits are some that end it: one that is refused, any other of a path that was there before,
-one that is in another's, one that adds a line at the place of a line of another table.
+Most lists are of edits of one kind, a fifth of them of edits of all kinds in turn, among them removes of tables and inserts into
+tables that dotted keys make. A fifth of the lines that are changed have a comment. Values are set and keys renamed again, values
+are set that were inserted, and edits of entries come back to a value, which goes on in the row. Among the edits are some that end
+it: one that is refused, any other of a path that was there before, one that is in another's, one that adds a line at the place of
+a line of another table.
 """
 import sys
 from pathlib import Path
@@ -109,9 +110,9 @@ class Run:
     def dotted(self):
         """New keys of tables that dotted keys make, in most lists of one for each line; now and then of a table that an insert of
         several keys made, which half of the lists have, or of anything else; rarely a key that was given before. In a third of the
-        lists keys of what holds these tables come between, at the ends of bodies."""
+        lists keys of what holds these tables come between, at the ends of bodies; in a third of them many are set later."""
         random, edits, given = self.random, [], []
-        nests, several = self.with_dotted(), random.choice((0, 0.3))
+        nests, several, later = self.with_dotted(), random.choice((0, 0.3)), random.choice((0, 0, 0.4))
         if not nests:
             return self.inserts()
         is_one_each = random.random() < 0.7
@@ -120,6 +121,9 @@ class Run:
         tables += random.choice(([], [], [b"", b"dot", b"dots[0]"]))
         for number in range(self.many):
             table = random.choice(tables if random.random() < 0.998 else [b"", *(path for path, _ in self.entries)])
+            if given and random.random() < later:
+                edits.append(edit_of(b"set", random.choice(given), value_of(random)))
+                continue
             if given and random.random() < 0.02:
                 table = random.choice(given).rpartition(b".")[0]
             given.append(self.new_path(table, number, several))
@@ -372,8 +376,11 @@ class Run:
 
     def all_kinds(self):
         """Edits of all kinds in turn, nearly all of paths apart; now and then some newlines have a carriage return. In half of the
-        lists tables go with their headers between the others, and some of the inserts are into tables that go later."""
+        lists tables go with their headers between the others, and some of the inserts are into tables that go later. In half of them
+        there are tables that dotted keys make: new keys come into them, and keys of theirs are changed and go."""
         random, paths = self.random, self.with_lines() + self.some_of()
+        nests = [path for nest in (self.with_dotted() if random.random() < 0.5 else []) for path in nest]
+        paths += [path + b".k" for path in random.sample(nests, len(nests) // 2)]
         holders = self.with_holders() if random.random() < 0.5 else []
         left = self.with_tables() if random.random() < 0.5 else []
         random.shuffle(paths)
@@ -389,6 +396,9 @@ class Run:
                 edits.append(self.part(*holders.pop())[0])
             elif left and random.random() < 0.3:
                 edits.append(edit_of(b"remove", left.pop(random.randrange(len(left)))))
+            elif nests and kind == b"insert" and random.random() < 0.6:
+                are_set.append(self.new_path(random.choice(nests), number, 0.2))
+                edits.append(edit_of(kind, are_set[-1], value_of(random)))
             elif left and kind == b"insert" and random.random() < 0.5:
                 edits.append(edit_of(kind, random.choice(left) + b".more_%d" % number, value_of(random)))
             elif are_set and random.random() < 0.2:

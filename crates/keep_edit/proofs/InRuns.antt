@@ -2,8 +2,9 @@
 --
 -- The holder's path is that of the entry without its last step.
 --
--- Theorems: `by_itself`, `by_set`, `by_places`; `again`: a set of a value that is set already; `entry_again`: an edit
--- of an entry of one; `holder_first`, `has_path`, `same_place`: the holder's path, the edit's, and its place.
+-- Theorems: `by_itself`, `line_in_run`, `other_in_run`, `by_set`, `by_places`; `again`: a set of a value that is set
+-- already; `entry_again`: an edit of an entry of one; `holder_first`, `has_path`, `same_place`: the holder's path, the
+-- edit's, and its place.
 use Rattle.std.proofs.Common.{◌≡◌, ◌∷◌, ◌++◌, [], List, refl, sym, ap, subst, ◌∙◌, inl, inr, Option, Some, None}
 use Rattle.std.proofs.Common.{false, true, string_bytes, ℕ, suc, ◌-◌, arith, length, take, get_or, Bool, not, ap₂}
 use Rattle.std.proofs.Common.{eqb-true, take-suc, take_all, drop}
@@ -14,9 +15,10 @@ use Rattle.keep_types.specs.declared.syntax.Span.{Span}
 use Rattle.keep_syntax.specs.Tree.{Document, Value, text}
 use Rattle.keep_syntax.proofs.Shared.{one_value}
 use Rattle.keep_path.specs.Path.{Part, without_last}
+use Rattle.keep_edit_spec.specs.DottedLines.{AddsLineTo}
 use Rattle.keep_edit_spec.specs.Edits as law
 use Rattle.keep_edit_spec.specs.EntryEdits.{IsOfEntry, MakesSet}
-use Rattle.keep_edit_spec.proofs.Shared.{without_last-snoc}
+use Rattle.keep_edit_spec.proofs.Shared.{dotted_is, without_last-snoc}
 use Rattle.keep_edit_plan.specs.Headers.{key_texts}
 use Rattle.keep_edit_plan.proofs.Shared.{editable}
 use Rattle.keep_edit_spec.specs.Runs as runs
@@ -26,12 +28,15 @@ use Rattle.keep_edit_plan.specs.TextEdits.{HasChange, MakesChangeHere, MakesSetH
 use Rattle.keep_edit_plan.specs.declared.edit.Edit.{Edit}
 use Rattle.keep_edit_plan.specs.declared.edit.Edit.TheVariants as edit
 use Rattle.keep_edit_plan.specs.declared.text_edit.TextEdit.{TextEdit}
+use Rattle.keep_edit.specs.Answers.{IsSpanOf}
 use Rattle.keep_edit.specs.Lists.{IsEdit}
-use Rattle.keep_edit.specs.Reading.{IsTextOfTree, ProfiledText, limit}
-use Rattle.keep_edit.specs.Runs.{IsSeenAs, IsSetBy, MakesInRunHere, SetsAgainHere, SetsHolderHere, no_value, outline}
+use Rattle.keep_edit.specs.Reading.{IsAcceptedValue, IsTextOfTree, IsTextOfValue, ProfiledText, limit}
+use Rattle.keep_edit.specs.Runs.{IsOfTable, IsSeenAs, IsSetBy, MakesInRunHere, MakesItselfHere, SetsAgainHere}
+use Rattle.keep_edit.specs.Runs.{SetsHolderHere, no_value, outline}
 use Rattle.keep_edit.specs.Runs.{plain}
 use Rattle.keep_edit.specs.ValueAfter.{MakesValue}
 use Rattle.keep_edit.specs.declared.outline.Outline.{Outline}
+use Rattle.keep_edit.specs.declared.at_once.RunEdit.{RunEdit}
 use Rattle.keep_edit.specs.declared.outline.SeenAs.{SeenAs}
 use Rattle.keep_edit.specs.declared.outline.SeenAs.TheVariants.{Entry, FirstKey, Itself}
 
@@ -79,20 +84,57 @@ module _ (s : Document) (holder : List Part) where
       let no : IsOfEntry s holder (law.append_element (key_texts ks.items)) = subst (IsOfEntry s holder) is h in
       absurd no
 
-pub by_itself : (now : ProfiledText) (x : Edit) (how : SeenAs) (r : Option TextEdit) → (how ≡ Entry → ⊥)
-    → IsSeenAs now x how → IfSome r (MakesChangeHere now x) → IfSome r (MakesInRunHere now x (outline x how))
+-- what an edit makes by itself is what it makes in a run, if it is not seen as the set of a value
+pub by_itself : (now : ProfiledText) (x : Edit) (how : SeenAs) (r : Option RunEdit) → (how ≡ Entry → ⊥)
+    → IsSeenAs now x how → IfSome r (λ m. MakesItselfHere now x m.change m.is_dotted)
+    → IfSome r (λ m. MakesInRunHere now x (outline x how) m.change m.is_dotted)
 by_itself now x how None other seen h = tt
-by_itself now x how (Some t) other seen h = record {
+by_itself now x how (Some m) other seen h = record {
   edit = h.edit;
   is = h.is;
   in_run = λ s. runs.seen s h.edit;
   outline_is = λ s read. plain_itself now s read x h.edit how other seen h.is;
-  makes = λ s read. inl (refl, h.makes s read);
+  makes = λ s read. let (makes, of) = h.makes s read in inl (refl, makes, of);
   within = h.within;
 }
 
+-- an insert that adds such a line
+pub line_in_run : (now : ProfiledText) (x : Edit) (path : List Part) (given : List ℕ) (t : TextEdit) (dotted : Bool)
+    → x ≡ edit.Insert path given
+    → ((s : Document) → IsTextOfTree now s → (v : Value) → IsTextOfValue given v
+    → AddsLineTo dotted now.profile limit s path v (change_of t))
+    → IsSpanOf now.text t.place → IsAcceptedValue Wide given → MakesItselfHere now x t dotted
+line_in_run now x path given t dotted is adds within (v, value) = record {
+  edit = law.insert path v;
+  is = subst (λ (y : Edit). IsEdit y (law.insert path v)) (sym is) (v, value, refl);
+  makes = λ s read.
+      let line : AddsLineTo dotted now.profile limit s path v (change_of t) = adds s read v value in
+      ((dotted, line), dotted_is dotted now.profile limit s path v (change_of t) line);
+  within = within;
+}
+
+-- an edit that is no insert
+pub other_in_run : (now : ProfiledText) (x : Edit) (t : TextEdit)
+    → ((path : List Part) (given : List ℕ) → x ≡ edit.Insert path given → ⊥) → MakesChangeHere now x t
+    → MakesItselfHere now x t false
+other_in_run now x t none h = record {
+  edit = h.edit;
+  is = h.is;
+  makes = λ s read. (h.makes s read, of_none s x h.edit none h.is);
+  within = h.within;
+}
+  where
+    of_none : (s : Document) (y : Edit) (e : law.Edit)
+        → ((path : List Part) (given : List ℕ) → y ≡ edit.Insert path given → ⊥) → IsEdit y e → IsOfTable s e false
+    of_none s (edit.Insert p w) e never is = absurd (never p w refl)
+    of_none s (edit.Set p w) e never (v, given, is) = subst (λ (f : law.Edit). IsOfTable s f false) (sym is) tt
+    of_none s (edit.Remove p) e never is = subst (λ (f : law.Edit). IsOfTable s f false) (sym is) tt
+    of_none s (edit.Rename p w) e never is = subst (λ (f : law.Edit). IsOfTable s f false) (sym is) tt
+    of_none s (edit.Table ks) e never is = subst (λ (f : law.Edit). IsOfTable s f false) (sym is) tt
+    of_none s (edit.Element ks) e never is = subst (λ (f : law.Edit). IsOfTable s f false) (sym is) tt
+
 pub by_set : (now : ProfiledText) (x : Edit) (r : Option TextEdit) → IfSome r (MakesSetHere now x)
-    → IfSome r (MakesInRunHere now x (outline x Entry))
+    → IfSome r (λ t. MakesInRunHere now x (outline x Entry) t false)
 by_set now x None h = tt
 by_set now x (Some t) h = record {
   edit = h.edit;
@@ -118,7 +160,7 @@ has_path x path (inr is) e h =
 pub by_places : (now : ProfiledText) (x : Edit) (path : List Part) (place : Span) (was new : List ℕ)
     (r : Option TextEdit) → HasPath x path → slice_range now.text place.start place.end ≡ was
     → MakesValue now.profile was x new → IfSome r (SetsHolderHere now path new) → IfSome r (λ t. t.place ≡ place)
-    → IfSome r (MakesInRunHere now x (outline x Entry))
+    → IfSome r (λ t. MakesInRunHere now x (outline x Entry) t false)
 by_places now x path place was new None has given made by same = tt
 by_places now x path place was new (Some t) has given made by same =
     let (v, text_is, is_set) = by.sets.is in

@@ -9,25 +9,27 @@
 -- Theorems: `each_instead`: what holds of each change holds with one where another was; `line_here`, `inserted_again`.
 use Rattle.std.proofs.Common.{◌≡◌, ◌<◌, ◌∷◌, ◌++◌, [], ℕ, suc, List, take, length, get_or, string_bytes, refl, sym, ap}
 use Rattle.std.proofs.Common.{subst}
-use Rattle.std.proofs.Common.{◌∙◌, All, IsUtf8, inl, inr, None, false, true}
+use Rattle.std.proofs.Common.{◌∙◌, All, Bool, IsUtf8, inl, inr, None, false, true}
 use Rattle.std.specs.Prelude.{◌⊎◌, IsTrue}
 use Rattle.std.proofs.lemmas.Str.{IsUtf8-string_bytes}
 use Rattle.keep_types.specs.declared.leaf.Profile.TheVariants.{Wide}
 use Rattle.keep_syntax.specs.Tree.{Document, Value, text}
 use Rattle.keep_path.specs.Path.{Part}
-use Rattle.keep_edit_spec.specs.AddedLines.{AddsLine, first_new}
+use Rattle.keep_edit_spec.specs.AddedLines.{first_new}
 use Rattle.keep_edit_spec.specs.Changed.{put}
+use Rattle.keep_edit_spec.specs.DottedLines.{AddsLineTo}
 use Rattle.keep_edit_spec.specs.Edits as law
 use Rattle.keep_edit_spec.specs.Edits.{edited_document, place}
 use Rattle.keep_edit_spec.specs.InsertLists.{IsRunInsertedAgain}
-use Rattle.keep_edit_spec.specs.Laws.{IsLawfulEdit}
+use Rattle.keep_edit_spec.specs.Laws.{IsGivenValue, IsLawfulEdit}
 use Rattle.keep_edit_spec.specs.Refusals.{refusal}
 use Rattle.keep_edit_spec.specs.RenameLists.{AllowsKey, IsRenameIn}
-use Rattle.keep_edit_spec.specs.RunLists.{IsSetIn, MadeEdit, changes_of, document_after, made, seen_of}
+use Rattle.keep_edit_spec.specs.RunLists.{IsSetIn, MadeEdit, changes_of, document_after, lines_of, made, seen_of}
 use Rattle.keep_edit_spec.specs.Runs as runs
 use Rattle.keep_edit_spec.specs.Runs.{IsPlain, IsRun}
 use Rattle.keep_edit_spec.specs.TextChanges.{Follow, TextChange, text_with}
-use Rattle.keep_edit_spec.proofs.Shared.{change_put, each_more, run_goes_on_inserted, run_is_known, set_lawful}
+use Rattle.keep_edit_spec.proofs.Shared.{change_put, each_more, lines_more, run_goes_on_inserted, run_is_known}
+use Rattle.keep_edit_spec.proofs.Shared.{set_lawful}
 use Rattle.keep_edit_plan.proofs.Shared.{change_in, editable}
 use Rattle.keep_edit_plan.specs.TextEdits.{HasInstead, IsChangeIn, change_of}
 use Rattle.keep_edit_plan.specs.declared.edit.Edit.{Edit}
@@ -35,6 +37,7 @@ use Rattle.keep_edit_plan.specs.declared.edit.Edit.TheVariants as edit
 use Rattle.keep_edit_plan.specs.declared.text_edit.TextEdit.{TextEdit}
 use Rattle.keep_edit.specs.Again.{InsertsAgainHere}
 use Rattle.keep_edit.specs.Answers.{IsSpanOf}
+use Rattle.keep_edit.specs.AddedLines.{IsKnownAt, Tables}
 use Rattle.keep_edit.specs.Lists.{AreMade, IsEdit}
 use Rattle.keep_edit.specs.Reading.{IsAcceptedValue, IsTextOfTree, IsTextOfValue, ProfiledText, limit}
 use Rattle.keep_edit.specs.Runs.{IsRunTo, changed_text, outlined}
@@ -85,8 +88,8 @@ abbrev pub IsAlike : List Outline → TextEdit → Type 0
 IsAlike outlines t = IsPlain (string_bytes t.new) ⊎ All (λ y. runs.is_insert (outlined y) ≡ true) outlines
 
 module _ (s : Document) (edits : List Edit) (n : ℕ) (old now : ProfiledText) (before : Document)
-    (outlines : List Outline) (changes new : List TextChange) (read : IsTextOfTree now before)
-    (h : IsRunTo s edits n old now before outlines changes) (d x : Edit) (lt : n < length edits)
+    (outlines : List Outline) (changes new : List TextChange) (tables : Tables) (read : IsTextOfTree now before)
+    (h : IsRunTo s edits n old now before outlines changes tables) (d x : Edit) (lt : n < length edits)
     (here : get_or edits n d ≡ x) (was t : TextEdit) (again : InsertsAgainHere now x was t)
     (alike : IsAlike outlines t) (replaced : HasInstead changes (change_of was) (change_of t) new)
     (utf8 : All (λ b. IsUtf8 b.new) new) (within : All (IsChangeIn now.text) new) where
@@ -100,17 +103,18 @@ module _ (s : Document) (edits : List Edit) (n : ℕ) (old now : ProfiledText) (
   r : IsRunInsertedAgain now.profile limit before h.ms again.path again.more replaced.before (change_of was)
       (change_of t) replaced.after
   r =
-      run_goes_on_inserted now.profile limit before h.ms again.path again.value again.more replaced.before
+      run_goes_on_inserted now.profile limit before h.ms again.path again.value again.more again.dotted replaced.before
       (change_of was) (change_of t) replaced.after (editable now before read) h.at_once (again.added before read)
       (h.changes_are ∙ replaced.was) (again.adds before read) (plain alike)
 
   abbrev ms : List MadeEdit
   ms = r.others
 
-  so_far : IsRun now.profile limit before (seen_of before h.ms) changes h.made.tree
-  so_far = run_so_far s edits n old now before outlines changes read h
+  so_far : IsRun now.profile limit before (seen_of before h.ms) changes (lines_of before h.ms) h.made.tree
+  so_far = run_so_far s edits n old now before outlines changes tables read h
 
-  goes_on : IsRun now.profile limit before (seen_of before ms) (changes_of ms) (document_after before ms)
+  goes_on : IsRun now.profile limit before (seen_of before ms) (changes_of ms) (lines_of before ms)
+      (document_after before ms)
   goes_on = run_is_known now.profile limit before ms (editable now before read) r.still
 
   new_is : new ≡ changes_of ms
@@ -121,10 +125,15 @@ module _ (s : Document) (edits : List Edit) (n : ℕ) (old now : ProfiledText) (
   allowed : refusal now.profile limit h.made.tree e ≡ None
   allowed = subst (λ (u : Document). refusal now.profile limit u e ≡ None) h.tree_is r.allowed
 
+  given : (dotted : Bool) → AddsLineTo dotted now.profile limit before again.path again.more (change_of t)
+      → IsGivenValue Wide again.more
+  given true adds = adds.given
+  given false adds = adds.given
+
   lawful : IsLawfulEdit now.profile limit h.made.tree e
   lawful =
-      set_lawful now.profile limit h.made.tree again.path again.more so_far.editable (again.adds before read).given
-      allowed
+      set_lawful now.profile limit h.made.tree again.path again.more so_far.editable
+      (given again.dotted (again.adds before read)) allowed
 
   same : edited_document h.made.tree e ≡ document_after before ms
   same = ap (λ (u : Document). edited_document u e) (sym h.tree_is) ∙ r.same
@@ -180,7 +189,16 @@ module _ (s : Document) (edits : List Edit) (n : ℕ) (old now : ProfiledText) (
       (rename_in_more q again.path r.value again.more (change_of was) (change_of t) r.exchanged.later
       r.exchanged.earlier (subst (IsRenameIn q) r.exchanged.all there))
 
-  pub made_again : IsRunTo s edits (suc n) old now before outlines new
+  -- the line is at its place, and of its table
+  lines_known : All (IsKnownAt tables) (lines_of before ms)
+  lines_known =
+      subst (All (IsKnownAt tables))
+      (ap (lines_of before) r.exchanged.all
+      ∙ lines_more before again.path r.value again.more (change_of was) (change_of t) r.at r.exchanged.later
+      r.exchanged.earlier
+      ∙ ap (lines_of before) (sym r.exchanged.other)) h.lines
+
+  pub made_again : IsRunTo s edits (suc n) old now before outlines new tables
   made_again = record {
     made = all_made;
     ms = ms;
@@ -192,6 +210,7 @@ module _ (s : Document) (edits : List Edit) (n : ℕ) (old now : ProfiledText) (
     sets = λ q any. set_in q (h.sets q any);
     renames = λ q name any. rename_in q (h.renames q name any);
     allow = λ q name all. all_again (AllowsKey q name) (λ its. its) (h.allow q name all);
+    lines = lines_known;
     at_once = r.still;
     changes_are = sym new_is;
     tree_is = tree_of_run now before ms new all_made.tree read r.still (sym new_is) all_made.read;
@@ -199,20 +218,22 @@ module _ (s : Document) (edits : List Edit) (n : ℕ) (old now : ProfiledText) (
 
 -- ---- as the code goes
 
--- the text of this document with a value of this text comes by that change
-abbrev pub AddsAt : ProfiledText → List Part → List ℕ → TextEdit → Type 0
-AddsAt now path given t =
+-- a line with a value of this text comes by that change
+abbrev pub AddsAt : ProfiledText → List Part → List ℕ → TextEdit → Bool → Type 0
+AddsAt now path given t dotted =
     (s : Document) → IsTextOfTree now s → (v : Value) → IsTextOfValue given v
-    → AddsLine now.profile limit s path v (change_of t)
+    → AddsLineTo dotted now.profile limit s path v (change_of t)
 
 -- the line with the value that was given before, and that with the value that is set
 pub line_here : (now : ProfiledText) (x : Edit) (path : List Part) (given value : List ℕ) (was t : TextEdit)
-    → x ≡ edit.Set path value → AddsAt now path given was → IsAcceptedValue Wide given → AddsAt now path value t
-    → IsAcceptedValue Wide value → IsSpanOf now.text t.place → InsertsAgainHere now x was t
-line_here now x path given value was t is added (v, given_is) adds (w, value_is) within = record {
+    (dotted : Bool) → x ≡ edit.Set path value → AddsAt now path given was dotted → IsAcceptedValue Wide given
+    → AddsAt now path value t dotted → IsAcceptedValue Wide value → IsSpanOf now.text t.place
+    → InsertsAgainHere now x was t
+line_here now x path given value was t dotted is added (v, given_is) adds (w, value_is) within = record {
   path = path;
   value = v;
   more = w;
+  dotted = dotted;
   is = subst (λ (y : Edit). IsEdit y (law.set path w)) (sym is) (w, value_is, refl);
   added = λ s read. added s read v given_is;
   adds = λ s read. adds s read w value_is;
@@ -220,11 +241,11 @@ line_here now x path given value was t is added (v, given_is) adds (w, value_is)
 }
 
 pub inserted_again : (edits : List Edit) (first end : ℕ) (now : ProfiledText) (outlines : List Outline)
-    (changes new : List TextChange) (d x : Edit) (was t : TextEdit)
-    → AreMadeTo edits first end now outlines changes → end < length edits → get_or edits end d ≡ x
+    (changes new : List TextChange) (tables : Tables) (d x : Edit) (was t : TextEdit)
+    → AreMadeTo edits first end now outlines changes tables → end < length edits → get_or edits end d ≡ x
     → InsertsAgainHere now x was t → IsAlike outlines t → HasInstead changes (change_of was) (change_of t) new
-    → AreMadeTo edits first (suc end) now outlines new
-inserted_again edits first end now outlines changes new d x was t so_far lt here again alike replaced =
+    → AreMadeTo edits first (suc end) now outlines new tables
+inserted_again edits first end now outlines changes new tables d x was t so_far lt here again alike replaced =
     let utf8 =
     each_instead (λ b. IsUtf8 b.new) changes new (change_of was) (change_of t) replaced so_far.utf8
     (IsUtf8-string_bytes t.new) in
@@ -232,8 +253,8 @@ inserted_again edits first end now outlines changes new d x was t so_far lt here
     each_instead (IsChangeIn now.text) changes new (change_of was) (change_of t) replaced so_far.within
     (change_in now.text t again.within) in
     record {
-      made = λ s old h. made_again s edits end old now h.tree outlines changes new h.read (so_far.made s old h) d x lt
-          here was t again alike replaced utf8 within;
+      made = λ s old h. made_again s edits end old now h.tree outlines changes new tables h.read (so_far.made s old
+          h) d x lt here was t again alike replaced utf8 within;
       within = within;
       utf8 = utf8;
     }

@@ -26,6 +26,5 @@ mod ItemSteps
 mod GoneLaws
 mod GoneFound
 mod SectionSteps
-mod LineSteps
 mod ValueAfterLaws
 mod OpenedLaws

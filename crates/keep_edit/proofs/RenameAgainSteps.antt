@@ -23,16 +23,18 @@ use Rattle.keep_edit_spec.specs.Edits.{edited_document, place}
 use Rattle.keep_edit_spec.specs.Laws.{IsLawfulEdit}
 use Rattle.keep_edit_spec.specs.RenameLists.{AllowsKey, IsRenameIn, IsRunRenamedAgain}
 use Rattle.keep_edit_spec.specs.RenamedKeys.{RenamesKey}
-use Rattle.keep_edit_spec.specs.RunLists.{IsSetIn, MadeEdit, changes_of, document_after, made, seen_of}
+use Rattle.keep_edit_spec.specs.RunLists.{IsSetIn, MadeEdit, changes_of, document_after, lines_of, made, seen_of}
 use Rattle.keep_edit_spec.specs.Runs as runs
 use Rattle.keep_edit_spec.specs.Runs.{IsRun}
 use Rattle.keep_edit_spec.specs.TextChanges.{Follow, TextChange, change_at, moved_by_all, text_with}
+use Rattle.keep_edit_spec.proofs.Shared.{lines_apart}
 use Rattle.keep_edit_spec.proofs.Shared.{change_put, each_of_others, one_in_place, one_key, put_in_place, rename_lawful}
 use Rattle.keep_edit_spec.proofs.Shared.{run_goes_on_renamed, run_is_known}
 use Rattle.keep_edit_plan.proofs.Shared.{change_in, editable}
 use Rattle.keep_edit_plan.specs.TextEdits.{IsChangeIn, IsReplaced, change_of}
 use Rattle.keep_edit_plan.specs.declared.edit.Edit.{Edit}
 use Rattle.keep_edit_plan.specs.declared.text_edit.TextEdit.{TextEdit}
+use Rattle.keep_edit.specs.AddedLines.{IsKnownAt, Tables}
 use Rattle.keep_edit.specs.Lists.{AreMade, IsEdit}
 use Rattle.keep_edit.specs.Reading.{limit, IsTextOfTree, ProfiledText}
 use Rattle.keep_edit.specs.Runs.{Allows, AllowsRename, IsRenamedBy, IsRunTo, IsSetBy, RenamesAgainHere, changed_text}
@@ -43,8 +45,8 @@ use Rattle.keep_edit.proofs.RunSteps.{AreMadeTo, one_or_more, parts, plain_alone
 use Rattle.keep_edit.proofs.SetAgainSteps.{each_replaced, rename_by_one, set_by_one}
 
 module _ (s : Document) (edits : List Edit) (n : ℕ) (old now : ProfiledText) (before : Document)
-    (outlines : List Outline) (changes new : List TextChange) (read : IsTextOfTree now before)
-    (h : IsRunTo s edits n old now before outlines changes) (d x : Edit) (lt : n < length edits)
+    (outlines : List Outline) (changes new : List TextChange) (tables : Tables) (read : IsTextOfTree now before)
+    (h : IsRunTo s edits n old now before outlines changes tables) (d x : Edit) (lt : n < length edits)
     (here : get_or edits n d ≡ x) (o : Outline) (t : TextEdit)
     (again : RenamesAgainHere now x outlines changes o t) (allow : All (λ y. Allows y o) outlines)
     (replaced : IsReplaced changes (change_of t) new) (utf8 : All (λ b. IsUtf8 b.new) new)
@@ -69,10 +71,11 @@ module _ (s : Document) (edits : List Edit) (n : ℕ) (old now : ProfiledText) (
   abbrev ms : List MadeEdit
   ms = made e c ∷ r.rest
 
-  so_far : IsRun now.profile limit before (seen_of before h.ms) changes h.made.tree
-  so_far = run_so_far s edits n old now before outlines changes read h
+  so_far : IsRun now.profile limit before (seen_of before h.ms) changes (lines_of before h.ms) h.made.tree
+  so_far = run_so_far s edits n old now before outlines changes tables read h
 
-  goes_on : IsRun now.profile limit before (seen_of before ms) (changes_of ms) (document_after before ms)
+  goes_on : IsRun now.profile limit before (seen_of before ms) (changes_of ms) (lines_of before ms)
+      (document_after before ms)
   goes_on = run_is_known now.profile limit before ms (editable now before read) r.still
 
   new_is : new ≡ changes_of ms
@@ -170,7 +173,15 @@ module _ (s : Document) (edits : List Edit) (n : ℕ) (old now : ProfiledText) (
     | inr its ↦ inl (name, sym again.outline_is ∙ its)
   ]
 
-  pub made_again : IsRunTo s edits (suc n) old now before (outlines ++ o ∷ []) new
+  -- a rename adds no line
+  lines_known : All (IsKnownAt tables) (lines_of before ms)
+  lines_known =
+      subst (All (IsKnownAt tables))
+      (ap (lines_of before) r.one.all
+      ∙ lines_apart before (made (law.rename again.path r.text) r.c) r.one.later r.one.earlier (λ lines. refl)
+      ∙ ap (lines_of before) (sym r.one.others)) h.lines
+
+  pub made_again : IsRunTo s edits (suc n) old now before (outlines ++ o ∷ []) new tables
   made_again = record {
     made = all_made;
     ms = ms;
@@ -196,6 +207,7 @@ module _ (s : Document) (edits : List Edit) (n : ℕ) (old now : ProfiledText) (
     allow = λ q name all.
         let (all_before, its) = parts (λ y. AllowsKey q name (outlined y)) outlines o all in
         all_again (AllowsKey q name) (subst (AllowsKey q name) again.outline_is its) (h.allow q name all_before);
+    lines = lines_known;
     at_once = r.still;
     changes_are = sym new_is;
     tree_is = tree_of_run now before ms new all_made.tree read r.still (sym new_is) all_made.read;
@@ -204,18 +216,18 @@ module _ (s : Document) (edits : List Edit) (n : ℕ) (old now : ProfiledText) (
 -- ---- as the code goes
 
 pub renamed_again : (edits : List Edit) (first end : ℕ) (now : ProfiledText) (outlines : List Outline)
-    (changes new : List TextChange) (d x : Edit) (o : Outline) (t : TextEdit)
-    → AreMadeTo edits first end now outlines changes → end < length edits → get_or edits end d ≡ x
+    (changes new : List TextChange) (tables : Tables) (d x : Edit) (o : Outline) (t : TextEdit)
+    → AreMadeTo edits first end now outlines changes tables → end < length edits → get_or edits end d ≡ x
     → RenamesAgainHere now x outlines changes o t → All (λ y. Allows y o) outlines
-    → IsReplaced changes (change_of t) new → AreMadeTo edits first (suc end) now (outlines ++ o ∷ []) new
-renamed_again edits first end now outlines changes new d x o t so_far lt here again allow replaced =
+    → IsReplaced changes (change_of t) new → AreMadeTo edits first (suc end) now (outlines ++ o ∷ []) new tables
+renamed_again edits first end now outlines changes new tables d x o t so_far lt here again allow replaced =
     let c : TextChange = change_of t in
     let utf8 = each_replaced (λ b. IsUtf8 b.new) changes new c replaced so_far.utf8 (IsUtf8-string_bytes t.new) in
     let within =
     each_replaced (IsChangeIn now.text) changes new c replaced so_far.within (change_in now.text t again.within) in
     record {
-      made = λ s old h. made_again s edits end old now h.tree outlines changes new h.read (so_far.made s old h) d x lt
-          here o t again allow replaced utf8 within;
+      made = λ s old h. made_again s edits end old now h.tree outlines changes new tables h.read (so_far.made s old
+          h) d x lt here o t again allow replaced utf8 within;
       within = within;
       utf8 = utf8;
     }

@@ -17,13 +17,15 @@ use Rattle.std.proofs.lemmas.List.Folds.{list_any_none}
 use Rattle.std.specs.Result.{result_unwrap_or}
 use Rattle.std.specs.declared.alloc.AllocError.{AllocError}
 use Rattle.std.proofs.lemmas.List.{get_or-take, length-take-le}
-use Rattle.std.proofs.lemmas.List.Elements.{All-cons, All-head, All-nil, All-tail}
+use Rattle.std.proofs.lemmas.List.Elements.{All-cons, All-head, All-nil, All-tail, All-weaker}
 use Rattle.std.proofs.lemmas.Str.{IsCharBoundary-start, IsUtf8-append, IsUtf8-drop, IsUtf8-string_bytes}
 use Rattle.std.proofs.lemmas.Str.{IsUtf8-take}
 use Rattle.keep_types.specs.declared.leaf.Profile.{Profile}
 use Rattle.keep_syntax.specs.Tree.{Document, Value, text}
 use Rattle.keep_path.specs.Path.{Part}
+use Rattle.keep_edit_spec.specs.AddedLines.{first_new}
 use Rattle.keep_edit_spec.specs.Changed.{put}
+use Rattle.keep_edit_spec.specs.DottedLines.{AddedAt, IsAfter, added_at, into_dotted}
 use Rattle.keep_edit_spec.specs.Edits as law
 use Rattle.keep_edit_spec.specs.Edits.{edited_document, place}
 use Rattle.keep_edit_spec.specs.EntryEdits.{IsRunLongerByEntry, MakesSet}
@@ -31,9 +33,10 @@ use Rattle.keep_edit_spec.specs.Laws.{IsLawfulEdit}
 use Rattle.keep_edit_spec.specs.Refusals.{refusal}
 use Rattle.keep_edit_spec.specs.RenameLists.{AllowsKey, IsRenameIn}
 use Rattle.keep_edit_spec.specs.Runs as runs
-use Rattle.keep_edit_spec.specs.RunLists.{AreAtOnce, IsSetIn, MadeEdit, changes_of, document_after, seen_of}
-use Rattle.keep_edit_spec.specs.Runs.{ArePlain, IsBeforeHeaders, IsPlainBefore, IsRun, IsRunLonger, KeepsPlace}
-use Rattle.keep_edit_spec.specs.Runs.{LetsCome, MakesChange}
+use Rattle.keep_edit_spec.specs.RunLists.{AreAtOnce, IsSetIn, MadeEdit, changes_of, document_after, lines_of}
+use Rattle.keep_edit_spec.specs.RunLists.{seen_of}
+use Rattle.keep_edit_spec.specs.Runs.{ArePlain, IsBeforeHeaders, IsInOrder, IsPlainBefore, IsRun, IsRunLonger}
+use Rattle.keep_edit_spec.specs.Runs.{KeepsPlace, LetsCome, MakesChange, with_line}
 use Rattle.keep_edit_spec.specs.TextChanges.{Follow, IsBeside, TextChange, moved_past, text_with, with_change}
 use Rattle.keep_edit_spec.proofs.Shared.{all_with, change_lawful, change_put, run_goes_on}
 use Rattle.keep_edit_spec.proofs.Shared.{run_goes_on_by_entry, run_is_known}
@@ -41,10 +44,12 @@ use Rattle.keep_edit_plan.proofs.Shared.{change_in, editable, one_tree}
 use Rattle.keep_edit_plan.specs.TextEdits.{IsChangeIn, change_of}
 use Rattle.keep_edit_plan.specs.declared.edit.Edit.{Edit}
 use Rattle.keep_edit_plan.specs.declared.text_edit.TextEdit.{TextEdit}
+use Rattle.keep_edit.specs.AddedLines.{IsKnownAt, Tables}
 use Rattle.keep_edit.specs.Lists.{IsEdit, AreMade}
 use Rattle.keep_edit.specs.Reading.{limit, IsTextOfTree, ProfiledText}
-use Rattle.keep_edit.specs.Runs.{IsRunTo, LeavesAlone, MakeChanges, MakesInRun, MakesInRunHere, changed_text}
-use Rattle.keep_edit.specs.Runs.{IsRenamedBy, IsSetBy, no_value, outlined, plain}
+use Rattle.keep_edit.specs.Runs.{IsLineKept, IsOfTable, IsRunTo, LeavesAlone, MakeChanges, MakesInRun}
+use Rattle.keep_edit.specs.Runs.{IsRenamedBy, IsSetBy, MakesInRunHere, changed_text, line_of, no_value, outlined}
+use Rattle.keep_edit.specs.Runs.{plain}
 use Rattle.keep_edit.specs.declared.outline.Outline.{Outline}
 use Rattle.keep_edit.proofs.MadeMore.{more_made}
 
@@ -158,13 +163,14 @@ text_utf8 bytes cs utf8 = text_utf8_from 0 bytes cs utf8 (IsCharBoundary-start b
 -- ---- the document after a run
 
 module _ (s : Document) (edits : List Edit) (n : ℕ) (old now : ProfiledText) (before : Document)
-    (outlines : List Outline) (changes : List TextChange) (read : IsTextOfTree now before)
-    (h : IsRunTo s edits n old now before outlines changes) where
-  pub run_so_far : IsRun now.profile limit before (seen_of before h.ms) changes h.made.tree
+    (outlines : List Outline) (changes : List TextChange) (tables : Tables) (read : IsTextOfTree now before)
+    (h : IsRunTo s edits n old now before outlines changes tables) where
+  pub run_so_far : IsRun now.profile limit before (seen_of before h.ms) changes (lines_of before h.ms) h.made.tree
   run_so_far =
-      subst (IsRun now.profile limit before (seen_of before h.ms) changes) h.tree_is
+      subst (IsRun now.profile limit before (seen_of before h.ms) changes (lines_of before h.ms)) h.tree_is
       (subst
-      (λ (cs : List TextChange). IsRun now.profile limit before (seen_of before h.ms) cs (document_after before h.ms))
+      (λ (cs : List TextChange).
+      IsRun now.profile limit before (seen_of before h.ms) cs (lines_of before h.ms) (document_after before h.ms))
       h.changes_are
       (run_is_known now.profile limit before h.ms (editable now before read) h.at_once))
 
@@ -174,7 +180,8 @@ pub tree_of_run : (now : ProfiledText) (before : Document) (ms : List MadeEdit) 
     → IsTextOfTree now before → AreAtOnce now.profile limit before ms → changes_of ms ≡ changes
     → IsTextOfTree (changed_text now changes) u → document_after before ms ≡ u
 tree_of_run now before ms changes u read at_once same made =
-    let r : IsRun now.profile limit before (seen_of before ms) (changes_of ms) (document_after before ms) =
+    let r : IsRun now.profile limit before (seen_of before ms) (changes_of ms) (lines_of before ms)
+    (document_after before ms) =
     run_is_known now.profile limit before ms (editable now before read) at_once in
     let spelled : text_with 0 now.text changes ≡ text (document_after before ms) =
     ap (λ (bytes : List ℕ). text_with 0 bytes changes) read.reads.spelled
@@ -234,43 +241,38 @@ rename_seen s (law.remove p) path name is = absurd cc
 rename_seen s (law.append_table ks) path name is = absurd cc
 rename_seen s (law.append_element ks) path name is = absurd cc
 
--- where an insert comes does not hang on its path
-keeps_seen : (s : Document) (bytes : List ℕ) (es : List law.Edit) (cs : List TextChange) (e : law.Edit)
-    (c : TextChange) → KeepsPlace bytes es cs (runs.seen s e) c → KeepsPlace bytes es cs e c
-keeps_seen s bytes es cs (law.set p v) c h = h
-keeps_seen s bytes es cs (law.insert p v) c h = h
-keeps_seen s bytes es cs (law.rename p more) c h = h
-keeps_seen s bytes es cs (law.remove p) c h = h
-keeps_seen s bytes es cs (law.append_table ks) c h = h
-keeps_seen s bytes es cs (law.append_element ks) c h = h
-
 -- one edit more, which others see so: another edit, which makes this change, makes of the first document what it makes
-record IsLonger (profile : Profile) (s : Document) (es : List law.Edit) (changes : List TextChange) (now : Document)
-    (e a : law.Edit) (c : TextChange) : Type 0 where
+record IsLonger (profile : Profile) (s : Document) (es : List law.Edit) (changes : List TextChange)
+    (lines : List AddedAt) (now : Document) (e a : law.Edit) (c : TextChange) (dotted : Bool) : Type 0 where
   edit : law.Edit
   seen_is : runs.seen s edit ≡ a
   makes : MakesChange profile limit s edit c
+  of : IsOfTable s edit dotted
+  keeps : KeepsPlace s es changes lines edit c
   allowed : refusal profile limit now e ≡ None
   lawful : IsLawfulEdit profile limit now e
-  run : IsRun profile limit s (a ∷ es) (with_change changes c) (edited_document now e)
+  run : IsRun profile limit s (a ∷ es) (with_change changes c) (with_line s edit c lines) (edited_document now e)
 
-module _ (profile : Profile) (s : Document) (es : List law.Edit) (changes : List TextChange) (now : Document)
-    (e a : law.Edit) (c : TextChange) (r : IsRun profile limit s es changes now)
-    (alone : All (λ f. runs.LeavesAlone f a) es) (beside : All (λ d. IsBeside d c) changes)
-    (keeps : KeepsPlace (text s) es changes a c) where
-  longer_by_itself : a ≡ runs.seen s e → MakesChange profile limit s e c → IsLonger profile s es changes now e a c
-  longer_by_itself is makes =
+module _ (profile : Profile) (s : Document) (es : List law.Edit) (changes : List TextChange) (lines : List AddedAt)
+    (now : Document) (e a : law.Edit) (c : TextChange) (dotted : Bool)
+    (r : IsRun profile limit s es changes lines now) (alone : All (λ f. runs.LeavesAlone f a) es)
+    (beside : All (λ d. IsBeside d c) changes) where
+  abbrev Longer : Type 0
+  Longer = IsLonger profile s es changes lines now e a c dotted
+
+  longer_by_itself : a ≡ runs.seen s e → MakesChange profile limit s e c → IsOfTable s e dotted
+      → KeepsPlace s es changes lines e c → Longer
+  longer_by_itself is makes of placed =
       let others : All (λ f. runs.LeavesAlone f (runs.seen s e)) es =
       subst (λ (b : law.Edit). All (λ f. runs.LeavesAlone f b) es) is alone in
-      let placed : KeepsPlace (text s) es changes e c =
-      keeps_seen s (text s) es changes e c
-      (subst (λ (b : law.Edit). KeepsPlace (text s) es changes b c) is keeps) in
-      let longer : IsRunLonger profile limit s es changes now e c =
-      run_goes_on profile limit s es changes now e c r makes others beside placed in
-      subst (λ (b : law.Edit). IsLonger profile s es changes now e b c) (sym is) (record {
+      let longer : IsRunLonger profile limit s es changes lines now e c =
+      run_goes_on profile limit s es changes lines now e c r makes others beside placed in
+      subst (λ (b : law.Edit). IsLonger profile s es changes lines now e b c dotted) (sym is) (record {
         edit = e;
         seen_is = refl;
         makes = makes;
+        of = of;
+        keeps = placed;
         allowed = longer.allowed;
         lawful = change_lawful profile limit now e (moved_past changes c) r.editable
             (r.later e c makes others beside placed).0;
@@ -278,31 +280,36 @@ module _ (profile : Profile) (s : Document) (es : List law.Edit) (changes : List
       })
 
   longer_by_set : (holder : List Part) (value : Value) → a ≡ law.set holder value
-      → MakesSet profile limit s e holder value c → IsLonger profile s es changes now e a c
+      → MakesSet profile limit s e holder value c → Longer
   longer_by_set holder value is h =
-      let longer : IsRunLongerByEntry profile limit s es changes now e holder value c =
-      run_goes_on_by_entry profile limit s es changes now e holder value c r h
+      let longer : IsRunLongerByEntry profile limit s es changes lines now e holder value c =
+      run_goes_on_by_entry profile limit s es changes lines now e holder value c r h
       (subst (λ (g : law.Edit). All (λ f. runs.LeavesAlone f g) es) is alone) beside in
-      subst (λ (g : law.Edit). IsLonger profile s es changes now e g c) (sym is)
+      subst (λ (g : law.Edit). IsLonger profile s es changes lines now e g c dotted) (sym is)
       (record {
         edit = law.set holder value;
         seen_is = refl;
         makes = h.sets;
+        of = tt;
+        keeps = tt;
         allowed = longer.allowed;
         lawful = longer.lawful;
         run = longer.run;
       })
 
-  goes_on_by : MakesInRun profile s e a c → IsLonger profile s es changes now e a c
-  goes_on_by (inl (is, h)) = longer_by_itself is h
-  goes_on_by (inr (holder, value, is, h)) = longer_by_set holder value is h
+  goes_on_by : (a ≡ runs.seen s e → IsOfTable s e dotted → KeepsPlace s es changes lines e c)
+      → MakesInRun profile s e a c dotted → Longer
+  goes_on_by placed (inl (is, h, of)) = longer_by_itself is h of (placed is of)
+  goes_on_by placed (inr (holder, value, is, h)) = longer_by_set holder value is h
 
 module _ (s : Document) (edits : List Edit) (n : ℕ) (old now : ProfiledText) (before : Document)
-    (outlines : List Outline) (changes : List TextChange) (read : IsTextOfTree now before)
-    (h : IsRunTo s edits n old now before outlines changes) (d x : Edit) (lt : n < length edits)
-    (here : get_or edits n d ≡ x) (o : Outline) (e a : law.Edit) (given : IsEdit x e) (plain_is : plain a ≡ outlined o)
-    (c : TextChange) (makes : MakesInRun now.profile before e a c) (others_alone : All (λ y. LeavesAlone y o) outlines)
+    (outlines : List Outline) (changes : List TextChange) (tables next_tables : Tables)
+    (read : IsTextOfTree now before) (h : IsRunTo s edits n old now before outlines changes tables) (d x : Edit)
+    (lt : n < length edits) (here : get_or edits n d ≡ x) (o : Outline) (e a : law.Edit) (given : IsEdit x e)
+    (plain_is : plain a ≡ outlined o) (c : TextChange) (dotted : Bool)
+    (makes : MakesInRun now.profile before e a c dotted) (others_alone : All (λ y. LeavesAlone y o) outlines)
     (beside : All (λ b. IsBeside b c) changes) (placed : IsPlaced outlines now.text changes o c.at)
+    (kept : IsLineKept tables changes o c.at dotted next_tables)
     (utf8 : All (λ b. IsUtf8 b.new) (with_change changes c))
     (within : All (IsChangeIn now.text) (with_change changes c)) where
   abbrev t : Document
@@ -311,8 +318,11 @@ module _ (s : Document) (edits : List Edit) (n : ℕ) (old now : ProfiledText) (
   abbrev es : List law.Edit
   es = seen_of before h.ms
 
-  so_far : IsRun now.profile limit before es changes t
-  so_far = run_so_far s edits n old now before outlines changes read h
+  abbrev lines : List AddedAt
+  lines = lines_of before h.ms
+
+  so_far : IsRun now.profile limit before es changes lines t
+  so_far = run_so_far s edits n old now before outlines changes tables read h
 
   others : All (λ f. runs.LeavesAlone f a) es
   others =
@@ -322,8 +332,27 @@ module _ (s : Document) (edits : List Edit) (n : ℕ) (old now : ProfiledText) (
   plain_before : IsPlainBefore now.text changes c.at → IsPlainBefore (text before) changes c.at
   plain_before = subst (λ (bytes : List ℕ). IsPlainBefore bytes changes c.at) read.reads.spelled
 
-  keeps : KeepsPlace (text before) es changes a c
-  keeps = by a (ap runs.is_insert (sym plain_is) ∙ plain_insert a) (ap runs.is_header (sym plain_is) ∙ plain_header a)
+  -- the line of an insert, as the code knows it
+  line_is : (p : List Part) (v : Value) → a ≡ runs.seen before (law.insert p v) → into_dotted before p ≡ dotted
+      → added_at before p c (into_dotted before p) ≡ line_of (first_new before p) c.at dotted
+  line_is p v is of = ap (line_of (first_new before p) c.at) of
+
+  outlined_is : (p : List Part) (v : Value) → a ≡ runs.seen before (law.insert p v)
+      → outlined o ≡ law.insert (first_new before p) no_value
+  outlined_is p v is = sym plain_is ∙ ap plain is
+
+  order : (p : List Part) (v : Value) → a ≡ runs.seen before (law.insert p v) → into_dotted before p ≡ dotted
+      → IsInOrder lines changes (added_at before p c (into_dotted before p))
+  order p v is of =
+      subst (IsInOrder lines changes) (sym (line_is p v is of)) (record {
+        after = All-weaker (IsKnownAt tables) (λ l. IsAfter l (line_of (first_new before p) c.at dotted))
+            (kept.after (first_new before p) (outlined_is p v is)) lines h.lines;
+        stays = kept.stays;
+      })
+
+  keeps : a ≡ runs.seen before e → IsOfTable before e dotted → KeepsPlace before es changes lines e c
+  keeps is of =
+      by e is of (ap runs.is_insert (sym plain_is) ∙ plain_insert a) (ap runs.is_header (sym plain_is) ∙ plain_header a)
     where
       all_inserts : (All (λ y. runs.is_insert (outlined y) ≡ true) outlines
           ⊎ (ArePlain now.text changes × (All (LetsCome now.text changes c.at) changes
@@ -348,17 +377,21 @@ module _ (s : Document) (edits : List Edit) (n : ℕ) (old now : ProfiledText) (
       all_headers (inl all) = inl (h.headers all)
       all_headers (inr plain) = inr (plain_before plain)
 
-      by : (f : law.Edit) → runs.is_insert (outlined o) ≡ runs.is_insert f
-          → runs.is_header (outlined o) ≡ runs.is_header f → KeepsPlace (text before) es changes f c
-      by (law.insert p v) insert header = all_inserts (placed.insert insert)
-      by (law.remove p) insert header = tt
-      by (law.set p v) insert header = tt
-      by (law.rename p name) insert header = tt
-      by (law.append_table ks) insert header = all_headers (placed.header header)
-      by (law.append_element ks) insert header = all_headers (placed.header header)
+      by : (f : law.Edit) → a ≡ runs.seen before f → IsOfTable before f dotted
+          → runs.is_insert (outlined o) ≡ runs.is_insert a → runs.is_header (outlined o) ≡ runs.is_header a
+          → KeepsPlace before es changes lines f c
+      by (law.insert p v) same of insert header =
+          (order p v same of, all_inserts (placed.insert (insert ∙ ap runs.is_insert same)))
+      by (law.remove p) same of insert header = tt
+      by (law.set p v) same of insert header = tt
+      by (law.rename p name) same of insert header = tt
+      by (law.append_table ks) same of insert header =
+          all_headers (placed.header (header ∙ ap runs.is_header same))
+      by (law.append_element ks) same of insert header =
+          all_headers (placed.header (header ∙ ap runs.is_header same))
 
-  longer : IsLonger now.profile before es changes t e a c
-  longer = goes_on_by now.profile before es changes t e a c so_far others beside keeps makes
+  longer : IsLonger now.profile before es changes lines t e a c dotted
+  longer = goes_on_by now.profile before es changes lines t e a c dotted so_far others beside keeps makes
 
   abbrev next : List ℕ
   next = text_with 0 now.text (with_change changes c)
@@ -390,14 +423,32 @@ module _ (s : Document) (edits : List Edit) (n : ℕ) (old now : ProfiledText) (
       (
         subst (All (λ b. IsBeside b c)) (sym h.changes_are) beside,
         (
-          keeps_seen before (text before) es (changes_of h.ms) longer.edit c
-              (subst₂ (λ (g : law.Edit) (cs : List TextChange). KeepsPlace (text before) es cs g c)
-              (sym longer.seen_is) (sym h.changes_are) keeps),
+          subst (λ (cs : List TextChange). KeepsPlace before es cs lines longer.edit c) (sym h.changes_are)
+              longer.keeps,
           h.at_once,
         ),
       ),
     ),
   )
+
+  -- its line is known too, if it adds one
+  lines_known : All (IsKnownAt next_tables) (lines_of before ms)
+  lines_known = by longer.edit longer.seen_is longer.of
+    where
+      others_known : All (IsKnownAt next_tables) lines
+      others_known = All-weaker (IsKnownAt tables) (IsKnownAt next_tables) kept.others lines h.lines
+
+      by : (f : law.Edit) → runs.seen before f ≡ a → IsOfTable before f dotted
+          → All (IsKnownAt next_tables) (with_line before f c lines)
+      by (law.insert p v) same of =
+          All-cons (IsKnownAt next_tables) (added_at before p c (into_dotted before p)) lines
+          (subst (IsKnownAt next_tables) (sym (line_is p v (sym same) of))
+          (kept.here (first_new before p) (outlined_is p v (sym same)))) others_known
+      by (law.set p v) same of = others_known
+      by (law.rename p name) same of = others_known
+      by (law.remove p) same of = others_known
+      by (law.append_table ks) same of = others_known
+      by (law.append_element ks) same of = others_known
 
   -- of all edits as they are seen
   all_seen : (P : law.Edit → Type 0) → P a → All P es → All P (seen_of before ms)
@@ -415,7 +466,7 @@ module _ (s : Document) (edits : List Edit) (n : ℕ) (old now : ProfiledText) (
     | inr its ↦ inl (name, rename_seen before longer.edit path name (ap plain longer.seen_is ∙ plain_is ∙ its))
   ]
 
-  pub one_made_more : IsRunTo s edits (suc n) old now before (outlines ++ o ∷ []) (with_change changes c)
+  pub one_made_more : IsRunTo s edits (suc n) old now before (outlines ++ o ∷ []) (with_change changes c) next_tables
   one_made_more = record {
     made = made;
     ms = ms;
@@ -442,6 +493,7 @@ module _ (s : Document) (edits : List Edit) (n : ℕ) (old now : ProfiledText) (
         let (all_before, its) = parts (λ y. AllowsKey path name (outlined y)) outlines o all in
         all_seen (AllowsKey path name)
         (plain_allows path name a (subst (AllowsKey path name) (sym plain_is) its)) (h.allow path name all_before);
+    lines = lines_known;
     at_once = at_once;
     changes_are = ap (λ (cs : List TextChange). with_change cs c) h.changes_are;
     tree_is = tree_of_run now before ms (with_change changes c) made.tree read at_once
@@ -450,16 +502,18 @@ module _ (s : Document) (edits : List Edit) (n : ℕ) (old now : ProfiledText) (
 
 -- ---- as the code goes
 
--- So far these changes are made, and the edits up to number `end` are made by them, which have these outlines.
+-- So far these changes are made, and the edits up to number `end` are made by them, which have these outlines, and
+-- whose lines are of these tables.
 pub record AreMadeTo (edits : List Edit) (first end : ℕ) (now : ProfiledText) (outlines : List Outline)
-    (changes : List TextChange) : Type 0 where
+    (changes : List TextChange) (tables : Tables) : Type 0 where
   pub made : (s : Document) (old : ProfiledText) → (h : AreMade s (take first edits) old now)
-      → IsRunTo s edits end old now h.tree outlines changes
+      → IsRunTo s edits end old now h.tree outlines changes tables
   pub within : All (IsChangeIn now.text) changes
   pub utf8 : All (λ c. IsUtf8 c.new) changes
 
-pub no_changes : (edits : List Edit) (first : ℕ) (now : ProfiledText) → AreMadeTo edits first first now [] []
-no_changes edits first now = record {
+pub no_changes : (edits : List Edit) (first : ℕ) (now : ProfiledText) (tables : Tables)
+    → AreMadeTo edits first first now [] [] tables
+no_changes edits first now tables = record {
   made = λ s old h. record {
     made = h;
     ms = [];
@@ -470,6 +524,7 @@ no_changes edits first now = record {
     sets = λ path (k, x, less, is, holds). absurd (omega (arith, less));
     renames = λ path name (k, x, less, is, holds). absurd (omega (arith, less));
     allow = λ path name all. All-nil (AllowsKey path name);
+    lines = All-nil (IsKnownAt tables);
     at_once = tt;
     changes_are = refl;
     tree_is = refl;
@@ -479,38 +534,40 @@ no_changes edits first now = record {
 }
 
 pub more_changes : (edits : List Edit) (first end : ℕ) (now : ProfiledText) (outlines : List Outline)
-    (changes : List TextChange) (d x : Edit) (o : Outline) (t : TextEdit)
-    → AreMadeTo edits first end now outlines changes → end < length edits → get_or edits end d ≡ x
-    → MakesInRunHere now x (outlined o) t → All (λ y. LeavesAlone y o) outlines
+    (changes : List TextChange) (tables next : Tables) (d x : Edit) (o : Outline) (t : TextEdit) (dotted : Bool)
+    → AreMadeTo edits first end now outlines changes tables → end < length edits → get_or edits end d ≡ x
+    → MakesInRunHere now x (outlined o) t dotted → All (λ y. LeavesAlone y o) outlines
     → All (λ b. IsBeside b (change_of t)) changes → IsPlaced outlines now.text changes o (change_of t).at
-    → AreMadeTo edits first (suc end) now (outlines ++ o ∷ []) (with_change changes (change_of t))
-more_changes edits first end now outlines changes d x o t so_far lt here makes alone beside placed =
+    → IsLineKept tables changes o (change_of t).at dotted next
+    → AreMadeTo edits first (suc end) now (outlines ++ o ∷ []) (with_change changes (change_of t)) next
+more_changes edits first end now outlines changes tables next d x o t dotted so_far lt here makes alone beside placed
+    kept =
     let c : TextChange = change_of t in
     let utf8 = all_with (λ b. IsUtf8 b.new) changes c so_far.utf8 (IsUtf8-string_bytes t.new) in
     let within = all_with (IsChangeIn now.text) changes c so_far.within (change_in now.text t makes.within) in
     record {
-      made = λ s old h. one_made_more s edits end old now h.tree outlines changes h.read (so_far.made s old h) d x lt
-          here o makes.edit (makes.in_run h.tree) makes.is (makes.outline_is h.tree h.read) c
-          (makes.makes h.tree h.read) alone
-          beside placed utf8 within;
+      made = λ s old h. one_made_more s edits end old now h.tree outlines changes tables next h.read
+          (so_far.made s old h) d x lt here o makes.edit (makes.in_run h.tree) makes.is
+          (makes.outline_is h.tree h.read) c dotted (makes.makes h.tree h.read) alone beside placed kept utf8 within;
       within = within;
       utf8 = utf8;
     }
 
 -- So all edits that the changes are of are made by them.
 pub all_made : (edits : List Edit) (first : ℕ) (now : ProfiledText) (outlines : List Outline)
-    (changes : List TextChange) → {end to : ℕ} {its : List TextChange}
-    → AreMadeTo edits first end now outlines changes → its ≡ changes → to ≡ end
+    (changes : List TextChange) (tables : Tables) → {end to : ℕ} {its : List TextChange}
+    → AreMadeTo edits first end now outlines changes tables → its ≡ changes → to ≡ end
     → MakeChanges edits first to now its
-all_made edits first now outlines changes so_far same there s old h =
+all_made edits first now outlines changes tables so_far same there s old h =
     subst₂ (λ (n : ℕ) (cs : List TextChange). AreMade s (take n edits) old (changed_text now cs)) (sym there) (sym same)
     (so_far.made s old h).made
 
 -- And the changes are in the text.
 pub all_within : (edits : List Edit) (first : ℕ) (now : ProfiledText) (outlines : List Outline)
-    (changes : List TextChange) → {end : ℕ} {its : List TextChange}
-    → AreMadeTo edits first end now outlines changes → its ≡ changes → All (IsChangeIn now.text) its
-all_within edits first now outlines changes so_far same = subst (All (IsChangeIn now.text)) (sym same) so_far.within
+    (changes : List TextChange) (tables : Tables) → {end : ℕ} {its : List TextChange}
+    → AreMadeTo edits first end now outlines changes tables → its ≡ changes → All (IsChangeIn now.text) its
+all_within edits first now outlines changes tables so_far same =
+    subst (All (IsChangeIn now.text)) (sym same) so_far.within
 
 -- A change that is not added leaves the list as it is.
 pub unadded : (P : List TextChange → Type 0) (r : Result Bool AllocError) (old with_it now : List TextChange)

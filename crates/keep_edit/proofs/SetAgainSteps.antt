@@ -23,17 +23,19 @@ use Rattle.keep_edit_spec.specs.EntryEdits.{MakesSet}
 use Rattle.keep_edit_spec.specs.Laws.{IsLawfulEdit}
 use Rattle.keep_edit_spec.specs.Refusals.{refusal}
 use Rattle.keep_edit_spec.specs.RenameLists.{AllowsKey, IsRenameIn, IsRenameOf}
-use Rattle.keep_edit_spec.specs.RunLists.{IsRunSetAgain, IsSetIn, MadeEdit, changes_of, made, seen_of}
+use Rattle.keep_edit_spec.specs.RunLists.{IsRunSetAgain, IsSetIn, MadeEdit, changes_of, lines_of, made, seen_of}
 use Rattle.keep_edit_spec.specs.Runs as runs
 use Rattle.keep_edit_spec.specs.Runs.{IsRun}
 use Rattle.keep_edit_spec.specs.SetValues.{SetsValue}
 use Rattle.keep_edit_spec.specs.TextChanges.{Follow, TextChange, change_at, moved_by_all, text_with}
-use Rattle.keep_edit_spec.proofs.Shared.{change_put, each_of_others, entry_lawful, one_in_place, put_in_place}
+use Rattle.keep_edit_spec.proofs.Shared.{change_put, each_of_others, entry_lawful, lines_apart, one_in_place}
+use Rattle.keep_edit_spec.proofs.Shared.{put_in_place}
 use Rattle.keep_edit_spec.proofs.Shared.{run_goes_on_again, run_is_known, set_bytes, set_lawful}
 use Rattle.keep_edit_plan.proofs.Shared.{change_in, editable}
 use Rattle.keep_edit_plan.specs.TextEdits.{HasChange, IsChangeIn, IsReplaced, change_of}
 use Rattle.keep_edit_plan.specs.declared.edit.Edit.{Edit}
 use Rattle.keep_edit_plan.specs.declared.text_edit.TextEdit.{TextEdit}
+use Rattle.keep_edit.specs.AddedLines.{IsKnownAt, Tables}
 use Rattle.keep_edit.specs.Lists.{AreMade}
 use Rattle.keep_edit.specs.Reading.{limit, IsTextOfTree, ProfiledText}
 use Rattle.keep_edit.specs.Runs.{IsRunTo, SetsAgainHere, changed_text}
@@ -78,8 +80,8 @@ rename_by_one q m (x ∷ later) earlier (inr h) = elim (rename_by_one q m later 
 -- ---- one more
 
 module _ (s : Document) (edits : List Edit) (n : ℕ) (old now : ProfiledText) (before : Document)
-    (outlines : List Outline) (changes new : List TextChange) (read : IsTextOfTree now before)
-    (h : IsRunTo s edits n old now before outlines changes) (d x : Edit) (lt : n < length edits)
+    (outlines : List Outline) (changes new : List TextChange) (tables : Tables) (read : IsTextOfTree now before)
+    (h : IsRunTo s edits n old now before outlines changes tables) (d x : Edit) (lt : n < length edits)
     (here : get_or edits n d ≡ x) (t : TextEdit) (again : SetsAgainHere now x outlines changes t)
     (replaced : IsReplaced changes (change_of t) new) (utf8 : All (λ b. IsUtf8 b.new) new)
     (within : All (IsChangeIn now.text) new) where
@@ -97,12 +99,13 @@ module _ (s : Document) (edits : List Edit) (n : ℕ) (old now : ProfiledText) (
   abbrev ms : List MadeEdit
   ms = made e c ∷ r.rest
 
-  so_far : IsRun now.profile limit before (seen_of before h.ms) changes h.made.tree
-  so_far = run_so_far s edits n old now before outlines changes read h
+  so_far : IsRun now.profile limit before (seen_of before h.ms) changes (lines_of before h.ms) h.made.tree
+  so_far = run_so_far s edits n old now before outlines changes tables read h
 
-  goes_on : IsRun now.profile limit before (seen_of before ms) (changes_of ms) (edited_document h.made.tree e)
+  goes_on : IsRun now.profile limit before (seen_of before ms) (changes_of ms) (lines_of before ms)
+      (edited_document h.made.tree e)
   goes_on =
-      subst (IsRun now.profile limit before (seen_of before ms) (changes_of ms))
+      subst (IsRun now.profile limit before (seen_of before ms) (changes_of ms) (lines_of before ms))
       (sym r.same ∙ ap (λ (u : Document). edited_document u e) h.tree_is)
       (run_is_known now.profile limit before ms (editable now before read) r.still)
 
@@ -203,7 +206,15 @@ module _ (s : Document) (edits : List Edit) (n : ℕ) (old now : ProfiledText) (
         | inr others ↦ inr (subst (IsRenameIn q) (sym r.one.others) others)
       ]
 
-  pub made_again : IsRunTo s edits (suc n) old now before outlines new
+  -- a set adds no line
+  lines_known : All (IsKnownAt tables) (lines_of before ms)
+  lines_known =
+      subst (All (IsKnownAt tables))
+      (ap (lines_of before) r.one.all
+      ∙ lines_apart before (made (law.set again.path r.value) r.c) r.one.later r.one.earlier (λ lines. refl)
+      ∙ ap (lines_of before) (sym r.one.others)) h.lines
+
+  pub made_again : IsRunTo s edits (suc n) old now before outlines new tables
   made_again = record {
     made = all_made;
     ms = ms;
@@ -215,6 +226,7 @@ module _ (s : Document) (edits : List Edit) (n : ℕ) (old now : ProfiledText) (
     sets = λ q any. set_in q (h.sets q any);
     renames = λ q name any. rename_in q (h.renames q name any);
     allow = λ q name all. all_again (AllowsKey q name) (λ its. its) (h.allow q name all);
+    lines = lines_known;
     at_once = r.still;
     changes_are = sym new_is;
     tree_is = tree_of_run now before ms new all_made.tree read r.still (sym new_is) all_made.read;
@@ -237,18 +249,18 @@ each_replaced P old new c r all its =
     (all_but P r.before r.after r.gone c (subst (All P) r.was all) its)
 
 pub changes_again : (edits : List Edit) (first end : ℕ) (now : ProfiledText) (outlines : List Outline)
-    (changes new : List TextChange) (d x : Edit) (t : TextEdit)
-    → AreMadeTo edits first end now outlines changes → end < length edits → get_or edits end d ≡ x
+    (changes new : List TextChange) (tables : Tables) (d x : Edit) (t : TextEdit)
+    → AreMadeTo edits first end now outlines changes tables → end < length edits → get_or edits end d ≡ x
     → SetsAgainHere now x outlines changes t → IsReplaced changes (change_of t) new
-    → AreMadeTo edits first (suc end) now outlines new
-changes_again edits first end now outlines changes new d x t so_far lt here again replaced =
+    → AreMadeTo edits first (suc end) now outlines new tables
+changes_again edits first end now outlines changes new tables d x t so_far lt here again replaced =
     let c : TextChange = change_of t in
     let utf8 = each_replaced (λ b. IsUtf8 b.new) changes new c replaced so_far.utf8 (IsUtf8-string_bytes t.new) in
     let within =
     each_replaced (IsChangeIn now.text) changes new c replaced so_far.within (change_in now.text t again.within) in
     record {
-      made = λ s old h. made_again s edits end old now h.tree outlines changes new h.read (so_far.made s old h) d x lt
-          here t again replaced utf8 within;
+      made = λ s old h. made_again s edits end old now h.tree outlines changes new tables h.read (so_far.made s old
+          h) d x lt here t again replaced utf8 within;
       within = within;
       utf8 = utf8;
     }

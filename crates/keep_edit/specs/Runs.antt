@@ -9,6 +9,7 @@ use Rattle.keep_syntax.specs.Tree.{Document, Value, inline, none, text}
 use Rattle.keep_path.specs.Path.{Part, beside, key, strip, without_last}
 use Rattle.keep_meaning.specs.Meaning.{mentions_in}
 use Rattle.keep_edit_spec.specs.AddedItems.{AddsNextItem, IsItemRun, item_path}
+use Rattle.keep_edit_spec.specs.DottedLines.{AddedAt, IsAfter, into_dotted}
 use Rattle.keep_edit_spec.specs.Edits as law
 use Rattle.keep_edit_spec.specs.EntryEdits.{MakesSet}
 use Rattle.keep_edit_spec.specs.Laws.{IsEditable}
@@ -17,12 +18,14 @@ use Rattle.keep_edit_spec.specs.RemovedHeaders.{IsHeaderRun, RemovesHeader, firs
 use Rattle.keep_edit_spec.specs.RenameLists.{AllowsKey, IsRenameIn}
 use Rattle.keep_edit_spec.specs.RenamedKeys.{RenamesKey}
 use Rattle.keep_edit_spec.specs.Runs as runs
-use Rattle.keep_edit_spec.specs.RunLists.{AreAtOnce, IsSetIn, MadeEdit, changes_of, document_after, seen_of}
+use Rattle.keep_edit_spec.specs.RunLists.{AreAtOnce, IsSetIn, MadeEdit, changes_of, document_after, lines_of}
+use Rattle.keep_edit_spec.specs.RunLists.{seen_of}
 use Rattle.keep_edit_spec.specs.Runs.{LetsCome, MakesChange, takes_up_to}
 use Rattle.keep_edit_spec.specs.SetValues.{SetsValue}
 use Rattle.keep_edit_spec.specs.TextChanges.{TextChange, change_at, text_with}
 use Rattle.keep_edit_plan.specs.Headers.{key_texts}
 use Rattle.keep_edit_plan.specs.TextEdits.{HasChange, MakesChangeHere, change_of}
+use Rattle.keep_edit.specs.AddedLines.{IsKnownAt, Tables}
 use Rattle.keep_edit.specs.Answers.{IsSpanOf}
 use Rattle.keep_edit.specs.Gone.{IsGoneWith}
 use Rattle.keep_edit.specs.Lists.{AreMade, IsEdit}
@@ -105,6 +108,21 @@ pub record IsPlaceKept (bytes : List ℕ) (changes : List TextChange) (x : Outli
       → All (LetsCome bytes changes at) changes × ((headers ≡ false) ⊎ (at ≢ length bytes))
   pub header : runs.is_header (outlined x) ≡ true → list_any (takes_up_to at) changes ≡ false
 
+-- the line of an insert with that first new key
+abbrev pub line_of : List Part → ℕ → Bool → AddedAt
+line_of first at dotted = record { first = first; at = at; dotted = dotted }
+
+-- An edit with this outline comes after these changes; the line that it adds at this byte, if it adds one, comes after
+-- those that are known, and is known then. One of a table that dotted keys make comes after no change that takes the
+-- byte before it.
+pub record IsLineKept (old : Tables) (changes : List TextChange) (x : Outline) (at : ℕ) (dotted : Bool) (new : Tables)
+    : Type 0 where
+  pub stays : dotted ≡ true → list_any (takes_up_to at) changes ≡ false
+  pub others : (l : AddedAt) → IsKnownAt old l → IsKnownAt new l
+  pub after : (first : List Part) → outlined x ≡ law.insert first no_value → (l : AddedAt) → IsKnownAt old l
+      → IsAfter l (line_of first at dotted)
+  pub here : (first : List Part) → outlined x ≡ law.insert first no_value → IsKnownAt new (line_of first at dotted)
+
 -- what is left of keys after so many, and after those of the steps of a path
 abbrev pub rest_from : List (String Global) → ℕ → List Part
 rest_from keys n = drop n (map key (key_texts keys))
@@ -130,20 +148,34 @@ pub record SetsHolderHere (now : ProfiledText) (path : List Part) (value : List 
   pub whole : path ≡ holder ++ part ∷ []
   pub sets : MakesChangeHere now (Set holder value) t
 
+-- If it is an insert of a line, whether dotted keys make the table.
+abbrev pub IsOfTable : Document → law.Edit → Bool → Type 0
+IsOfTable s (law.insert path value) dotted = into_dotted s path ≡ dotted
+IsOfTable s e dotted = ⊤
+
 -- The edit makes its own change, or is of an entry and makes what the set of a value makes, and so others see it in a
--- run. That changes the text so.
-abbrev pub MakesInRun : Profile → Document → law.Edit → law.Edit → TextChange → Type 0
-MakesInRun profile s e a c =
-    ((a ≡ runs.seen s e) × MakesChange profile limit s e c)
+-- run. That changes the text so; a line that it adds is of such a table.
+abbrev pub MakesInRun : Profile → Document → law.Edit → law.Edit → TextChange → Bool → Type 0
+MakesInRun profile s e a c dotted =
+    ((a ≡ runs.seen s e) × MakesChange profile limit s e c × IsOfTable s e dotted)
     ⊎ ((holder : List Part) × (value : Value) × (a ≡ law.set holder value) × MakesSet profile limit s e holder value c)
 
 -- so it does in the document of this text, and as it is seen it has that outline
-pub record MakesInRunHere (now : ProfiledText) (x : Edit) (outline : law.Edit) (t : TextEdit) : Type 0 where
+pub record MakesInRunHere (now : ProfiledText) (x : Edit) (outline : law.Edit) (t : TextEdit) (dotted : Bool)
+    : Type 0 where
   pub edit : law.Edit
   pub is : IsEdit x edit
   pub in_run : Document → law.Edit
   pub outline_is : (s : Document) → IsTextOfTree now s → plain (in_run s) ≡ outline
-  pub makes : (s : Document) → IsTextOfTree now s → MakesInRun now.profile s edit (in_run s) (change_of t)
+  pub makes : (s : Document) → IsTextOfTree now s → MakesInRun now.profile s edit (in_run s) (change_of t) dotted
+  pub within : IsSpanOf now.text t.place
+
+-- The edit makes its own change, in the document of this text; a line that it adds is of such a table.
+pub record MakesItselfHere (now : ProfiledText) (x : Edit) (t : TextEdit) (dotted : Bool) : Type 0 where
+  pub edit : law.Edit
+  pub is : IsEdit x edit
+  pub makes : (s : Document) → IsTextOfTree now s
+      → MakesChange now.profile limit s edit (change_of t) × IsOfTable s edit dotted
   pub within : IsSpanOf now.text t.place
 
 -- One of the edits with these outlines sets the value at that path.
@@ -193,9 +225,10 @@ pub record RenamesAgainHere (now : ProfiledText) (x : Edit) (outlines : List Out
   pub within : IsSpanOf now.text t.place
 
 -- With the edits up to number `end` made, this is the text with the changes. It is known of the document that it is
--- after a list of edits that are made at once, which leave alone what each of these outlines does.
+-- after a list of edits that are made at once, which leave alone what each of these outlines does, and whose lines are
+-- of these tables.
 pub record IsRunTo (s : Document) (edits : List Edit) (end : ℕ) (old now : ProfiledText) (before : Document)
-    (outlines : List Outline) (changes : List TextChange) : Type 0 where
+    (outlines : List Outline) (changes : List TextChange) (tables : Tables) : Type 0 where
   pub made : AreMade s (take end edits) old (changed_text now changes)
   pub ms : List MadeEdit
   pub alone : (f : law.Edit) → All (λ x. runs.LeavesAlone (outlined x) (plain f)) outlines
@@ -210,6 +243,7 @@ pub record IsRunTo (s : Document) (edits : List Edit) (end : ℕ) (old now : Pro
   pub renames : (path : List Part) (name : List ℕ) → IsRenamedBy outlines path name → IsRenameIn path ms
   pub allow : (path : List Part) (name : List ℕ) → All (λ x. AllowsKey path name (outlined x)) outlines
       → All (AllowsKey path name) (seen_of before ms)
+  pub lines : All (IsKnownAt tables) (lines_of before ms)
   pub at_once : AreAtOnce now.profile limit before ms
   pub changes_are : changes_of ms ≡ changes
   pub tree_is : document_after before ms ≡ made.tree

@@ -22,6 +22,26 @@ pub struct Run {
     pub end: usize,
 }
 
+/// What an edit that is made at once with others changes in the text.
+#[derive(Drop)]
+pub struct RunEdit {
+    pub change: TextEdit,
+    /// Whether it adds a line to a table that dotted keys make.
+    pub is_dotted: bool,
+}
+
+impl RunEdit {
+    /// That of an edit which adds no line to such a table.
+    pub fn other(change: TextEdit) -> RunEdit
+        ensures { (result.change ≡ change) × (result.is_dotted ≡ false) }
+    {
+        RunEdit {
+            change,
+            is_dotted: false,
+        }
+    }
+}
+
 /// Edits that are made at once: what each does, and what they change in the text. One that sets a value again has no
 /// outline of its own here, and its change comes in the place of the earlier one.
 #[derive(Drop)]

@@ -31,8 +31,11 @@ impl Document {
             return None;
         };
         let alloc = self.alloc();
-        let earlier = planner.added_line(alloc, path, given)?;
-        let change = planner.added_line(alloc, path, value)?;
-        Some((number, earlier, change))
+        let earlier = planner.line(alloc, path, given)?;
+        let line = planner.line(alloc, path, value)?;
+        if earlier.is_dotted != line.is_dotted {
+            return None;
+        }
+        Some((number, earlier.text_edit, line.text_edit))
     }
 }

@@ -1,13 +1,14 @@
 //! Edits of a list in their order. Where many come in a row that each make their change elsewhere, and leave one
 //! another alone, they are made at once: each is known by the document before all of them.
 ghost use Rattle.std.specs.Prelude.{◌≡◌, ◌+◌, ◌++◌, ◌∷◌, ◌<◌, ◌≤◌, [], ℕ, All, IfErr, IfOk, IfSome, IsTrue};
-ghost use Rattle.std.specs.Prelude.{List, MatchResult, Some, length, take, true};
+ghost use Rattle.std.specs.Prelude.{List, MatchResult, Some, false, length, take, true};
 ghost use Rattle.std.specs.Bool.{Decides};
 ghost use Rattle.keep_syntax.specs.Tree as tree;
 ghost use Rattle.keep_edit.specs.Lists.{AreMade, StopsAt};
 ghost use Rattle.keep_edit.specs.Answers.{IsSpanOf};
 ghost use Rattle.keep_edit.specs.Reading.{IsTextOfTree, ProfiledText, limit};
 ghost use Rattle.keep_edit.specs.Runs.{AddsItemHere, IsPlaceKept, IsSeenAs, MakeChanges, MakesInRunHere};
+ghost use Rattle.keep_edit.specs.Runs.{MakesItselfHere};
 ghost use Rattle.keep_edit.specs.Runs.{RemovesHeaderHere, SetsAgainHere, SetsHolderHere, changed_text, outline};
 ghost use Rattle.keep_edit.specs.declared.outline.SeenAs.TheVariants.{Entry};
 ghost use Rattle.keep_edit.specs.ValueAfter.{MakesValue};
@@ -16,8 +17,9 @@ ghost use Rattle.keep_edit_spec.specs.AddedItems.{item_path};
 ghost use Rattle.keep_edit_spec.specs.RemovedHeaders.{RemovesHeader, first_path};
 ghost use Rattle.keep_path.specs.Path.{Part};
 
+use crate::added_lines::AddedLines;
 use crate::alike::{agree, is_same, leave_alone_within};
-use crate::at_once::{AtOnce, Run, is_plain};
+use crate::at_once::{AtOnce, Run, RunEdit, is_plain};
 use crate::document::Document;
 use crate::gone::GoneElements;
 use crate::opened::OpenValues;
@@ -188,31 +190,27 @@ impl Document {
         }
     }
 
-    /// The same beyond the edit with number `end`, which ends those of one kind: as far as they add lines, if that one
-    /// may add one to a table that dotted keys make; as far as they remove tables and elements with their headers, if
-    /// that one removes an element, or none comes before it; or as far as they are of several kinds. None where they
-    /// are not tried.
+    /// The same beyond the edit with number `end`, which ends those of one kind: as far as they remove tables and
+    /// elements with their headers, if that one removes an element; or as far as they are of several kinds. Where none
+    /// comes before it, as far as they remove them. None where they are not tried.
     fn others_by(&self, edits: &[Edit], first: usize, end: usize) -> Option<Run>
         requires { first < length edits.now }
         ensures few { IfSome result (λ run. (first ≤ run.end) × (run.end ≤ length edits.now)) }
         ensures made { IfSome result (λ run. MakeChanges edits.now first run.end self.now run.changes) }
         ensures within { IfSome result (λ run. All (IsChangeIn self.now.text) run.changes) }
     {
-        let edit = &edits[first];
         let next = edits.get(end);
-        let changes = if self.may_be_lines(edit, next) {
-            self.lines_by(edits, first)
-        } else if end == first || self.removes_element(next) {
-            self.sections_by(edits, first)
-        } else if self.is_other_kind(edit, next) {
+        if end == first || self.removes_element(next) {
+            let changes = self.sections_by(edits, first);
+            return Some(Run {
+                end: first + changes.len(),
+                changes,
+            });
+        }
+        if self.is_other_kind(&edits[first], next) {
             return Some(self.changes_of_kinds(edits, first));
-        } else {
-            return None;
-        };
-        Some(Run {
-            end: first + changes.len(),
-            changes,
-        })
+        }
+        None
     }
 
     /// What the edits from number `first` on change in the text, as far as all are of one kind and each makes its
@@ -227,6 +225,7 @@ impl Document {
         let mut opened = OpenValues::new(self.alloc());
         let mut planner = Planner::new(self.alloc(), self.as_ref());
         let mut keys = SeenKeys::new(self.alloc(), self.outline_of(&edits[first]));
+        let mut lines = AddedLines::new(self.alloc());
         let mut left = self.most_pairs();
         let end = edits.len().min(first.saturating_add(MOST_AT_ONCE));
         for number in first..end {
@@ -250,11 +249,13 @@ impl Document {
                 return so_far.up_to(number);
             }
             let next = edits.get(number + 1);
-            let Some(change) = self.change_in_run(&mut planner, &mut opened, edit, next, seen)
-            else {
+            let Some(made) = self.change_in_run(&mut planner, &mut opened, edit, next, seen) else {
                 return so_far.up_to(number);
             };
-            if !so_far.add(number, outline, change) {
+            if !lines.keep_line(&so_far, &outline, &made) {
+                return so_far.up_to(number);
+            }
+            if !so_far.add(number, outline, made.change) {
                 return so_far.up_to(number);
             }
         }
@@ -274,6 +275,7 @@ impl Document {
         let mut opened = OpenValues::new(self.alloc());
         let mut planner = Planner::new(self.alloc(), self.as_ref());
         let mut paths = SeenPaths::new(self.alloc());
+        let mut lines = AddedLines::new(self.alloc());
         let mut left = self.most_pairs();
         let mut is_text_plain = false;
         let end = edits.len().min(first.saturating_add(MOST_AT_ONCE));
@@ -298,18 +300,20 @@ impl Document {
                 return so_far.up_to(number);
             }
             let next = edits.get(number + 1);
-            let Some(change) = self.change_in_run(&mut planner, &mut opened, edit, next, seen)
-            else {
+            let Some(made) = self.change_in_run(&mut planner, &mut opened, edit, next, seen) else {
                 return so_far.up_to(number);
             };
+            if !lines.keep_line(&so_far, &outline, &made) {
+                return so_far.up_to(number);
+            }
             if outline.writes_anew() {
                 is_text_plain = is_text_plain || is_plain(self.text.as_str());
-                let at = change.place.start;
+                let at = made.change.place.start;
                 if !is_text_plain || !self.keeps_place(&so_far, &outline, at, paths.has_header()) {
                     return so_far.up_to(number);
                 }
             }
-            if !so_far.add(number, outline, change) {
+            if !so_far.add(number, outline, made.change) {
                 return so_far.up_to(number);
             }
         }
@@ -445,15 +449,6 @@ impl Document {
         }
     }
 
-    /// Whether an edit inserts, and so does the second, which is there and may add a line to a table that dotted keys
-    /// make.
-    fn may_be_lines(&self, edit: &Edit, next: Option<&Edit>) -> bool {
-        match (edit, next) {
-            (Edit::Insert(_, _), Some(Edit::Insert(path, _))) => self.is_in_dotted(path),
-            _ => false,
-        }
-    }
-
     /// Whether an edit is there and removes an element of an array of tables.
     fn removes_element(&self, edit: Option<&Edit>) -> bool {
         let Some(Edit::Remove(path)) = edit else {
@@ -497,28 +492,47 @@ impl Document {
         edit: &Edit,
         next: Option<&Edit>,
         seen: SeenAs,
-    ) -> Option<TextEdit>
+    ) -> Option<RunEdit>
         requires planner { planner.old ≡ self.now }
         requires seen { IsSeenAs self.now edit.now seen }
-        ensures made { IfSome result (MakesInRunHere self.now edit.now (outline edit.now seen)) }
+        ensures made { IfSome result
+            (λ made. MakesInRunHere self.now edit.now (outline edit.now seen) made.change made.is_dotted) }
         ensures planner { planner.new ≡ planner.old }
     {
         let SeenAs::Entry = seen else {
-            return planner.change_by(self.alloc(), edit);
+            return self.change_by_itself(planner, edit);
         };
         if self.leaves_long_reading(edit, next) {
             return None;
         }
         if let Some(change) = self.change_by_places(opened, edit) {
-            return Some(change);
+            return Some(RunEdit::other(change));
         }
-        self.as_ref().change_of_holder(self.alloc(), edit)
+        let change = self.as_ref().change_of_holder(self.alloc(), edit)?;
+        Some(RunEdit::other(change))
+    }
+
+    /// What an edit that is seen as itself changes of the text in a run.
+    fn change_by_itself(&self, planner: &mut Planner, edit: &Edit) -> Option<RunEdit>
+        requires { planner.old ≡ self.now }
+        ensures made { IfSome result (λ made. MakesItselfHere self.now edit.now made.change made.is_dotted) }
+        ensures planner { planner.new ≡ planner.old }
+    {
+        if let Edit::Insert(path, value) = edit {
+            let line = planner.line(self.alloc(), path, value)?;
+            return Some(RunEdit {
+                change: line.text_edit,
+                is_dotted: line.is_dotted,
+            });
+        }
+        let change = self.as_ref().change_by(self.alloc(), edit)?;
+        Some(RunEdit::other(change))
     }
 
     /// What an edit of an entry changes of the text, as the set of the value that holds the entry, if the places of
     /// that value's entries tell it.
     fn change_by_places(&self, opened: &mut OpenValues, edit: &Edit) -> Option<TextEdit>
-        ensures { IfSome result (MakesInRunHere self.now edit.now (outline edit.now Entry)) }
+        ensures { IfSome result (λ change. MakesInRunHere self.now edit.now (outline edit.now Entry) change false) }
     {
         let (Edit::Insert(path, _) | Edit::Remove(path)) = edit else {
             return None;

@@ -36,16 +36,16 @@ impl Document {
 
     /// How many edits like this one take as long alone as to read the text anew, if the lines that they change are
     /// short: two for which the index is built anew, removes of tables, elements and lines with several keys, and
-    /// inserts with several keys or into tables that dotted keys make; 12 to 24 other inserts and removes, or sets of a
-    /// list; and of renames or sets of a scalar 27 at 10 KB, 88 at 100 KB and some 190 from 256 KB on. New headers are
-    /// so cheap that they are worth it in small texts alone.
+    /// inserts with several keys or into tables that no header defines; 12 to 24 other inserts and removes, or sets of
+    /// a list; and of renames or sets of a scalar 27 at 10 KB, 88 at 100 KB and some 190 from 256 KB on. New headers
+    /// are so cheap that they are worth it in small texts alone.
     fn edits_per_reading(&self, edit: &Edit) -> usize {
         let len = self.text.len();
         match edit {
             Edit::Set(_, value) if value.depth() > 0 => 23,
             Edit::Set(_, _) | Edit::Rename(_, _) => 20 + (len / 1500).min(170),
             Edit::Table(_) | Edit::Element(_) => 25 + len / 600,
-            Edit::Insert(path, _) if !self.has_parent(path) || self.is_in_dotted(path) => 2,
+            Edit::Insert(path, _) if !self.has_parent(path) || self.lacks_header(path) => 2,
             Edit::Remove(path) if self.has_header(path) || self.has_several_keys(path) => 2,
             Edit::Insert(_, _) | Edit::Remove(_) => 23,
         }
@@ -59,7 +59,7 @@ impl Document {
     }
 
     /// Whether the steps of a path that are there lead to a table that dotted keys make.
-    pub(crate) fn is_in_dotted(&self, path: &Path) -> bool {
+    fn lacks_header(&self, path: &Path) -> bool {
         let steps = self.as_ref().reach(path).steps;
         match self.index.find_first(path, steps) {
             Some(id) => matches!(self.index.node(id).origin, Origin::Dotted(_)),

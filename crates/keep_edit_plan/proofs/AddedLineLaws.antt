@@ -5,7 +5,7 @@
 -- were written where the text is not open: a newline has bytes (`newline_some`). If it came before the first line, it
 -- would be put where the lines start.
 --
--- Theorems: `line_is_added`; `at_boundary`: it comes between characters; `not_past_last`.
+-- Theorems: `line_is_added`; `at_boundary`: it comes between characters; `not_past`, `not_past_last`.
 use Rattle.std.proofs.Common.{◌≡◌, ◌⊎◌, ℕ, zero, suc, ◌+◌, ◌-◌, ◌<◌, ◌≤◌, Bool, true, false, not, cond, List, [], ◌∷◌}
 use Rattle.std.proofs.Common.{◌++◌, length, take, drop, refl, sym, ap, subst, ◌∙◌, arith, append_assoc, length-append}
 use Rattle.std.proofs.Common.{Option, Some, None, Result, Ok, Err, OnOk, inl, inr, map, ◌≢◌}
@@ -19,9 +19,9 @@ use Rattle.keep_types.specs.declared.leaf.Leaf.TheVariants as leaf
 use Rattle.keep_types.specs.declared.leaf.Profile.{Profile}
 use Rattle.keep_syntax.specs.declared.syntax.Syntax.{Syntax}
 use Rattle.keep_syntax.specs.Grammar.{IsDocument}
-use Rattle.keep_syntax.specs.Tree.{Written, Value, Document, Line, Ended, keyval, leaves, token, bom_leaves, text}
-use Rattle.keep_syntax.specs.Tree.{ended_leaves, line_leaves, name_leaves, value_leaves, text_of, value_depth}
-use Rattle.keep_syntax.proofs.Shared.{AreSome, document_some, width-append}
+use Rattle.keep_syntax.specs.Tree.{Written, Value, Document, Content, Line, Ended, keyval, leaves, token, bom_leaves}
+use Rattle.keep_syntax.specs.Tree.{ended_leaves, line_leaves, text, text_of, value_depth}
+use Rattle.keep_syntax.proofs.Shared.{AreSome, document_some}
 use Rattle.keep_path.specs.NodeInfos.{NodeInfos}
 use Rattle.keep_path.specs.Path.{Part, AreUtf8, key}
 use Rattle.keep_meaning.specs.Meaning.{mentions_in}
@@ -29,11 +29,11 @@ use Rattle.keep_edit_spec.specs.declared.fault.EditFault.{EditFault}
 use Rattle.keep_edit_spec.specs.Changed.{Changed, Place, place_of}
 use Rattle.keep_edit_spec.specs.Edits.{at_line, change, change_insert, changed_or_same, end_of, insert, insert_line}
 use Rattle.keep_edit_spec.specs.Edits.{name_with, new_keyval, place}
-use Rattle.keep_edit_spec.specs.Insertion.{is_open, keyed_text, missing_newline, put_in}
+use Rattle.keep_edit_spec.specs.Insertion.{is_open, missing_newline, put_in}
 use Rattle.keep_edit_spec.specs.Lines.{ended_text, first_newline, new_line, newline_of}
 use Rattle.keep_edit_spec.specs.Lines.{put_lines}
 use Rattle.keep_edit_spec.specs.Look.{holder, item_number, keys_in}
-use Rattle.keep_edit_spec.proofs.Shared.{IsNewPath, header_ends, new_path, place_is, root_ends}
+use Rattle.keep_edit_spec.proofs.Shared.{IsNewPath, header_ends, new_line_text, new_path, place_is, root_ends}
 use Rattle.keep_edit_spec.specs.AddedLines.{AddsLine}
 use Rattle.keep_edit_spec.specs.TextChanges.{change_at}
 use Rattle.keep_edit_plan.specs.Inserting.{IsInsertionOf, IsKeyvalSpot, lines_start, new_line_at}
@@ -97,30 +97,15 @@ past_new zero new newline es last past = absurd (omega (arith, past))
 past_new (suc m) new newline [] last past = refl
 past_new (suc m) new newline (e ∷ es) last past = past_new m new newline es last (omega (arith, past))
 
--- how many bytes a line with a keyval has
-keyval_long : (k : List ℕ) (ks : List (List ℕ)) (v : Value) (newline : Written)
-    → length (ended_text (new_line newline (keyval (name_with (k ∷ ks)) v) ∷ []))
-    ≡ length (keyed_text (k ∷ ks) v) + length newline.text
-keyval_long k ks v newline =
-    let name : List Written = name_leaves (name_with (k ∷ ks)) in
-    let line : List Written = (name ++ value_leaves v) ++ [] in
-    omega (
-      arith,
-      width-append (line ++ newline ∷ []) [],
-      width-append line (newline ∷ []),
-      width-append (name ++ value_leaves v) [],
-      width-append name (value_leaves v),
-      length-append newline.text [],
-      length-append (text_of name) (text_of (value_leaves v)),
-    )
-
--- Where the text is not open, nothing comes before the keyval, so it is not put after the last line.
-pub not_past_last : (d : ProfiledText) (s : Document) (path : List Part) (v : Value) (n at : ℕ) (k : List ℕ)
-    (ks : List (List ℕ)) (line : List ℕ)
-    → IsTextOfTree d s → change s (insert path v) ≡ at_line s n (keyval (name_with (k ∷ ks)) v ∷ [])
-    → line ≡ (new_line_at s at (k ∷ ks) v).new → place s (insert path v) ≡ put_in at line
+-- Where the text is not open, nothing comes before the new lines, so they are not put after the last line.
+pub not_past : (d : ProfiledText) (s : Document) (path : List Part) (v : Value) (n at : ℕ) (contents : List Content)
+    (given : List ℕ)
+    → IsTextOfTree d s → change s (insert path v) ≡ at_line s n contents
+    → given ≡ missing_newline (text s) (newline_of s).text (lines_start s) at
+    ++ ended_text (map (new_line (newline_of s)) contents)
+    → place s (insert path v) ≡ put_in at given
     → false ≡ is_open (drop (lines_start s) (take at d.text)) → n ≤ length s.ended
-not_past_last d s path v n at k ks line read changes line_is is closed = elim (cases_lt (length s.ended) n) [
+not_past d s path v n at contents given read changes given_is is closed = elim (cases_lt (length s.ended) n) [
   | inl past ↦ absurd (longer past)
   | inr few ↦ few
 ]
@@ -128,25 +113,34 @@ not_past_last d s path v n at k ks line read changes line_is is closed = elim (c
     longer : length s.ended < n → ⊥
     longer past =
         let newline : Written = newline_of s in
-        let new : List Ended = new_line newline (keyval (name_with (k ∷ ks)) v) ∷ [] in
+        let new : List Ended = map (new_line newline) contents in
         let missing : missing_newline (text s) newline.text (lines_start s) at ≡ [] =
         ap (λ (b : Bool). cond b newline.text [])
         (ap (λ (t : List ℕ). is_open (drop (lines_start s) (take at t))) (sym read.reads.spelled) ∙ sym closed) in
-        let given : line ≡ keyed_text (k ∷ ks) v ++ newline.text =
-        line_is ∙ ap (λ (t : List ℕ). t ++ (keyed_text (k ∷ ks) v ++ newline.text)) missing in
-        let more : line ≡ newline.text ++ ended_text new =
+        let less : given ≡ ended_text new = given_is ∙ ap (λ (t : List ℕ). t ++ ended_text new) missing in
+        let more : given ≡ newline.text ++ ended_text new =
         ap (λ (p : Place). p.new) (sym is)
         ∙ ap (λ (o : Option (Changed Document)). (place_of (changed_or_same s o)).new) changes
         ∙ past_new n new newline s.ended s.last past in
         omega (
           arith,
           newline_some d.profile s read.reads.valid,
-          ap length given,
+          ap length less,
           ap length more,
-          keyval_long k ks v newline,
-          length-append (keyed_text (k ∷ ks) v) newline.text,
           length-append newline.text (ended_text new),
         )
+
+-- the same, where the new line is one with a keyval
+pub not_past_last : (d : ProfiledText) (s : Document) (path : List Part) (v : Value) (n at : ℕ) (k : List ℕ)
+    (ks : List (List ℕ)) (line : List ℕ)
+    → IsTextOfTree d s → change s (insert path v) ≡ at_line s n (keyval (name_with (k ∷ ks)) v ∷ [])
+    → line ≡ (new_line_at s at (k ∷ ks) v).new → place s (insert path v) ≡ put_in at line
+    → false ≡ is_open (drop (lines_start s) (take at d.text)) → n ≤ length s.ended
+not_past_last d s path v n at k ks line read changes line_is =
+    not_past d s path v n at (keyval (name_with (k ∷ ks)) v ∷ []) line read changes
+    (line_is
+    ∙ ap (λ (t : List ℕ). missing_newline (text s) (newline_of s).text (lines_start s) at ++ t)
+    (sym (new_line_text (newline_of s) k ks v)))
 
 -- ---- where the lines start
 

@@ -1,7 +1,7 @@
 -- Edits that are found to make a change of a document: what is known of the plan of each is what the law of runs wants.
 --
--- Theorems: `insert_here`, `remove_here`: an insert that adds a line, and a remove that takes one, or leaves it with
--- its comment; `ok_there`, `planned_is`, `sets_here`, `by_set_or_rename`, `by_header`: by the plan.
+-- Theorems: `remove_here`: a remove that takes a line, leaves it with its comment, or takes a table; `ok_there`,
+-- `planned_is`, `sets_here`, `by_set_or_rename`, `by_header`: by the plan.
 use Rattle.std.proofs.Common.{◌≡◌, ◌<◌, ◌≤◌, ◌+◌, ◌-◌, ℕ, List, [], true, refl, sym, ap, subst, ◌∙◌, arith}
 use Rattle.std.proofs.Common.{IsCharBoundary, Option, Some, None, inl, inr}
 use Rattle.std.specs.Prelude.{Err, IfSome, Ok, Result, String, Vec, string_bytes, ◌⊎◌}
@@ -14,7 +14,6 @@ use Rattle.keep_syntax.specs.Tree as tree
 use Rattle.keep_syntax.specs.Tree.{Document, Value, text}
 use Rattle.keep_path.specs.Path.{Part}
 use Rattle.keep_edit_spec.specs.declared.fault.EditFault.{EditFault}
-use Rattle.keep_edit_spec.specs.AddedLines.{AddsLine}
 use Rattle.keep_edit_spec.specs.Changed.{Place}
 use Rattle.keep_edit_spec.specs.Edits as law
 use Rattle.keep_edit_spec.specs.Edits.{key_with, place}
@@ -49,20 +48,6 @@ change_in bytes t h = record {
 }
 
 -- ---- by what is added or taken
-
-pub insert_here : (now : ProfiledText) (x : Edit) (path : List Part) (given : List ℕ) (r : Option TextEdit)
-    → x ≡ edit.Insert path given
-    → ((s : Document) → IsTextOfTree now s → (v : Value) → IsTextOfValue given v
-    → IfSome r (λ made. AddsLine now.profile limit s path v (change_of made)))
-    → IfSome r (λ made. IsSpanOf now.text made.place) → IsAcceptedValue Wide given
-    → IfSome r (MakesChangeHere now x)
-insert_here now x path given None is adds within value = tt
-insert_here now x path given (Some t) is adds within (v, value) = record {
-  edit = law.insert path v;
-  is = subst (λ (e : Edit). IsEdit e (law.insert path v)) (sym is) (v, value, refl);
-  makes = λ s read. adds s read v value;
-  within = within;
-}
 
 pub remove_here : (now : ProfiledText) (x : Edit) (path : List Part) (r : Option TextEdit) → x ≡ edit.Remove path
     → ((s : Document) → IsTextOfTree now s

@@ -2,7 +2,8 @@
 -- requires of the spot holds: its header is one of the statements, its keyval's line has an end, and the steps that are
 -- written are keys.
 --
--- Theorems: `body_ready`, `line_ready`, `section_ready`; `dotted_there`: after which line, where dots lead on.
+-- Theorems: `body_ready`, `line_ready`, `section_ready`; `dotted_there`: after which line, where dots lead on;
+-- `section_placed_there`: after which header's body, and which lines.
 use Rattle.std.proofs.Common.{◌≡◌, ℕ, ◌<◌, ◌≤◌, true, false, List, ◌∷◌, length, take, drop, slice_get, refl, sym, ap}
 use Rattle.std.proofs.Common.{subst, ◌∙◌, arith, Option, Some, None, inl, inr}
 use Rattle.std.specs.Prelude.{IsCharBoundary}
@@ -22,8 +23,8 @@ use Rattle.keep_edit_spec.specs.Edits.{insert, place}
 use Rattle.keep_edit_spec.specs.Look.{holder, is_index, item_number, keys_in}
 use Rattle.keep_edit_spec.specs.Refusals.{refusal}
 use Rattle.keep_edit_spec.proofs.Shared.{rules_of_document, IsLowPlace, IsBaseAt, IsDottedPlaced, IsThroughHeader}
-use Rattle.keep_edit_spec.proofs.Shared.{element_placed, header_placed, headed_within, holder_prefix, plain_rest}
-use Rattle.keep_edit_spec.proofs.Shared.{root_placed, through_header, through_placed, dotted_placed}
+use Rattle.keep_edit_spec.proofs.Shared.{IsThroughPlaced, element_placed, header_placed, headed_within, holder_prefix}
+use Rattle.keep_edit_spec.proofs.Shared.{plain_rest, root_placed, through_header, through_placed, dotted_placed}
 use Rattle.keep_edit_plan.specs.Reading.{limit, ProfiledText, IsTextOfTree}
 use Rattle.keep_edit_plan.specs.Inserting.{IsBase, IsKeyvalSpot, is_dotted_origin, line_end_of, new_line_at, origin_of}
 use Rattle.keep_edit_plan.specs.PutLines.{body_end_of, keyval_end_of, new_section_at}
@@ -144,6 +145,12 @@ module _ (d : ProfiledText) (path : List Part) (v : Value) (s : Document) (read 
         | owner.Item n ↦ None
       ]) e
 
+  -- after which header's body, and which lines
+  pub section_placed_there : (from header : ℕ) → IsKeyvalSpot a s from (NewSection header)
+      → IsThroughPlaced s path v header
+  section_placed_there from header h =
+      through_placed d.profile limit s path v read.reads.valid no_item allowed header h.0
+
   pub section_ready : (from header : ℕ) → IsKeyvalSpot a s from (NewSection header)
       → IsSectionReady path v s from header
   section_ready from header h =
@@ -158,6 +165,6 @@ module _ (d : ProfiledText) (path : List Part) (v : Value) (s : Document) (read 
         put = put_at path v s from at (new_section_at s at (keys_in (take from path)) (keys_in (drop from path)) v) refl
             (subst (λ (n : ℕ).
             IsLowPlace s (insert path v) (new_section_at s at (keys_in (take n path)) (keys_in (drop n path)) v))
-            (sym h.1) (through_placed d.profile limit s path v read.reads.valid no_item allowed header h.0))
+            (sym h.1) (section_placed_there from header h).placed)
             (plain_at from h.1);
       }

@@ -18,7 +18,7 @@ impl<'a> DocumentRef<'a> {
     /// What an edit changes of the text, if it makes the same change after other such edits that leave it alone: a
     /// remove that takes a line, leaves it with its comment, or takes a table with its header, a set, a rename, and a
     /// header after a newline. None for any other edit, where it is refused, and where memory was refused. (`Planner`
-    /// knows the lines of inserts, too.)
+    /// knows the lines of inserts.)
     pub fn change_by(&self, alloc: Global, edit: &Edit) -> Option<TextEdit>
         ensures { IfSome result (MakesChangeHere self.now edit.now) }
     {

@@ -31,7 +31,7 @@ pub use holder::Reach;
 pub use holder_set::{first_steps, push_step};
 pub use open_value::OpenValue;
 pub use plan::{IndexChange, Plan};
-pub use planner::Planner;
+pub use planner::{AddedLine, Planner};
 pub use text_edit::{TextEdit, part_at};
 pub use text_edits::TextEdits;
 pub use totals::totals_of;

@@ -1,16 +1,16 @@
-//! Edits of one document that are planned one after another.
+//! Inserts of lines into one document that are planned one after another.
 ghost use Rattle.std.specs.Prelude.{◌≡◌, ◌<◌, ℕ, IfSome, Some, length};
 ghost use Rattle.keep_types.specs.declared.leaf.Profile.TheVariants.{Wide};
 ghost use Rattle.keep_syntax.specs.Numbered as numbered;
 ghost use Rattle.keep_syntax.specs.Tree as tree;
 ghost use Rattle.keep_edit_spec.specs.AddedLines.{AddsLine};
+ghost use Rattle.keep_edit_spec.specs.DottedLines.{AddsLineTo};
 ghost use Rattle.keep_edit_plan.specs.Answers.{IsSpanOf};
 ghost use Rattle.keep_edit_plan.specs.PutLines.{body_end_of};
 ghost use Rattle.keep_edit_plan.specs.Reading.{IsAcceptedValue, IsTextOfTree, IsTextOfValue, limit};
-ghost use Rattle.keep_edit_plan.specs.TextEdits.{MakesChangeHere, change_of};
+ghost use Rattle.keep_edit_plan.specs.TextEdits.{change_of};
 
 use crate::document::DocumentRef;
-use crate::edit::Edit;
 use crate::insert::Spot;
 use crate::text_edit::TextEdit;
 use keep_rules::{Path, ValueText};
@@ -30,8 +30,16 @@ pub(crate) struct BodyEnd {
     pub(crate) at: usize,
 }
 
-/// Plans edits of one document, one after another, each by that document alone. It keeps where long bodies end, so
-/// that many lines which come at the end of one go through it once.
+/// A line that an insert adds.
+#[derive(Drop)]
+pub struct AddedLine {
+    pub text_edit: TextEdit,
+    /// Whether it is one of a table that dotted keys make; else it ends a body.
+    pub is_dotted: bool,
+}
+
+/// Plans inserts of lines into one document, one after another, each by that document alone. It keeps where long bodies
+/// end, so that many lines which come at the end of one go through it once.
 #[derive(Drop)]
 pub struct Planner<'a> {
     document: DocumentRef<'a>,
@@ -61,18 +69,27 @@ impl<'a> Planner<'a> {
         }
     }
 
-    /// What an edit changes of the text, if it makes the same change after other such edits that leave it alone: an
-    /// insert that adds a line, a remove that takes one, leaves it with its comment, or takes a table with its header,
-    /// a set, a rename, and a header after a newline. None for any other edit, where it is refused, and where memory
-    /// was refused.
-    pub fn change_by(&mut self, alloc: Global, edit: &Edit) -> Option<TextEdit>
-        ensures made { IfSome result (MakesChangeHere self.old edit.now) }
+    /// The line that an insert adds, if it adds one at the end of a body, as `added_line` does, or to a table that
+    /// dotted keys make. None for any other insert, where it is refused, and where memory was refused.
+    pub fn line(&mut self, alloc: Global, path: &Path, value: &ValueText) -> Option<AddedLine>
+        ensures added { (s : tree.Document) → IsTextOfTree self.old s → (v : tree.Value)
+            → IsTextOfValue value.now v → IfSome result (λ made.
+            AddsLineTo made.is_dotted self.old.profile limit s path.now v (change_of made.text_edit)) }
+        ensures within { IfSome result (λ made. IsSpanOf self.old.text made.text_edit.place) }
+        ensures value { IsAcceptedValue Wide value.now }
         ensures same { self.new ≡ self.old }
     {
-        match edit {
-            Edit::Insert(path, value) => self.added_line(alloc, path, value),
-            _ => self.document.change_by(alloc, edit),
+        if let Some(text_edit) = self.added_line(alloc, path, value) {
+            return Some(AddedLine {
+                text_edit,
+                is_dotted: false,
+            });
         }
+        let text_edit = self.document.added_dotted_line(alloc, path, value)?;
+        Some(AddedLine {
+            text_edit,
+            is_dotted: true,
+        })
     }
 
     /// The line that an insert adds, if it adds one at the end of the body of the root, of a table or of an element,

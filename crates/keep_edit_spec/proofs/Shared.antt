@@ -60,12 +60,14 @@ pub use Rattle.keep_edit_spec.proofs.Append.HeaderMarks.{all_element, through_de
 pub use Rattle.keep_edit_spec.proofs.Append.HeaderMarks.{through_unlisted, value_refuses, value_unlisted}
 pub use Rattle.keep_edit_spec.proofs.Common.FromMarksLines.{formed_lines}
 pub use Rattle.keep_edit_spec.proofs.EditLaws.{append_element_lawful, append_table_lawful}
-pub use Rattle.keep_edit_spec.proofs.Insert.LineBefore.{IsLowPlace, lines_low}
+pub use Rattle.keep_edit_spec.proofs.Insert.LineBefore.{IsLowPlace, lines_low, new_line_text, new_section}
+pub use Rattle.keep_edit_spec.proofs.Insert.LineBefore.{new_section_text}
 pub use Rattle.keep_edit_spec.proofs.Insert.ItemPlaces.{IsItemLaw, item_law}
 pub use Rattle.keep_edit_spec.proofs.Insert.BracePlaces.{IsPutAfter}
 pub use Rattle.keep_edit_spec.proofs.Insert.KeyvalPlaces.{IsInlineLaw, dots_placed, inline_placed}
 pub use Rattle.keep_edit_spec.proofs.Insert.BodyStatements.{count_few}
-pub use Rattle.keep_edit_spec.proofs.Insert.InsertPlaces.{EndsBefore, IsThroughHeader, element_placed, header_ends}
+pub use Rattle.keep_edit_spec.proofs.Insert.InsertPlaces.{EndsBefore, IsThroughHeader, IsThroughPlaced}
+pub use Rattle.keep_edit_spec.proofs.Insert.InsertPlaces.{element_placed, header_ends}
 pub use Rattle.keep_edit_spec.proofs.Insert.InsertPlaces.{header_placed, headed_within, holder_prefix, plain_rest}
 pub use Rattle.keep_edit_spec.proofs.Insert.InsertPlaces.{root_ends, root_placed, through_header, through_placed}
 pub use Rattle.keep_edit_spec.proofs.Insert.InsertNested.{braced_nested, item_nested}
@@ -85,9 +87,10 @@ pub use Rattle.keep_edit_spec.proofs.Lists.TextChanges.{all_with, follow_with, l
 pub use Rattle.keep_edit_spec.proofs.Lists.MadeChanges.{change_lawful}
 pub use Rattle.keep_edit_spec.proofs.Lists.ChangeOrder.{beside_back, one_in_place, put_in_place, with_both}
 pub use Rattle.keep_edit_spec.proofs.Lists.RunLaws.{none_is_run, run_goes_on}
-pub use Rattle.keep_edit_spec.proofs.Lists.RunLists.{each_of_others, run_goes_on_again, run_is_known}
+pub use Rattle.keep_edit_spec.proofs.Lists.StillMakes.{dotted_is}
+pub use Rattle.keep_edit_spec.proofs.Lists.RunLists.{each_of_others, lines_apart, run_goes_on_again, run_is_known}
 pub use Rattle.keep_edit_spec.proofs.Lists.RenameLists.{run_goes_on_renamed}
-pub use Rattle.keep_edit_spec.proofs.Lists.ExchangedEdits.{each_more}
+pub use Rattle.keep_edit_spec.proofs.Lists.ExchangedEdits.{each_more, lines_more}
 pub use Rattle.keep_edit_spec.proofs.Lists.InsertLists.{run_goes_on_inserted}
 pub use Rattle.keep_edit_spec.proofs.Rename.KeyTexts.{one_key}
 pub use Rattle.keep_edit_spec.proofs.Lists.ItemRunLaws.{item_run_goes_on, none_is_item_run}
@@ -99,7 +102,6 @@ pub use Rattle.keep_edit_spec.proofs.Lists.SetTwice.{sets_again}
 pub use Rattle.keep_edit_spec.proofs.Lists.HeaderTaken.{element_ends}
 pub use Rattle.keep_edit_spec.proofs.Lists.HeaderRunLaws.{first_with, header_run_goes_on, none_is_header_run}
 pub use Rattle.keep_edit_spec.proofs.Lists.PathsBefore.{apart_before, element_before, no_number_before, stays_below}
-pub use Rattle.keep_edit_spec.proofs.Lists.LineRunLaws.{line_run_goes_on, none_is_line_run}
 pub use Rattle.keep_edit_spec.proofs.Lists.MoreItems.{keys_same, prefixes_alike}
 pub use Rattle.keep_edit_spec.proofs.Lists.NextItem.{not_before, not_empty}
 pub use Rattle.keep_edit_spec.proofs.Lists.SomeBytes.{rename_has_bytes, set_has_bytes}

@@ -1,12 +1,11 @@
 -- Inserts of a list that add lines, at the ends of bodies and to tables which dotted keys make: each is known by the
 -- first document alone, as long as the first new keys of all have other paths, and of lines that come to one place the
 -- later one ends its body, or both are of one table.
-use Rattle.std.specs.Prelude.{◌≡◌, ◌≢◌, ℕ, ◌≤◌, suc, Bool, true, false, List, [], ◌∷◌, ◌++◌, length, map, All, Some}
-use Rattle.std.specs.Prelude.{None, IsUtf8}
+use Rattle.std.specs.Prelude.{◌≡◌, ◌≢◌, ℕ, ◌≤◌, suc, Bool, true, false, List, ◌∷◌, ◌++◌, length, map, Some, None}
+use Rattle.std.specs.Prelude.{IsUtf8}
 use Rattle.std.specs.List.{AllByRecursion}
 use Rattle.keep_types.specs.declared.leaf.Profile.{Profile}
 use Rattle.keep_types.specs.declared.leaf.Profile.TheVariants.{Wide}
-use Rattle.keep_syntax.specs.Tree as tree
 use Rattle.keep_syntax.specs.Tree.{Value, Document}
 use Rattle.keep_path.specs.Path.{Part, key, without_last}
 use Rattle.keep_meaning.specs.Marks.{start}
@@ -18,8 +17,7 @@ use Rattle.keep_edit_spec.specs.Laws.{IsEditable, IsGivenValue}
 use Rattle.keep_edit_spec.specs.Lines.{last_line, leads_dotted}
 use Rattle.keep_edit_spec.specs.Look.{holder, keys_in}
 use Rattle.keep_edit_spec.specs.Refusals.{refusal}
-use Rattle.keep_edit_spec.specs.TextChanges.{Follow, TextChange, moved, moved_past, place_of_change, text_with}
-use Rattle.keep_edit_spec.specs.TextChanges.{with_change}
+use Rattle.keep_edit_spec.specs.TextChanges.{TextChange, moved}
 
 -- An insert of one key or of several, which is not refused, into a table that dotted keys make and no header defines.
 -- It adds this line after the last one whose key leads through the table; that one is ended by a newline.
@@ -37,6 +35,10 @@ pub record AddsDotted (profile : Profile) (limit : ℕ) (s : Document) (path : L
   pub closed : suc number ≤ length s.ended
   pub adds : c.size ≡ 0
   pub is : place s (insert path value) ≡ put_in c.at c.new
+
+-- no header defines the holder of the path: where an insert adds a line, dotted keys make the table
+abbrev pub into_dotted : Document → List Part → Bool
+into_dotted s path = elim (end_of s (holder path (mentions_in s))) [ Some n ↦ false | None ↦ true ]
 
 -- an insert that adds a line: to a table that dotted keys make, or at the end of a body
 abbrev pub AddsLineTo : Bool → Profile → ℕ → Document → List Part → Value → TextChange → Type 0
@@ -60,11 +62,15 @@ pub record AddedAt : Type 0 where
 abbrev pub added_at : Document → List Part → TextChange → Bool → AddedAt
 added_at s path c dotted = record { first = first_new s path; at = c.at; dotted = dotted }
 
--- The lines are of two first new keys. Where they come to one place, the later one ends its body, or both are of one
--- table that dotted keys make: so the later line comes after the earlier one.
+-- Where the lines come to one place, the later one ends its body, or both are of one table that dotted keys make: so
+-- the later line comes after the earlier one.
+abbrev pub IsAfter : AddedAt → AddedAt → Type 0
+IsAfter l m = m.dotted ≡ true → l.at ≡ m.at → (l.dotted ≡ true) × (without_last l.first ≡ without_last m.first)
+
+-- The lines are of two first new keys, and in order where they come to one place.
 pub record AreInOrder (l m : AddedAt) : Type 0 where
   pub other : l.first ≢ m.first
-  pub table : m.dotted ≡ true → l.at ≡ m.at → (l.dotted ≡ true) × (without_last l.first ≡ without_last m.first)
+  pub table : IsAfter l m
 
 -- An insert that adds a line adds the same one after another such insert added its own, if they are in order.
 abbrev pub StillAddsLineTo : Type 0
@@ -75,39 +81,3 @@ StillAddsLineTo =
     → AddsLineTo dotted profile limit s other more d
     → AreInOrder (added_at s path c to) (added_at s other d dotted)
     → StillAdds dotted profile limit s (edited_document s (insert path value)) other more (moved c d)
-
--- ---- a run of inserts
-
--- The document after such lines were added, each with its text at its place of the first document's: a line that is in
--- order after all of them is added still.
-pub record IsLineRun (profile : Profile) (limit : ℕ) (s : Document) (added : List AddedAt)
-    (changes : List TextChange) (now : Document) : Type 0 where
-  pub editable : IsEditable profile limit now
-  pub none_taken : All (λ d. d.size ≡ 0) changes
-  pub follow : Follow 0 changes
-  pub text : tree.text now ≡ text_with 0 (tree.text s) changes
-  pub later : (path : List Part) (value : Value) (c : TextChange) (dotted : Bool)
-      → AddsLineTo dotted profile limit s path value c
-      → All (λ l. AreInOrder l (added_at s path c dotted)) added
-      → StillAdds dotted profile limit s now path value (moved_past changes c)
-
--- one line more: it is not refused, and the run is longer
-pub record IsLineRunLonger (profile : Profile) (limit : ℕ) (s : Document) (added : List AddedAt)
-    (changes : List TextChange) (now : Document) (path : List Part) (value : Value) (c : TextChange) (dotted : Bool)
-    : Type 0 where
-  pub allowed : refusal profile limit now (insert path value) ≡ None
-  pub is : place now (insert path value) ≡ place_of_change (moved_past changes c)
-  pub run : IsLineRun profile limit s (added ++ added_at s path c dotted ∷ []) (with_change changes c)
-      (edited_document now (insert path value))
-
-abbrev pub NoneIsLineRun : Type 0
-NoneIsLineRun = (profile : Profile) (limit : ℕ) (s : Document) → IsEditable profile limit s
-    → IsLineRun profile limit s [] [] s
-
-abbrev pub LineRunGoesOn : Type 0
-LineRunGoesOn =
-    (profile : Profile) (limit : ℕ) (s : Document) (added : List AddedAt) (changes : List TextChange)
-    (now : Document) (path : List Part) (value : Value) (c : TextChange) (dotted : Bool)
-    → IsLineRun profile limit s added changes now → AddsLineTo dotted profile limit s path value c
-    → All (λ l. AreInOrder l (added_at s path c dotted)) added
-    → IsLineRunLonger profile limit s added changes now path value c dotted

@@ -10,6 +10,7 @@ use Rattle.keep_meaning.specs.Fact as fact
 use Rattle.keep_meaning.specs.Fact.{Fact}
 use Rattle.keep_meaning.specs.Meaning.{mentions_in}
 use Rattle.keep_meaning.specs.Nodes.{fact_at}
+use Rattle.keep_edit_spec.specs.DottedLines.{AddedAt}
 use Rattle.keep_edit_spec.specs.Edits.{Edit, edited_document, insert, remove, set}
 use Rattle.keep_edit_spec.specs.Laws.{IsEditable, IsGivenValue, IsLawfulEdit}
 use Rattle.keep_edit_spec.specs.Look.{keys_in}
@@ -85,16 +86,16 @@ StillMakesSet =
 
 -- It is one edit more, as that set is: it is not refused, and the run is longer.
 pub record IsRunLongerByEntry (profile : Profile) (limit : ℕ) (s : Document) (edits : List Edit)
-    (changes : List TextChange) (now : Document) (e : Edit) (holder : List Part) (value : Value) (c : TextChange)
-    : Type 0 where
+    (changes : List TextChange) (lines : List AddedAt) (now : Document) (e : Edit) (holder : List Part) (value : Value)
+    (c : TextChange) : Type 0 where
   pub allowed : refusal profile limit now e ≡ None
   pub lawful : IsLawfulEdit profile limit now e
-  pub run : IsRun profile limit s (set holder value ∷ edits) (with_change changes c) (edited_document now e)
+  pub run : IsRun profile limit s (set holder value ∷ edits) (with_change changes c) lines (edited_document now e)
 
 abbrev pub RunGoesOnByEntry : Type 0
 RunGoesOnByEntry =
-    (profile : Profile) (limit : ℕ) (s : Document) (edits : List Edit) (changes : List TextChange) (now : Document)
-    (e : Edit) (holder : List Part) (value : Value) (c : TextChange)
-    → IsRun profile limit s edits changes now → MakesSet profile limit s e holder value c
+    (profile : Profile) (limit : ℕ) (s : Document) (edits : List Edit) (changes : List TextChange)
+    (lines : List AddedAt) (now : Document) (e : Edit) (holder : List Part) (value : Value) (c : TextChange)
+    → IsRun profile limit s edits changes lines now → MakesSet profile limit s e holder value c
     → All (λ f. LeavesAlone f (set holder value)) edits → All (λ d. IsBeside d c) changes
-    → IsRunLongerByEntry profile limit s edits changes now e holder value c
+    → IsRunLongerByEntry profile limit s edits changes lines now e holder value c

@@ -1,10 +1,10 @@
 -- Lists of edits that are made at once, where the value of a line that one of them adds is set later: the line is added
 -- once, with the later value.
-use Rattle.std.specs.Prelude.{◌≡◌, ◌⊎◌, ℕ, IsTrue, List, ◌∷◌, ◌++◌, None, All}
+use Rattle.std.specs.Prelude.{◌≡◌, ◌⊎◌, ℕ, Bool, IsTrue, List, ◌∷◌, ◌++◌, None, All}
 use Rattle.keep_types.specs.declared.leaf.Profile.{Profile}
 use Rattle.keep_syntax.specs.Tree.{Document, Value}
 use Rattle.keep_path.specs.Path.{Part}
-use Rattle.keep_edit_spec.specs.AddedLines.{AddsLine}
+use Rattle.keep_edit_spec.specs.DottedLines.{AddsLineTo}
 use Rattle.keep_edit_spec.specs.Edits.{edited_document, insert, set}
 use Rattle.keep_edit_spec.specs.Laws.{IsEditable}
 use Rattle.keep_edit_spec.specs.Refusals.{refusal}
@@ -37,9 +37,9 @@ pub record IsRunInsertedAgain (profile : Profile) (limit : ℕ) (s : Document) (
 abbrev pub RunGoesOnInserted : Type 0
 RunGoesOnInserted =
     (profile : Profile) (limit : ℕ) (s : Document) (ms : List MadeEdit) (path : List Part) (value more : Value)
-    (before : List TextChange) (c d : TextChange) (after : List TextChange)
+    (to : Bool) (before : List TextChange) (c d : TextChange) (after : List TextChange)
     → IsEditable profile limit s → AreAtOnce profile limit s ms
-    → AddsLine profile limit s path value c → changes_of ms ≡ before ++ c ∷ after
-    → AddsLine profile limit s path more d
+    → AddsLineTo to profile limit s path value c → changes_of ms ≡ before ++ c ∷ after
+    → AddsLineTo to profile limit s path more d
     → IsPlain d.new ⊎ All (λ e. IsTrue (is_insert e)) (seen_of s ms)
     → IsRunInsertedAgain profile limit s ms path more before c d after

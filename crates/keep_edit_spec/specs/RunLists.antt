@@ -3,11 +3,12 @@
 use Rattle.std.specs.Prelude.{◌≡◌, ◌⊎◌, ⊤, ℕ, ◌<◌, List, [], ◌∷◌, ◌++◌, length, map, All}
 use Rattle.keep_types.specs.declared.leaf.Profile.{Profile}
 use Rattle.keep_syntax.specs.Tree as tree
-use Rattle.keep_syntax.specs.Tree.{Document, Value, text}
+use Rattle.keep_syntax.specs.Tree.{Document, Value}
 use Rattle.keep_path.specs.Path.{Part}
+use Rattle.keep_edit_spec.specs.DottedLines.{AddedAt}
 use Rattle.keep_edit_spec.specs.Edits.{Edit, edited_document, set}
 use Rattle.keep_edit_spec.specs.Laws.{IsEditable}
-use Rattle.keep_edit_spec.specs.Runs.{IsRun, KeepsPlace, LeavesAlone, MakesChange, seen}
+use Rattle.keep_edit_spec.specs.Runs.{IsRun, KeepsPlace, LeavesAlone, MakesChange, seen, with_line}
 use Rattle.keep_edit_spec.specs.SetValues.{SetsValue}
 use Rattle.keep_edit_spec.specs.TextChanges.{Follow, IsBeside, TextChange, change_at, moved_by_all, text_with}
 use Rattle.keep_edit_spec.specs.TextChanges.{with_change}
@@ -29,6 +30,11 @@ abbrev pub changes_of : List MadeEdit → List TextChange
 changes_of [] = []
 changes_of (m ∷ ms) = with_change (changes_of ms) m.change
 
+-- the lines that they add
+abbrev pub lines_of : Document → List MadeEdit → List AddedAt
+lines_of s [] = []
+lines_of s (m ∷ ms) = with_line s m.edit m.change (lines_of s ms)
+
 -- the document after all of them
 abbrev pub document_after : Document → List MadeEdit → Document
 document_after s [] = s
@@ -41,7 +47,7 @@ AreAtOnce profile limit s (m ∷ ms) =
     MakesChange profile limit s m.edit m.change
     × (All (λ e. LeavesAlone e (seen s m.edit)) (seen_of s ms)
     × (All (λ d. IsBeside d m.change) (changes_of ms)
-    × (KeepsPlace (text s) (seen_of s ms) (changes_of ms) m.edit m.change
+    × (KeepsPlace s (seen_of s ms) (changes_of ms) (lines_of s ms) m.edit m.change
     × AreAtOnce profile limit s ms)))
 
 -- So they are a run.
@@ -49,7 +55,7 @@ abbrev pub RunIsKnown : Type 0
 RunIsKnown =
     (profile : Profile) (limit : ℕ) (s : Document) (ms : List MadeEdit)
     → IsEditable profile limit s → AreAtOnce profile limit s ms
-    → IsRun profile limit s (seen_of s ms) (changes_of ms) (document_after s ms)
+    → IsRun profile limit s (seen_of s ms) (changes_of ms) (lines_of s ms) (document_after s ms)
 
 -- ---- a value that is set again
 

@@ -6,9 +6,10 @@ use Rattle.keep_types.specs.declared.leaf.Profile.{Profile}
 use Rattle.keep_syntax.specs.Tree as tree
 use Rattle.keep_syntax.specs.Tree.{Document, text}
 use Rattle.keep_path.specs.Path.{Part, beside, key, strip}
-use Rattle.keep_edit_spec.specs.AddedLines.{AddsLine, first_new}
+use Rattle.keep_edit_spec.specs.AddedLines.{first_new}
 use Rattle.keep_edit_spec.specs.AppendedHeaders.{AppendsElement, AppendsTable, AreSameOrApart}
 use Rattle.keep_edit_spec.specs.ClearedLines.{ClearsLine}
+use Rattle.keep_edit_spec.specs.DottedLines.{AddedAt, AddsLineTo, IsAfter, added_at, into_dotted}
 use Rattle.keep_edit_spec.specs.Edits.{Edit, append_element, append_table, edited_document, insert, place, remove}
 use Rattle.keep_edit_spec.specs.Edits.{rename, set}
 use Rattle.keep_edit_spec.specs.Laws.{IsEditable}
@@ -23,10 +24,11 @@ use Rattle.keep_edit_spec.specs.SetValues.{SetsValue}
 use Rattle.keep_edit_spec.specs.TextChanges.{Follow, IsBeside, IsWider, TextChange, change_at, moved, moved_by_all}
 use Rattle.keep_edit_spec.specs.TextChanges.{moved_past, place_of_change, text_with, with_change}
 
--- The edit is one whose change of the text is known from the first document on, and this is its change. A remove takes
--- a line, leaves it with its comment, or takes a table with its header.
+-- The edit is one whose change of the text is known from the first document on, and this is its change. An insert adds
+-- a line, to a table that dotted keys make or at the end of a body. A remove takes a line, leaves it with its comment,
+-- or takes a table with its header.
 abbrev pub MakesChange : Profile → ℕ → Document → Edit → TextChange → Type 0
-MakesChange profile limit s (insert path value) c = AddsLine profile limit s path value c
+MakesChange profile limit s (insert path value) c = (dotted : Bool) × AddsLineTo dotted profile limit s path value c
 MakesChange profile limit s (remove path) c =
     RemovesLine profile limit s path c
     ⊎ (ClearsLine profile limit s path c ⊎ RemovesSection profile limit s path c)
@@ -44,6 +46,12 @@ IsOfPlace s e c = place s e ≡ place_of_change c
 abbrev pub seen : Document → Edit → Edit
 seen s (insert path value) = insert (first_new s path) value
 seen s e = e
+
+-- It is seen so in another document, too, and the table of its line is made by dotted keys there if it is so here.
+abbrev pub IsSeenStill : Document → Document → Edit → Type 0
+IsSeenStill s now (insert path value) =
+    (first_new now path ≡ first_new s path) × (into_dotted now path ≡ into_dotted s path)
+IsSeenStill s now e = ⊤
 
 -- neither path is the other or below it
 abbrev pub AreApart : List Part → List Part → Type 0
@@ -100,9 +108,14 @@ is_header (append_table keys) = true
 is_header (append_element keys) = true
 is_header _ = false
 
--- A line that is added comes in the place of one that was taken, after one that says something.
+-- an insert at the end of a body
+abbrev pub ends_body : Document → Edit → Bool
+ends_body s (insert path value) = not (into_dotted s path)
+ends_body s e = false
+
+-- A line that is added at the end of a body comes in the place of one that was taken, after one that says something.
 pub record ComesInPlace (s : Document) (c : TextChange) (f : Edit) (d : TextChange) : Type 0 where
-  pub line : is_insert f ≡ true
+  pub line : ends_body s f ≡ true
   pub some : 0 < c.size
   pub takes : c.new ≡ []
   pub next : c.at + c.size ≡ d.at
@@ -118,8 +131,14 @@ StaysPlaced s e c f d =
 abbrev pub is_new_after : Edit → Edit → Bool
 is_new_after e f = (is_insert f && not (is_insert e)) || (is_header f && not (is_header e))
 
+-- the line that the first edit adds, if it does, comes after that of the second
+abbrev pub ComesInOrder : Document → Edit → TextChange → Edit → TextChange → Type 0
+ComesInOrder s (insert other more) d (insert path value) c =
+    IsAfter (added_at s path c (into_dotted s path)) (added_at s other d (into_dotted s other))
+ComesInOrder s f d e c = ⊤
+
 abbrev pub IsStillPlaced : Document → Edit → TextChange → Edit → TextChange → Type 0
-IsStillPlaced s e c f d = IsTrue (is_new_after e f) → StaysPlaced s e c f d
+IsStillPlaced s e c f d = (IsTrue (is_new_after e f) → StaysPlaced s e c f d) × ComesInOrder s f d e c
 
 -- An edit makes its change after another that leaves it alone made one beside it, and is seen as before.
 abbrev pub StillMakesChange : Type 0
@@ -127,7 +146,7 @@ StillMakesChange =
     (profile : Profile) (limit : ℕ) (s : Document) (e : Edit) (c : TextChange) (f : Edit) (d : TextChange)
     → IsEditable profile limit s → MakesChange profile limit s e c → MakesChange profile limit s f d
     → LeavesAlone (seen s e) (seen s f) → IsBeside c d → IsStillPlaced s e c f d
-    → MakesChange profile limit (edited_document s e) f (moved c d) × (seen (edited_document s e) f ≡ seen s f)
+    → MakesChange profile limit (edited_document s e) f (moved c d) × IsSeenStill s (edited_document s e) f
 
 -- ---- edits of several kinds
 
@@ -162,24 +181,36 @@ LetsCome bytes changes at d = (takes_up_to at d ≡ false) ⊎ LeavesPlace bytes
 abbrev pub IsBeforeHeaders : List ℕ → List Edit → ℕ → Type 0
 IsBeforeHeaders bytes edits at = (list_any is_header edits ≡ false) ⊎ (at ≢ length bytes)
 
--- A new line or header is written after these edits as before them, and after the same line.
-abbrev pub KeepsPlace : List ℕ → List Edit → List TextChange → Edit → TextChange → Type 0
-KeepsPlace bytes edits changes (insert path value) c =
-    All (λ e. IsTrue (is_insert e)) edits
-    ⊎ (ArePlain bytes changes × (All (LetsCome bytes changes c.at) changes × IsBeforeHeaders bytes edits c.at))
-KeepsPlace bytes edits changes (append_table keys) c =
-    All (λ e. IsTrue (is_header e)) edits ⊎ IsPlainBefore bytes changes c.at
-KeepsPlace bytes edits changes (append_element keys) c =
-    All (λ e. IsTrue (is_header e)) edits ⊎ IsPlainBefore bytes changes c.at
-KeepsPlace bytes edits changes e c = ⊤
+-- the lines with the one that the edit adds, if it adds one
+abbrev pub with_line : Document → Edit → TextChange → List AddedAt → List AddedAt
+with_line s (insert path value) c lines = added_at s path c (into_dotted s path) ∷ lines
+with_line s e c lines = lines
+
+-- A line comes after those at its place; and one of a table that dotted keys make after the line that it follows.
+pub record IsInOrder (lines : List AddedAt) (changes : List TextChange) (line : AddedAt) : Type 0 where
+  pub after : All (λ l. IsAfter l line) lines
+  pub stays : line.dotted ≡ true → list_any (takes_up_to line.at) changes ≡ false
+
+-- A new line or header is written after these edits, which added these lines, as before them, and after the same line.
+abbrev pub KeepsPlace : Document → List Edit → List TextChange → List AddedAt → Edit → TextChange → Type 0
+KeepsPlace s edits changes lines (insert path value) c =
+    IsInOrder lines changes (added_at s path c (into_dotted s path))
+    × (All (λ e. IsTrue (is_insert e)) edits
+    ⊎ (ArePlain (text s) changes
+    × (All (LetsCome (text s) changes c.at) changes × IsBeforeHeaders (text s) edits c.at)))
+KeepsPlace s edits changes lines (append_table keys) c =
+    All (λ e. IsTrue (is_header e)) edits ⊎ IsPlainBefore (text s) changes c.at
+KeepsPlace s edits changes lines (append_element keys) c =
+    All (λ e. IsTrue (is_header e)) edits ⊎ IsPlainBefore (text s) changes c.at
+KeepsPlace s edits changes lines e c = ⊤
 
 -- ---- a run of edits
 
 -- The document after these edits, each of which makes its change of the first document's text: the text is that of the
 -- first with the changes, bytes beside these are there still, and an edit that they leave alone makes its change beside
--- them still, and is seen as before. The edits are as they are seen.
+-- them still, and is seen as before. The edits are as they are seen, and these are the lines that they add.
 pub record IsRun (profile : Profile) (limit : ℕ) (s : Document) (edits : List Edit) (changes : List TextChange)
-    (now : Document) : Type 0 where
+    (lines : List AddedAt) (now : Document) : Type 0 where
   pub first : IsEditable profile limit s
   pub editable : IsEditable profile limit now
   pub follow : Follow 0 changes
@@ -188,24 +219,26 @@ pub record IsRun (profile : Profile) (limit : ℕ) (s : Document) (edits : List 
       → take r.size (drop (moved_by_all changes r.at) (tree.text now)) ≡ take r.size (drop r.at (tree.text s))
   pub later : (e : Edit) (c : TextChange) → MakesChange profile limit s e c
       → All (λ f. LeavesAlone f (seen s e)) edits → All (λ d. IsBeside d c) changes
-      → KeepsPlace (tree.text s) edits changes e c
-      → MakesChange profile limit now e (moved_past changes c) × (seen now e ≡ seen s e)
+      → KeepsPlace s edits changes lines e c
+      → MakesChange profile limit now e (moved_past changes c) × IsSeenStill s now e
 
 -- one edit more: it is not refused, and the run is longer
 pub record IsRunLonger (profile : Profile) (limit : ℕ) (s : Document) (edits : List Edit) (changes : List TextChange)
-    (now : Document) (e : Edit) (c : TextChange) : Type 0 where
+    (lines : List AddedAt) (now : Document) (e : Edit) (c : TextChange) : Type 0 where
   pub allowed : refusal profile limit now e ≡ None
   pub is : IsOfPlace now e (moved_past changes c)
-  pub run : IsRun profile limit s (seen s e ∷ edits) (with_change changes c) (edited_document now e)
+  pub run : IsRun profile limit s (seen s e ∷ edits) (with_change changes c) (with_line s e c lines)
+      (edited_document now e)
 
 abbrev pub NoneIsRun : Type 0
-NoneIsRun = (profile : Profile) (limit : ℕ) (s : Document) → IsEditable profile limit s → IsRun profile limit s [] [] s
+NoneIsRun =
+    (profile : Profile) (limit : ℕ) (s : Document) → IsEditable profile limit s → IsRun profile limit s [] [] [] s
 
 abbrev pub RunGoesOn : Type 0
 RunGoesOn =
-    (profile : Profile) (limit : ℕ) (s : Document) (edits : List Edit) (changes : List TextChange) (now : Document)
-    (e : Edit) (c : TextChange)
-    → IsRun profile limit s edits changes now → MakesChange profile limit s e c
+    (profile : Profile) (limit : ℕ) (s : Document) (edits : List Edit) (changes : List TextChange)
+    (lines : List AddedAt) (now : Document) (e : Edit) (c : TextChange)
+    → IsRun profile limit s edits changes lines now → MakesChange profile limit s e c
     → All (λ f. LeavesAlone f (seen s e)) edits
-    → All (λ d. IsBeside d c) changes → KeepsPlace (text s) edits changes e c
-    → IsRunLonger profile limit s edits changes now e c
+    → All (λ d. IsBeside d c) changes → KeepsPlace s edits changes lines e c
+    → IsRunLonger profile limit s edits changes lines now e c

@@ -3,7 +3,6 @@ ghost use Rattle.keep_edit_spec.specs.AddedItems as items;
 ghost use Rattle.keep_edit_spec.specs.AddedLines as added;
 ghost use Rattle.keep_edit_spec.specs.AppendedHeaders as appended;
 ghost use Rattle.keep_edit_spec.specs.AppendedStatements as headers;
-ghost use Rattle.keep_edit_spec.specs.DottedLines as dotted;
 ghost use Rattle.keep_edit_spec.specs.EntryChanges as parts;
 ghost use Rattle.keep_edit_spec.specs.EntryEdits as entries;
 ghost use Rattle.keep_edit_spec.specs.InsertLists as inserts;
@@ -105,15 +104,6 @@ pub fn append_adds_statement()
 /// An `insert` that adds a line to a document adds the same one after another, of another path, added its line.
 pub fn inserts_add_lines()
     ensures { added.StillAddsLine }
-{}
-
-/// An `insert` that adds a line, at the end of a body or to a table which dotted keys make, adds the same one after
-/// another such insert, of another first new key, added its own, if the later line comes after the earlier one where
-/// both come to one place. So a run of them is known by the document before it.
-pub fn inserts_add_any_lines()
-    ensures still { dotted.StillAddsLineTo }
-    ensures none { dotted.NoneIsLineRun }
-    ensures run { dotted.LineRunGoesOn }
 {}
 
 /// A `remove` that takes a line takes the same one after another, of another path, took its line.

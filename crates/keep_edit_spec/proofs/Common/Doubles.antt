@@ -5,16 +5,18 @@
 -- allowed by the first, and therefore by the second and the other way round (`double_in`, by induction over the
 -- mentions).
 --
--- Theorem: `double_in`.
-use Rattle.std.proofs.Common.{◌≡◌, Bool, true, false, List, [], ◌∷◌, ◌++◌, refl, sym, ap, subst, ◌∙◌, append_assoc, inl}
-use Rattle.std.proofs.Common.{inr}
+-- Theorems: `double_in`, `doubles_in`, `rules_doubled`; `has_doubled`: of no path they say anything new.
+use Rattle.std.proofs.Common.{◌≡◌, Bool, true, false, ◌||◌, List, [], ◌∷◌, ◌++◌, refl, sym, ap, subst, ◌∙◌}
+use Rattle.std.proofs.Common.{append_assoc, inl, inr}
+use Rattle.std.specs.List.{list_any}
+use Rattle.std.proofs.lemmas.List.Folds.{list_any-append}
 use Rattle.keep_path.specs.Path.{Part, same_path}
 use Rattle.keep_meaning.specs.Marks.{MentionKind, through, past, define, element, dotted, value, begun, passed, item}
 use Rattle.keep_meaning.specs.Marks.{Mention}
-use Rattle.keep_meaning.specs.Nodes.{is_at, has}
+use Rattle.keep_meaning.specs.Nodes.{is_at, has, kinds_at}
 use Rattle.keep_edit_spec.proofs.Common.Runs.{kinds_allow, AllOf, SomeOf, all_map, all_join, meet, some_left}
 use Rattle.keep_edit_spec.proofs.Common.Runs.{some_right, Allowed, Rules, IsDisjoint, IsUnder, rules_replaced}
-use Rattle.keep_edit_spec.proofs.Common.Runs.{same_path-sound, same_path-refl}
+use Rattle.keep_edit_spec.proofs.Common.Runs.{same_path-sound, same_path-refl, kinds_at-append}
 
 abbrev pub repeatable : MentionKind → Bool
 repeatable through = true
@@ -186,3 +188,36 @@ has_some is a (m ∷ ms) h = by (is_at a m) refl (is m.kind) refl h (λ g. has_s
     by false e c f h rest = inr (rest (rw e at h))
     by true e true f h rest = inl (same_path-sound m.path a e, f)
     by true e false f h rest = inr (rest (rw (e, f) at h))
+
+-- ---- doubles say nothing new
+
+same_mentioned : (is : MentionKind → Bool) (a : List Part) (m : Mention) (ms : List Mention) → IsMentioned is a m
+    → SomeOf (IsSame m) ms → SomeOf (IsMentioned is a) ms
+same_mentioned is a m [] h s = absurd s
+same_mentioned is a m (x ∷ ms) h (inl e) = inl (e.path ∙ h.0, ap is e.kind ∙ h.1)
+same_mentioned is a m (x ∷ ms) h (inr s) = inr (same_mentioned is a m ms h s)
+
+said_before : (is : MentionKind → Bool) (a : List Part) (before ms : List Mention) → AllOf (IsDoubleOf before) ms
+    → has is a ms ≡ true → has is a before ≡ true
+said_before is a before ms doubles h =
+    let (m, mentioned, double) = meet (IsMentioned is a) (IsDoubleOf before) ms (has_some is a ms h) doubles in
+    some_has is a before (same_mentioned is a m before mentioned double.same)
+
+pub has-append : (is : MentionKind → Bool) (a : List Part) (xs ys : List Mention)
+    → has is a (xs ++ ys) ≡ (has is a xs || has is a ys)
+has-append is a xs ys =
+    ap (list_any is) (kinds_at-append a xs ys) ∙ list_any-append is (kinds_at a xs) (kinds_at a ys)
+
+-- so where doubles are put in, what is said of a path passes a test as before
+pub has_doubled : (is : MentionKind → Bool) (a : List Part) (before doubles after : List Mention)
+    → AllOf (IsDoubleOf before) doubles → has is a (before ++ (doubles ++ after)) ≡ has is a (before ++ after)
+has_doubled is a before doubles after h =
+    has-append is a before (doubles ++ after)
+    ∙ ap (λ (b : Bool). has is a before || b) (has-append is a doubles after)
+    ∙ by (has is a before) (has is a doubles) (has is a after) (said_before is a before doubles h)
+    ∙ sym (has-append is a before after)
+  where
+    by : (b d c : Bool) → (d ≡ true → b ≡ true) → (b || (d || c)) ≡ (b || c)
+    by true d c k = refl
+    by false false c k = refl
+    by false true c k = absurd (let no : false ≡ true = k refl in cc)

@@ -1,7 +1,7 @@
 -- The stops of a dotted key: what it says of the paths on its way. They may be repeated.
 --
--- Theorems: `keyed_stops`: a key is its stops and what comes after them; `repeats_below`: stops may be repeated;
--- `dotted_prefix`: a key with a dotted mention of a path continues from it.
+-- Theorems: `keyed_stops`: a key is its stops and what comes after them; `dotted_below`: all of them are dotted;
+-- `repeats_below`: stops may be repeated; `dotted_prefix`: a key with a dotted mention of a path continues from it.
 use Rattle.std.proofs.Common.{◌≡◌, ℕ, Bool, true, List, [], ◌∷◌, ◌++◌, map, refl, sym, ap, ◌∙◌, None, inl, inr}
 use Rattle.std.proofs.lemmas.List.{map-append}
 use Rattle.keep_path.specs.Path.{Part, key}
@@ -36,19 +36,24 @@ keyed_stops (f ∷ fs) k ks ms =
     ∙ ap (λ (l : List Mention). map (below (key f ∷ [])) (top ∷ stops fs) ++ l)
     (map_twice (key f ∷ []) (map key fs) run)
 
-repeat_below : (s : List Part) (ms : List Mention) → AllOf (λ m. repeatable m.kind ≡ true) ms
-    → AllOf (λ m. repeatable m.kind ≡ true) (map (below s) ms)
-repeat_below s [] h = tt
-repeat_below s (m ∷ ms) h = (h.0, repeat_below s ms h.1)
+kinds_below : (P : MentionKind → Type 0) (s : List Part) (ms : List Mention) → AllOf (λ m. P m.kind) ms
+    → AllOf (λ m. P m.kind) (map (below s) ms)
+kinds_below P s [] h = tt
+kinds_below P s (m ∷ ms) h = (h.0, kinds_below P s ms h.1)
 
-pub stops_repeat : (fs : List (List ℕ)) → AllOf (λ m. repeatable m.kind ≡ true) (stops fs)
-stops_repeat [] = tt
-stops_repeat (f ∷ fs) =
-    repeat_below (key f ∷ []) (record { path = []; kind = dotted } ∷ stops fs) (refl, stops_repeat fs)
+stops_dotted : (P : MentionKind → Type 0) → P dotted → (fs : List (List ℕ)) → AllOf (λ m. P m.kind) (stops fs)
+stops_dotted P h [] = tt
+stops_dotted P h (f ∷ fs) =
+    kinds_below P (key f ∷ []) (record { path = []; kind = dotted } ∷ stops fs) (h, stops_dotted P h fs)
+
+-- what holds of dotted mentions holds of all of them
+pub dotted_below : (P : MentionKind → Type 0) → P dotted → (s : List Part) (fs : List (List ℕ))
+    → AllOf (λ m. P m.kind) (map (below s) (stops fs))
+dotted_below P h s fs = kinds_below P s (stops fs) (stops_dotted P h fs)
 
 pub repeats_below : (s : List Part) (fs : List (List ℕ))
     → AllOf (λ m. repeatable m.kind ≡ true) (map (below s) (stops fs))
-repeats_below s fs = repeat_below s (stops fs) (stops_repeat fs)
+repeats_below s fs = dotted_below (λ (k : MentionKind). repeatable k ≡ true) refl s fs
 
 root_disjoint : (fs : List (List ℕ)) (k : Part) → strip (map key fs ++ k ∷ []) [] ≡ None
 root_disjoint [] k = refl

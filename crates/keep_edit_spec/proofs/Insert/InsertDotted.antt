@@ -5,7 +5,7 @@
 -- is one that the line makes too (`IsDottedLine.doubles`), and such a double does no harm to the rules. Its first new
 -- key names no node, so the rest is new (`dotted_law`).
 --
--- Theorems: `dotted_line` and `insert_after_dotted`.
+-- Theorems: `dotted_content`, `dotted_line` and `insert_after_dotted`.
 use Rattle.std.proofs.Common.{◌≡◌, ℕ, suc, ◌≤◌, Bool, true, false, not, ◌&&◌, ◌||◌, List, [], ◌∷◌, ◌++◌, length, map}
 use Rattle.std.proofs.Common.{take, drop, refl, sym, ap, subst, ◌∙◌, append_assoc, length-append, arith, Option, Some}
 use Rattle.std.proofs.Common.{None}
@@ -102,16 +102,16 @@ dotted_law profile s n body f fs k ks v few at_body texts fresh doubles rules va
 
 -- ---- the line whose key continues from the path
 
-record IsDotted (a : List Part) (r : Reading) (c : Content) : Type 0 where
-  name : Name
-  value : Value
-  content : c ≡ keyval name value
-  rest : List Part
-  whole : a ≡ r.body ++ rest
-  goes : Continues (keys_of name.key) rest
-  mentioned : SomeOf (IsMentioned is_dotted rest) (keyed_mentions (keys_of name.key) [])
+pub record IsDotted (a : List Part) (r : Reading) (c : Content) : Type 0 where
+  pub name : Name
+  pub value : Value
+  pub content : c ≡ keyval name value
+  pub rest : List Part
+  pub whole : a ≡ r.body ++ rest
+  pub goes : Continues (keys_of name.key) rest
+  pub mentioned : SomeOf (IsMentioned is_dotted rest) (keyed_mentions (keys_of name.key) [])
 
-dotted_content : (a : List Part) (r : Reading) (before after' : Gap) (comment : Option Written) (c : Content)
+pub dotted_content : (a : List Part) (r : Reading) (before after' : Gap) (comment : Option Written) (c : Content)
     → leads_dotted a r (record { before = before; content = c; after = after'; comment = comment }) ≡ true
     → IsDotted a r c
 dotted_content a r before after' comment blank h = absurd cc

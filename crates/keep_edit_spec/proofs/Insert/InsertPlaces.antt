@@ -10,7 +10,7 @@ use Rattle.std.proofs.Common.{ap, subst, ◌∙◌, Option, Some, None, inl, inr
 use Rattle.keep_types.proofs.Shared.{one_of_two}
 use Rattle.std.specs.List.{list_any}
 use Rattle.keep_types.specs.declared.leaf.Profile.{Profile}
-use Rattle.keep_syntax.specs.Tree.{Value, blank, keyval, Document, text}
+use Rattle.keep_syntax.specs.Tree.{Value, keyval, Document, text}
 use Rattle.keep_syntax.specs.Grammar.{IsDocument}
 use Rattle.keep_syntax.specs.Numbered as syntax
 use Rattle.keep_path.specs.Path.{Part, key, index}
@@ -20,7 +20,7 @@ use Rattle.keep_meaning.specs.Marks.{start}
 use Rattle.keep_meaning.specs.Meaning.{lines, mentions_in}
 use Rattle.keep_meaning.specs.Nodes.{statement_number, is_through, is_define, is_begun}
 use Rattle.keep_edit_spec.specs.Changed.{Place}
-use Rattle.keep_edit_spec.specs.Edits.{insert, at_line, end_of, name_with, new_header}
+use Rattle.keep_edit_spec.specs.Edits.{insert, at_line, change, end_of, name_with}
 use Rattle.keep_edit_spec.specs.Insertion.{is_open, line_at, next_statement, section_at, section_end}
 use Rattle.keep_edit_spec.specs.Lines.{newline_of, last_line, begins, leads_dotted, leads_through, body_length}
 use Rattle.keep_edit_spec.specs.Lines.{body_end as line_end}
@@ -37,7 +37,7 @@ use Rattle.keep_edit_spec.proofs.Insert.InsertDotted.{dotted_line}
 use Rattle.keep_edit_spec.proofs.Insert.InsertLine.{change_here}
 use Rattle.keep_edit_spec.proofs.Insert.InsertSection.{change_section}
 use Rattle.keep_edit_spec.proofs.Insert.LineBefore.{IsLowPlace, low_place, open_before, root_open, line_placed}
-use Rattle.keep_edit_spec.proofs.Insert.LineBefore.{section_placed}
+use Rattle.keep_edit_spec.proofs.Insert.LineBefore.{new_section, section_placed}
 use Rattle.keep_edit_spec.proofs.Insert.LinesPut.{prefix_of, is_past, bom_width, line_begins}
 use Rattle.keep_edit_spec.proofs.Insert.NewPath.{IsNewPath, new_path}
 use Rattle.keep_edit_spec.proofs.Insert.Origins.{origin_at, headed_of_header, headed_of_element, headed_begins}
@@ -150,6 +150,22 @@ through_header a s number h =
     some_key (key j ∷ prefix) k = (j, keys_in (prefix ++ key k ∷ []), refl)
     some_key (index n ∷ prefix) k = some_key prefix k
 
+-- No header defines the holder, and no dotted keys make it. The section is written after the body of the last header
+-- that goes through it.
+pub record IsThroughPlaced (s : Document) (path : List Part) (v : Value) (number : ℕ) : Type 0 where
+  pub bare : end_of s (holder path (mentions_in s)) ≡ None
+  pub no_dots : last_line (leads_dotted (holder path (mentions_in s))) start (lines s) ≡ None
+  pub last : ℕ
+  pub found : last_line (leads_through (holder path (mentions_in s))) start (lines s) ≡ Some last
+  pub changes : change s (insert path v)
+      ≡ at_line s (line_end last (lines s))
+      (new_section (keys_in (holder path (mentions_in s)))
+      (keys_in (drop (length (holder path (mentions_in s))) path)) v)
+  pub placed : IsLowPlace s (insert path v)
+      (section_at (text s) (newline_of s).text (bom_width s) (body_end_at s number)
+      (keys_in (take (length (holder path (mentions_in s))) path))
+      (keys_in (drop (length (holder path (mentions_in s))) path)) v)
+
 module _ (profile : Profile) (limit : ℕ) (s : Document) (path : List Part) (v : Value) (valid : IsDocument profile s)
     (no_item : item_number path (mentions_in s) ≡ None)
     (allowed : refusal profile limit s (insert path v) ≡ None) where
@@ -209,10 +225,7 @@ module _ (profile : Profile) (limit : ℕ) (s : Document) (path : List Part) (v 
 
   -- in a new section, after the body of the last header that goes through the holder
   pub through_placed : (number : ℕ) → origin_at (holder path (mentions_in s)) s ≡ origin.Through number
-      → IsLowPlace s (insert path v)
-      (section_at (text s) (newline_of s).text (bom_width s) (body_end_at s number)
-      (keys_in (take (length (holder path (mentions_in s))) path))
-      (keys_in (drop (length (holder path (mentions_in s))) path)) v)
+      → IsThroughPlaced s path v number
   through_placed number h =
       let a : List Part = holder path (mentions_in s) in
       let node : IsThroughNode a s number = through_node a s number h in
@@ -220,6 +233,7 @@ module _ (profile : Profile) (limit : ℕ) (s : Document) (path : List Part) (v 
       let ends : EndsInKey a = through_ends a s mentioned in
       let begun : last_line (begins a) start (lines s) ≡ None =
       none_of (last_line (begins a) start (lines s)) (λ i e. unheaded node (headed_at a s i e).headed) in
+      let bare : end_of s a ≡ None = no_end s a (λ e. no_root (subst EndsInKey e ends)) begun in
       let dots : last_line (leads_dotted a) start (lines s) ≡ None =
       none_of (last_line (leads_dotted a) start (lines s)) (λ i e. node.dotted (dotted_line s a i e).dotted) in
       let (i, found) =
@@ -228,21 +242,31 @@ module _ (profile : Profile) (limit : ℕ) (s : Document) (path : List Part) (v 
       let same : at.number ≡ number = one_of_two _ at.number number at.through node.number in
       let n : ℕ = line_end i (lines s) in
       let begins : body_end_at s number ≡ line_begins s n = ap (body_end_at s) (sym same) ∙ at.body.ends in
-      low_place profile s (insert path v)
-      (section_at (text s) (newline_of s).text (bom_width s) (body_end_at s number) (keys_in (take (length a) path))
-      (keys_in (drop (length a) path)) v) n valid
-      (section_placed s (insert path v) n (keys_in a) new.first new.more v
-      (open_before profile s n valid at.body.before)
-      (change_section s path v i no_item (no_end s a (λ e. no_root (subst EndsInKey e ends)) begun) dots found
-      ∙ ap (λ (l : List (List ℕ)). at_line s n (blank ∷ new_header (keys_in a) ∷ keyval (name_with l) v ∷ [])) new.keys)
-      ∙ ap (λ (l : List (List ℕ)).
-      section_at (text s) (newline_of s).text (bom_width s) (line_begins s n) (keys_in a) l v) (sym new.keys)
-      ∙ ap (λ (m : ℕ).
-      section_at (text s) (newline_of s).text (bom_width s) m (keys_in a) (keys_in (drop (length a) path)) v)
-      (sym begins)
-      ∙ ap (λ (x : List Part).
-      section_at (text s) (newline_of s).text (bom_width s) (body_end_at s number) (keys_in x)
-      (keys_in (drop (length a) path)) v) (sym holder_prefix)) begins
+      let changes : change s (insert path v)
+      ≡ at_line s n (new_section (keys_in a) (keys_in (drop (length a) path)) v) =
+      change_section s path v i no_item bare dots found in
+      record {
+        bare = bare;
+        no_dots = dots;
+        last = i;
+        found = found;
+        changes = changes;
+        placed =
+            low_place profile s (insert path v)
+            (section_at (text s) (newline_of s).text (bom_width s) (body_end_at s number)
+            (keys_in (take (length a) path)) (keys_in (drop (length a) path)) v) n valid
+            (section_placed s (insert path v) n (keys_in a) new.first new.more v
+            (open_before profile s n valid at.body.before)
+            (changes ∙ ap (λ (l : List (List ℕ)). at_line s n (new_section (keys_in a) l v)) new.keys)
+            ∙ ap (λ (l : List (List ℕ)).
+            section_at (text s) (newline_of s).text (bom_width s) (line_begins s n) (keys_in a) l v) (sym new.keys)
+            ∙ ap (λ (m : ℕ).
+            section_at (text s) (newline_of s).text (bom_width s) m (keys_in a) (keys_in (drop (length a) path)) v)
+            (sym begins)
+            ∙ ap (λ (x : List Part).
+            section_at (text s) (newline_of s).text (bom_width s) (body_end_at s number) (keys_in x)
+            (keys_in (drop (length a) path)) v) (sym holder_prefix)) begins;
+      }
     where
       unheaded : {n m : ℕ} → IsThroughNode (holder path (mentions_in s)) s n
           → IsHeaded (holder path (mentions_in s)) s m → ⊥

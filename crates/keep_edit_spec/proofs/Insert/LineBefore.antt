@@ -5,7 +5,7 @@
 -- newline. `prefix_of n` is the text of the first n lines, and `is_past n` says that there are fewer than n newlines;
 -- `open_before` ties the two.
 --
--- Theorems: `line_placed`, `section_placed`, `low_place`.
+-- Theorems: `line_placed`, `section_placed`, `low_place`; `new_line_text`, `new_section_text`: what new lines say.
 use Rattle.std.proofs.Common.{◌≡◌, ℕ, zero, suc, ◌+◌, ◌<◌, ◌≤◌, Bool, true, false, not, List, [], ◌∷◌, ◌++◌, length}
 use Rattle.std.proofs.Common.{map, take, drop, refl, sym, ap, subst, ◌∙◌, append_assoc, length-append, arith, cond}
 use Rattle.std.proofs.Common.{Option, take_at, drop_at}
@@ -196,6 +196,28 @@ keyval_text : (k : List ℕ) (ks : List (List ℕ)) (v : Value)
     → content_text (keyval (name_with (k ∷ ks)) v) ≡ keyed_text (k ∷ ks) v
 keyval_text k ks v = text_of-append (name_leaves (name_with (k ∷ ks))) (value_leaves v)
 
+-- what a new line with a keyval says
+pub new_line_text : (newline : Written) (k : List ℕ) (ks : List (List ℕ)) (v : Value)
+    → ended_text (new_line newline (keyval (name_with (k ∷ ks)) v) ∷ []) ≡ keyed_text (k ∷ ks) v ++ newline.text
+new_line_text newline k ks v =
+    plain_text newline (keyval (name_with (k ∷ ks)) v) []
+    ∙ ap (λ (t : List ℕ). t ++ (newline.text ++ [])) (keyval_text k ks v)
+    ∙ ap (λ (t : List ℕ). keyed_text (k ∷ ks) v ++ t) (append-nil newline.text)
+
+-- the lines of a new section, and what they say
+abbrev pub new_section : List (List ℕ) → List (List ℕ) → Value → List Content
+new_section table keys v = blank ∷ new_header table ∷ keyval (name_with keys) v ∷ []
+
+pub new_section_text : (newline : Written) (table : List (List ℕ)) (k : List ℕ) (ks : List (List ℕ)) (v : Value)
+    → ended_text (map (new_line newline) (new_section table (k ∷ ks) v))
+    ≡ newline.text ++ (content_text (new_header table) ++ (newline.text ++ (keyed_text (k ∷ ks) v ++ newline.text)))
+new_section_text newline table k ks v =
+    let last : Content = keyval (name_with (k ∷ ks)) v in
+    plain_text newline blank (map (new_line newline) (new_header table ∷ last ∷ []))
+    ∙ ap (λ (t : List ℕ). newline.text ++ t)
+    (plain_text newline (new_header table) (map (new_line newline) (last ∷ []))
+    ∙ ap (λ (t : List ℕ). content_text (new_header table) ++ (newline.text ++ t)) (new_line_text newline k ks v))
+
 -- The place of an edit that puts a keyval there as a line.
 pub line_placed : (s : Document) (e : Edit) (n : ℕ) (k : List ℕ) (ks : List (List ℕ)) (v : Value)
     → is_open (prefix_of n s.ended s.last) ≡ is_past n s.ended
@@ -204,39 +226,27 @@ pub line_placed : (s : Document) (e : Edit) (n : ℕ) (k : List ℕ) (ks : List 
 line_placed s e n k ks v opens is =
     let newline : Written = newline_of s in
     let contents : List Content = keyval (name_with (k ∷ ks)) v ∷ [] in
-    let new : ended_text (map (new_line newline) contents) ≡ keyed_text (k ∷ ks) v ++ newline.text =
-    plain_text newline (keyval (name_with (k ∷ ks)) v) []
-    ∙ ap (λ (t : List ℕ). t ++ (newline.text ++ [])) (keyval_text k ks v)
-    ∙ ap (λ (t : List ℕ). keyed_text (k ∷ ks) v ++ t) (append-nil newline.text) in
     ap (λ (o : Option (Changed Document)). place_of (changed_or_same s o)) is
     ∙ lines_place s n contents (line_change s n contents) refl
-    ∙ ap (λ (t : List ℕ). put_in (line_begins s n) (newline_if (is_past n s.ended) newline.text ++ t)) new
+    ∙ ap (λ (t : List ℕ). put_in (line_begins s n) (newline_if (is_past n s.ended) newline.text ++ t))
+    (new_line_text newline k ks v)
     ∙ ap (λ (t : List ℕ). put_in (line_begins s n) (t ++ (keyed_text (k ∷ ks) v ++ newline.text)))
     (sym (missing_is s n opens))
 
 -- The place of an edit that puts a section there.
 pub section_placed : (s : Document) (e : Edit) (n : ℕ) (table : List (List ℕ)) (k : List ℕ) (ks : List (List ℕ))
     (v : Value) → is_open (prefix_of n s.ended s.last) ≡ is_past n s.ended
-    → change s e ≡ at_line s n (blank ∷ new_header table ∷ keyval (name_with (k ∷ ks)) v ∷ [])
+    → change s e ≡ at_line s n (new_section table (k ∷ ks) v)
     → place s e ≡ section_at (text s) (newline_of s).text (bom_width s) (line_begins s n) table (k ∷ ks) v
 section_placed s e n table k ks v opens is =
     let newline : Written = newline_of s in
-    let last : Content = keyval (name_with (k ∷ ks)) v in
-    let contents : List Content = blank ∷ new_header table ∷ last ∷ [] in
+    let contents : List Content = new_section table (k ∷ ks) v in
     let line : List ℕ = keyed_text (k ∷ ks) v ++ newline.text in
     let below : List ℕ = content_text (new_header table) ++ (newline.text ++ line) in
-    let third : ended_text (map (new_line newline) (last ∷ [])) ≡ line =
-    plain_text newline last [] ∙ ap (λ (t : List ℕ). t ++ (newline.text ++ [])) (keyval_text k ks v)
-    ∙ ap (λ (t : List ℕ). keyed_text (k ∷ ks) v ++ t) (append-nil newline.text) in
-    let second : ended_text (map (new_line newline) (new_header table ∷ last ∷ [])) ≡ below =
-    plain_text newline (new_header table) (map (new_line newline) (last ∷ []))
-    ∙ ap (λ (t : List ℕ). content_text (new_header table) ++ (newline.text ++ t)) third in
-    let new : ended_text (map (new_line newline) contents) ≡ newline.text ++ below =
-    plain_text newline blank (map (new_line newline) (new_header table ∷ last ∷ []))
-    ∙ ap (λ (t : List ℕ). newline.text ++ t) second in
     ap (λ (o : Option (Changed Document)). place_of (changed_or_same s o)) is
     ∙ lines_place s n contents (line_change s n contents) refl
-    ∙ ap (λ (t : List ℕ). put_in (line_begins s n) (newline_if (is_past n s.ended) newline.text ++ t)) new
+    ∙ ap (λ (t : List ℕ). put_in (line_begins s n) (newline_if (is_past n s.ended) newline.text ++ t))
+    (new_section_text newline table k ks v)
     ∙ ap (λ (t : List ℕ). put_in (line_begins s n) (t ++ (newline.text ++ below))) (sym (missing_is s n opens))
 
 -- ---- which line is before

@@ -7,7 +7,8 @@
 -- `never_held`, since a header that goes through it mentions each prefix of it that ends in a key, and a value there
 -- would be beside such a mention.
 --
--- Theorem: `section_at`: where the section is put in, its header is allowed.
+-- Theorems: `section_at`: where the section is put in, its header is allowed; `end_after`: where the body of a header
+-- ends; `way_of`: the way of a header to a path that it goes through.
 use Rattle.std.proofs.Common.{◌≡◌, ℕ, suc, ◌+◌, Bool, true, false, not, ◌&&◌, List, [], ◌∷◌, ◌++◌, length, map, take}
 use Rattle.std.proofs.Common.{drop, refl, sym, ap, subst, ◌∙◌, append_assoc, length-append, arith, Option, Some, None}
 use Rattle.std.proofs.Common.{◌⊎◌, inl, inr}
@@ -189,6 +190,77 @@ drop_beyond : (pre : List Line) (l : Line) (post : List Line) (m : ℕ)
 drop_beyond [] l post m = refl
 drop_beyond (x ∷ pre) l post m = drop_beyond pre l post m
 
+-- Where the body ends of the header in line i.
+pub record IsEndAfter (ls : List Line) (i : ℕ) (pre : List Line) (here : Line) (post : List Line) : Type 0 where
+  pub number : body_end i ls ≡ suc (length pre) + body_length post
+  pub taken : take (body_end i ls) ls ≡ pre ++ here ∷ take (body_length post) post
+  pub dropped : drop (body_end i ls) ls ≡ drop (body_length post) post
+
+pub end_after : (ls : List Line) (i : ℕ) (pre : List Line) (here : Line) (post : List Line) → ls ≡ pre ++ here ∷ post
+    → i ≡ length pre → IsEndAfter ls i pre here post
+end_after ls i pre here post was at =
+    let m : ℕ = body_length post in
+    let after : drop (suc i) ls ≡ post =
+    ap (λ (k : ℕ). drop (suc k) ls) at ∙ ap (λ (l : List Line). drop (suc (length pre)) l) was
+    ∙ drop_after pre here post in
+    let same : body_end i ls ≡ suc (length pre) + m =
+    ap (λ (k : ℕ). suc k + body_length (drop (suc i) ls)) at
+    ∙ ap (λ (l : List Line). suc (length pre) + body_length l) after in
+    let number : body_end i ls ≡ beyond pre m = same ∙ beyond_is pre m in
+    record {
+      number = same;
+      taken = ap (λ (k : ℕ). take k ls) number ∙ ap (take (beyond pre m)) was ∙ take_beyond pre here post m;
+      dropped = ap (λ (k : ℕ). drop k ls) number ∙ ap (drop (beyond pre m)) was ∙ drop_beyond pre here post m;
+    }
+
+-- ---- the way of a header to a path that it goes through
+
+-- From the header on, the same keys lead the same way to the path.
+pub record IsWayOf (a : List Part) (r : Reading) (l : Line) : Type 0 where
+  pub first : List ℕ
+  pub prefix : List (List ℕ)
+  pub path : a ≡ header_path r.tables [] (first ∷ prefix)
+  pub path_later : header_path (after_line r l).tables [] (first ∷ prefix) ≡ header_path r.tables [] (first ∷ prefix)
+  pub way_later : header_prefixes (after_line r l).tables [] (first ∷ prefix)
+      ≡ header_prefixes r.tables [] (first ∷ prefix)
+  pub others : List Mention
+  pub said : line_mentions r l ≡ header_prefixes r.tables [] (first ∷ prefix) ++ others
+  pub goes : SomeOf (IsMentioned is_through a) (line_mentions r l)
+
+pub way_of : (a : List Part) (r : Reading) (l : Line) → leads_through a r l ≡ true → IsWayOf a r l
+way_of a r l passes =
+    let t : IsThroughLine a r l = through_line a r l passes in
+    let g : LeadsThrough r.tables [] t.keys a = through_prefix r.tables [] t.keys a t.goes in
+    let keys : List (List ℕ) = g.first ∷ g.prefix in
+    let to : Reading = after_line r l in
+    let prefixes : List Mention = header_prefixes r.tables [] keys in
+    let long : IsLonger (header_path r.tables [] keys) (header_path r.tables [] t.keys) =
+    subst (λ (q : List Part). IsLonger q (header_path r.tables [] t.keys)) g.path g.longer in
+    let stays : (header_path to.tables [] keys ≡ header_path r.tables [] keys)
+    × (header_prefixes to.tables [] keys ≡ prefixes) = elim t.tables [
+      | inl same ↦ (
+        ap (λ (x : List (List Part)). header_path x [] keys) same,
+        ap (λ (x : List (List Part)). header_prefixes x [] keys) same,
+      )
+      | inr more ↦
+          (let w = way_stays r.tables (header_path r.tables [] t.keys) [] g.first g.prefix long in (
+            ap (λ (x : List (List Part)). header_path x [] keys) more
+                ∙ w.0,
+            ap (λ (x : List (List Part)). header_prefixes x [] keys) more ∙ w.1,
+          ))
+    ] in
+    record {
+      first = g.first;
+      prefix = g.prefix;
+      path = g.path;
+      path_later = stays.0;
+      way_later = stays.1;
+      others = g.others ++ t.tail;
+      said = t.mentioned ∙ ap (λ (l : List Mention). l ++ t.tail) g.prefixes ∙ append_assoc prefixes g.others t.tail;
+      goes = subst (SomeOf (IsMentioned is_through a)) (sym t.mentioned)
+          (some_left (IsMentioned is_through a) (header_prefixes r.tables [] t.keys) t.tail t.goes);
+    }
+
 -- What the last line whose header goes through the path tells.
 pub record IsSection (s : Document) (a : List Part) (n : ℕ) : Type 0 where
   pub first : List ℕ
@@ -207,46 +279,22 @@ section_at s a i rules no_body no_dots e =
     let f : IsLast (leads_through a) start (lines s) i = last_found (leads_through a) start (lines s) i e in
     let ms : List Mention = mentions_in s in
     let r : Reading = reading_after_lines start f.pre in
-    let t : IsThroughLine a r f.here = through_line a r f.here f.passes in
-    let g : LeadsThrough r.tables [] t.keys a = through_prefix r.tables [] t.keys a t.goes in
+    let g : IsWayOf a r f.here = way_of a r f.here f.passes in
     let keys : List (List ℕ) = g.first ∷ g.prefix in
     let r1 : Reading = after_line r f.here in
     let prefixes : List Mention = header_prefixes r.tables [] keys in
-    let long : IsLonger (header_path r.tables [] keys) (header_path r.tables [] t.keys) =
-    subst (λ (q : List Part). IsLonger q (header_path r.tables [] t.keys)) g.path g.longer in
-    let stays : (header_path r1.tables [] keys ≡ header_path r.tables [] keys)
-    × (header_prefixes r1.tables [] keys ≡ prefixes) = elim t.tables [
-      | inl same ↦ (
-        ap (λ (x : List (List Part)). header_path x [] keys) same,
-        ap (λ (x : List (List Part)). header_prefixes x [] keys) same,
-      )
-      | inr more ↦
-          (let w = way_stays r.tables (header_path r.tables [] t.keys) [] g.first g.prefix long in (
-            ap (λ (x : List (List Part)). header_path x [] keys) more
-                ∙ w.0,
-            ap (λ (x : List (List Part)). header_prefixes x [] keys) more ∙ w.1,
-          ))
-    ] in
     let m : ℕ = body_length f.post in
     let n : ℕ = body_end i (lines s) in
-    let post : drop (suc i) (lines s) ≡ f.post =
-    ap (λ (k : ℕ). drop (suc k) (lines s)) f.number ∙ ap (λ (l : List Line). drop (suc (length f.pre)) l) f.was
-    ∙ drop_after f.pre f.here f.post in
-    let same : n ≡ suc (length f.pre) + m =
-    ap (λ (k : ℕ). suc k + body_length (drop (suc i) (lines s))) f.number
-    ∙ ap (λ (l : List Line). suc (length f.pre) + body_length l) post in
-    let number : n ≡ beyond f.pre m = same ∙ beyond_is f.pre m in
-    let taken : take n (lines s) ≡ f.pre ++ f.here ∷ take m f.post =
-    ap (λ (k : ℕ). take k (lines s)) number ∙ ap (take (beyond f.pre m)) f.was ∙ take_beyond f.pre f.here f.post m in
-    let dropped : drop n (lines s) ≡ drop m f.post =
-    ap (λ (k : ℕ). drop k (lines s)) number ∙ ap (drop (beyond f.pre m)) f.was ∙ drop_beyond f.pre f.here f.post m in
+    let cut : IsEndAfter (lines s) i f.pre f.here f.post = end_after (lines s) i f.pre f.here f.post f.was f.number in
+    let same : n ≡ suc (length f.pre) + m = cut.number in
+    let taken : take n (lines s) ≡ f.pre ++ f.here ∷ take m f.post = cut.taken in
+    let dropped : drop n (lines s) ≡ drop m f.post = cut.dropped in
     let reading : reading_after_lines start (take n (lines s)) ≡ r1 =
     ap (λ (k : ℕ). reading_after_lines start (take k (lines s))) same
     ∙ ap (λ (l : List Line). reading_after_lines start (take (suc (length f.pre) + m) l)) f.was
     ∙ reading_beyond start f.pre f.here f.post m ∙ (body_is r1 f.post).keeps in
     let line : List Mention = line_mentions r f.here in
-    let line_is : line ≡ prefixes ++ (g.others ++ t.tail) =
-    t.mentioned ∙ ap (λ (l : List Mention). l ++ t.tail) g.prefixes ∙ append_assoc prefixes g.others t.tail in
+    let line_is : line ≡ prefixes ++ g.others = g.said in
     let rest : List Mention = lines_mentions r1 (take m f.post) in
     let before : lines_mentions start (take n (lines s)) ≡ lines_mentions start f.pre ++ (line ++ rest) =
     ap (lines_mentions start) taken ∙ lines_mentions-append start f.pre (f.here ∷ take m f.post) in
@@ -257,9 +305,7 @@ section_at s a i rules no_body no_dots e =
     (some_right P (lines_mentions start f.pre) (line ++ lines_mentions r1 f.post)
     (some_left P line (lines_mentions r1 f.post) h)) in
     let goes : SomeOf (IsMentioned is_through a) ms =
-    carry (IsMentioned is_through a)
-    (subst (SomeOf (IsMentioned is_through a)) (sym t.mentioned)
-    (some_left (IsMentioned is_through a) (header_prefixes r.tables [] t.keys) t.tail t.goes)) in
+    carry (IsMentioned is_through a) g.goes in
     let no_define : SomeOf (IsMentioned is_define a) ms → ⊥ =
     λ h. no_some (last_line (begins a) start (lines s)) no_body (some_begins a start (lines s) h).0 in
     let no_dotted : SomeOf (IsMentioned is_dotted a) ms → ⊥ = λ h. elim (dotted_lines a start (lines s) h) [
@@ -268,7 +314,7 @@ section_at s a i rules no_body no_dots e =
           never_held r.tables a g.first g.prefix ms g.path
           (λ p w. carry (IsMentioned firm p)
           (subst (SomeOf (IsMentioned firm p)) (sym line_is)
-          (some_left (IsMentioned firm p) prefixes (g.others ++ t.tail) w))) goes rules held
+          (some_left (IsMentioned firm p) prefixes g.others w))) goes rules held
     ] in
     let lets : AllOf (Lets a) ms =
     all_let a ms (all_meet a ms goes rules) (none_mentioned is_define a ms no_define)
@@ -280,7 +326,7 @@ section_at s a i rules no_body no_dots e =
     let doubles : AllOf (IsDoubleOf (lines_mentions start f.pre ++ (line ++ rest))) prefixes =
     doubles_right (lines_mentions start f.pre) (line ++ rest) prefixes (doubles_left line rest prefixes
     (subst (λ (l : List Mention). AllOf (IsDoubleOf l) prefixes) (sym line_is)
-    (doubles_left prefixes (g.others ++ t.tail) prefixes (doubles_self prefixes (way_again r.tables [] keys))))) in
+    (doubles_left prefixes g.others prefixes (doubles_self prefixes (way_again r.tables [] keys))))) in
     record {
       first = g.first;
       prefix = g.prefix;
@@ -295,10 +341,10 @@ section_at s a i rules no_body no_dots e =
           length-append (map line_of s.ended) (s.last ∷ []),
           length-map s.ended line_of,
         );
-        path = ap (λ (x : Reading). header_path x.tables [] keys) reading ∙ stays.0 ∙ sym g.path;
+        path = ap (λ (x : Reading). header_path x.tables [] keys) reading ∙ g.path_later ∙ sym g.path;
         doubles =
             subst (λ (l : List Mention). AllOf (IsDoubleOf (lines_mentions start (take n (lines s)))) l)
-            (sym (ap (λ (x : Reading). header_prefixes x.tables [] keys) reading ∙ stays.1))
+            (sym (ap (λ (x : Reading). header_prefixes x.tables [] keys) reading ∙ g.way_later))
             (subst (λ (l : List Mention). AllOf (IsDoubleOf l) prefixes) (sym before) doubles);
         before_lets =
             all_map (Lets a) (λ x. Allowed x d) (λ x h k. (h k).0) (lines_mentions start (take n (lines s)))

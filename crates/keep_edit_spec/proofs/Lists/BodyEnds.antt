@@ -4,14 +4,15 @@
 -- before a header at or before that line, or begins after it (`cut_at`). So an end moves as a line does (`end_moves`),
 -- also where lines are cut elsewhere so that each body's length moves so (`IsCut`).
 --
--- Theorems: `cut_at`, `end_moves`; `header_few`: before a header; `lines_put`: the lines then.
+-- Theorems: `cut_at`, `end_moves`; `header_few`, `header_same`: before a header; `earlier_end`; `lines_put`, `all_put`:
+-- the lines then.
 use Rattle.std.proofs.Common.{◌≡◌, ℕ, zero, suc, ◌+◌, ◌<◌, ◌≤◌, Bool, true, false, cond, List, [], ◌∷◌, ◌++◌, length}
 use Rattle.std.proofs.Common.{map, take, drop, refl, sym, ap, ap₂, ◌∙◌, append_assoc, length-append, arith}
 use Rattle.std.proofs.Common.{Option, Some, None, inl, inr}
 use Rattle.std.specs.Prelude.{⊤}
 use Rattle.std.specs.Option.{option_map}
 use Rattle.std.proofs.lemmas.Bool.{and_parts, cases_lt, lt-ltb, le-ltb}
-use Rattle.std.proofs.lemmas.List.{take-append-drop, length-take-le, drop_at}
+use Rattle.std.proofs.lemmas.List.{append-nil, map-append, take-append-drop, length-take-le, drop_at}
 use Rattle.keep_syntax.specs.Tree.{Name, Value, Content, blank, keyval, header, element, Line, Ended, Document}
 use Rattle.keep_path.specs.Path.{Part, same_path}
 use Rattle.keep_meaning.specs.Marks.{Reading, start}
@@ -49,15 +50,23 @@ later_positive n i h = elim (cases_lt i n) [
 
 -- ---- the document after the insert
 
+pub all_put : (n : ℕ) (xs es : List Ended) (last : Line) → n ≤ length es
+    → map line_of (take n es ++ (xs ++ drop n es)) ++ last ∷ []
+    ≡ take n (map line_of es ++ last ∷ []) ++ (map line_of xs ++ drop n (map line_of es ++ last ∷ []))
+all_put zero xs [] last h =
+    ap (λ (l : List Line). l ++ last ∷ []) (map-append line_of xs [] ∙ append-nil (map line_of xs))
+all_put (suc n) xs [] last h = absurd (let few : suc n ≤ 0 = h in omega (arith, few))
+all_put zero xs (e ∷ es) last h =
+    ap (λ (l : List Line). l ++ last ∷ []) (map-append line_of xs (e ∷ es))
+    ∙ append_assoc (map line_of xs) (map line_of (e ∷ es)) (last ∷ [])
+all_put (suc n) xs (e ∷ es) last h =
+    ap (λ (ls : List Line). e.line ∷ ls)
+    (all_put n xs es last (let few : suc n ≤ suc (length es) = h in omega (arith, few)))
+
 pub lines_put : (n : ℕ) (k : Ended) (es : List Ended) (last : Line) → n ≤ length es
     → map line_of (take n es ++ k ∷ drop n es) ++ last ∷ []
     ≡ take n (map line_of es ++ last ∷ []) ++ line_of k ∷ drop n (map line_of es ++ last ∷ [])
-lines_put zero k [] last h = refl
-lines_put (suc n) k [] last h = absurd (let few : suc n ≤ 0 = h in omega (arith, few))
-lines_put zero k (e ∷ es) last h = refl
-lines_put (suc n) k (e ∷ es) last h =
-    ap (λ (ls : List Line). e.line ∷ ls)
-    (lines_put n k es last (let few : suc n ≤ suc (length es) = h in omega (arith, few)))
+lines_put n k es last h = all_put n (k ∷ []) es last h
 
 -- ---- one line more, and a body's length
 
@@ -89,7 +98,7 @@ pub header_few : (pre : List Line) (l : Line) (ls : List Line) → is_header l.c
 header_few [] l ls h = omega (arith, header_none l.content (body_length ls) h)
 header_few (x ∷ pre) l ls h = after_few x.content (body_length (pre ++ l ∷ ls)) (length pre) (header_few pre l ls h)
 
-header_same : (pre : List Line) (l : Line) (ls more : List Line) → is_header l.content ≡ true
+pub header_same : (pre : List Line) (l : Line) (ls more : List Line) → is_header l.content ≡ true
     → body_length (pre ++ l ∷ ls) ≡ body_length (pre ++ l ∷ more)
 header_same [] l ls more h =
     header_none l.content (body_length ls) h ∙ sym (header_none l.content (body_length more) h)
@@ -103,7 +112,7 @@ later_end (keyval name v) m k n go h = ap suc (go cc)
 later_end (header b x a) m k n go h = absurd cc
 later_end (element b x a) m k n go h = absurd cc
 
-earlier_end : (x : Content) (m n : ℕ) → length_after x m ≡ suc n → m ≡ n
+pub earlier_end : (x : Content) (m n : ℕ) → length_after x m ≡ suc n → m ≡ n
 earlier_end blank zero n h = absurd cc
 earlier_end blank (suc m) n h = cc
 earlier_end (keyval name v) m n h = cc
@@ -112,7 +121,7 @@ earlier_end (element b x a) m n h = absurd cc
 
 -- ---- the end of a path's body among lines
 
-drop_none : (ls : List Line) → drop 0 ls ≡ ls
+pub drop_none : (ls : List Line) → drop 0 ls ≡ ls
 drop_none [] = refl
 drop_none (l ∷ ls) = refl
 

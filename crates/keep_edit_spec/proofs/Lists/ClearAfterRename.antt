@@ -53,7 +53,7 @@ module _ (t : List ℕ) (path other : List Part) (above : strip other path ≡ N
 
   not_own : (r r' : Reading) (l : Line) (x : Changed Line) → IsLineRead t path other r r' l x
       → is_own other r l.content ≡ true → ⊥
-  not_own r r' l x (by_key was now same) own = let no = hidden_own other r l.content was in absurd cc
+  not_own r r' l x (by_key h) own = let no = hidden_own other r l.content h.was in absurd cc
   not_own r r' l x (in_braces same is) own = let no = none_in r l own in absurd cc
 
   line_second : (r r' : Reading) (l : Line) (x : Changed Line) → IsLineRead t path other r r' l x

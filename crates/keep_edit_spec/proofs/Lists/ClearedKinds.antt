@@ -1,12 +1,13 @@
 -- What is shown of two edits, one of which leaves a line with its comment: the second makes its change after the first
 -- made its own beside it.
-use Rattle.std.specs.Prelude.{◌≡◌, ◌≢◌, ℕ, ◌+◌, List}
+use Rattle.std.specs.Prelude.{◌≡◌, ◌≢◌, ℕ, Bool, ◌+◌, List}
 use Rattle.keep_types.specs.declared.leaf.Profile.{Profile}
 use Rattle.keep_syntax.specs.Tree.{Document, Value}
 use Rattle.keep_path.specs.Path.{Part, beside}
 use Rattle.keep_edit_spec.specs.AddedLines.{AddsLine, AddsLineStill, first_new}
 use Rattle.keep_edit_spec.specs.AppendedHeaders.{AppendsElement, AppendsTable}
 use Rattle.keep_edit_spec.specs.ClearedLines.{ClearsLine}
+use Rattle.keep_edit_spec.specs.DottedLines.{AddsLineTo}
 use Rattle.keep_edit_spec.specs.Edits.{append_element, append_table, edited_document, insert, remove, rename, set}
 use Rattle.keep_edit_spec.specs.Laws.{IsEditable}
 use Rattle.keep_edit_spec.specs.Lines.{newline_of}
@@ -92,8 +93,8 @@ ClearAfterRename =
 abbrev pub ClearAfterInsert : Type 0
 ClearAfterInsert =
     (profile : Profile) (limit : ℕ) (s : Document) (path : List Part) (value : Value) (c : TextChange)
-    (other : List Part) (d : TextChange)
-    → IsEditable profile limit s → AddsLine profile limit s path value c → ClearsLine profile limit s other d
+    (to : Bool) (other : List Part) (d : TextChange)
+    → IsEditable profile limit s → AddsLineTo to profile limit s path value c → ClearsLine profile limit s other d
     → AreApart (first_new s path) other → IsBeside c d
     → ClearsLine profile limit (edited_document s (insert path value)) other (moved c d)
 

@@ -4,7 +4,7 @@
 -- All that the new line says is at the path of its first new key or under it, so it does not lead through a node
 -- (`leads_none`). So the last line that leads through the second holder is the same one, a line later if the body ends
 -- at it or before it. The body does not end right after it, where the lines would come to one place: so the place moves
--- as the line does (`number`). The document says of the second path what it said (OtherPaths), and the same line comes
+-- as the line does (`number`). The document says of the second path what it said (SaidOnWay), and the same line comes
 -- (DottedAfter).
 --
 -- Theorem: `dotted_after_line`.
@@ -33,12 +33,13 @@ use Rattle.keep_edit_spec.proofs.Insert.KeysAtEnd.{end, means}
 use Rattle.keep_edit_spec.proofs.Lists.BodyEnds.{later_before, later_from}
 use Rattle.keep_edit_spec.proofs.Lists.DottedAfter.{dotted_still}
 use Rattle.keep_edit_spec.proofs.Lists.DottedLine as dotted
+use Rattle.keep_edit_spec.proofs.Lists.LineOnWay.{AddsOnWay, line_on_way}
 use Rattle.keep_edit_spec.proofs.Lists.NewHolder.{no_node}
 use Rattle.keep_edit_spec.proofs.Lists.NewPaths.{InsertsKeys, dotted_keys, goes, line_keys, unsaid}
-use Rattle.keep_edit_spec.proofs.Lists.OtherPaths.{holder_stays, refusal_stays}
 use Rattle.keep_edit_spec.proofs.Lists.Places.{at_is, later_line, width}
 use Rattle.keep_edit_spec.proofs.Lists.PutsKeyval.{PutsKeyval, first_long, line_puts, lines_are}
 use Rattle.keep_edit_spec.proofs.Lists.RemovedOwn.{last_without}
+use Rattle.keep_edit_spec.proofs.Lists.SaidOnWay.{holder_stays, refusal_stays}
 
 module _ (profile : Profile) (limit : ℕ) (s : Document) (path : List Part) (value : Value) (c : TextChange)
     (other : List Part) (more : Value) (d : TextChange) (fine : IsEditable profile limit s)
@@ -83,6 +84,9 @@ module _ (profile : Profile) (limit : ℕ) (s : Document) (path : List Part) (va
 
   abbrev its : InsertsKeys profile limit s other more
   its = dotted_keys profile limit s other more d k
+
+  abbrev way : AddsOnWay profile limit s path value
+  way = line_on_way profile limit s path value c h
 
   put : PutsKeyval s now n name value c
   put = line_puts profile limit s path value c fine h
@@ -152,5 +156,5 @@ module _ (profile : Profile) (limit : ℕ) (s : Document) (path : List Part) (va
   pub dotted_after_line : StillAdds true profile limit s now other more (moved c d)
   dotted_after_line =
       dotted_still profile limit s now n name value c put fine other more d k j number
-      (holder_stays profile limit s path value c h other more its order.other)
-      (refusal_stays profile limit s path value c h other more its order.other) last_now
+      (holder_stays profile limit s path value way other more its order.other)
+      (refusal_stays profile limit s path value way other more its order.other) last_now

@@ -4,7 +4,7 @@
 -- line's body, and the key is what is left of the path after it: the keys on the way to the holder (`on_way`), which
 -- that line has, too, and then the new ones. A line comes before it, so the document's newline stays.
 --
--- Theorems: `whole`, `written`, `means`, `no_item`; `puts`, `at_is`, `line_is`, `lines_now`.
+-- Theorems: `whole`, `written`, `means`, `no_item`; `changed`, `puts`, `at_is`, `line_is`, `lines_now`.
 use Rattle.std.proofs.Common.{◌≡◌, ℕ, suc, ◌+◌, List, [], ◌∷◌, ◌++◌, length, map, take, drop, refl, sym, ap}
 use Rattle.std.proofs.Common.{◌∙◌, append_assoc, length-append, arith, None, inr}
 use Rattle.std.proofs.lemmas.List.{map-append}
@@ -86,7 +86,7 @@ module _ (profile : Profile) (limit : ℕ) (s : Document) (path : List Part) (va
   abbrev pub x : Ended
   x = new_line (newline_of s) (keyval (name_with keys) value)
 
-  changed : change s (insert path value) ≡ at_line s n (keyval (name_with keys) value ∷ [])
+  pub changed : change s (insert path value) ≡ at_line s n (keyval (name_with keys) value ∷ [])
   changed =
       change_there s path value h.number (no_item ms) h.bare h.last
       ∙ ap (λ (ks : List (List ℕ)). at_line s n (keyval (name_with ks) value ∷ [])) written

@@ -6,7 +6,7 @@
 -- begins after them ends as many lines earlier as go (`ends_past`). It ends after its own header, thus not right where
 -- the table began.
 --
--- Theorems: `end_without`: without such lines in a row; `end_now`: without a table.
+-- Theorems: `end_without`, `none_without`: without such lines in a row; `end_now`, `none_now`: without a table.
 use Rattle.std.proofs.Common.{◌≡◌, ◌≢◌, ℕ, suc, ◌+◌, ◌<◌, ◌≤◌, Bool, true, false, List, [], ◌∷◌, ◌++◌, length}
 use Rattle.std.proofs.Common.{map, refl, sym, ap, ap₂, subst, ◌∙◌, arith, Option, Some, None, ◌⊎◌, inl, inr}
 use Rattle.std.specs.Prelude.{⊤}
@@ -122,6 +122,27 @@ module _ (gone more : List Line) (over : body_length (gone ++ more) ≡ 0) (over
       (end_in a (after_line y l) (pre ++ more)) (body_length (pre ++ (gone ++ more))) (body_length (pre ++ more))
       (length pre) (length gone) (ends_without a (after_line y l) pre h) (length_same pre) (length_few pre)))
 
+  -- of a path that is not the root
+  ends_moved : (s now : Document) (pre : List Line) → lines s ≡ pre ++ (gone ++ more) → lines now ≡ pre ++ more
+      → (a : List Part) → LeavesHeaders a (reading_after_lines start pre)
+      → (o : Option ℕ) → end_in a start (lines s) ≡ o
+      → EndMoves (length pre) (length gone) o (end_in a start (lines now))
+  ends_moved s now pre was are a h o ends =
+      subst (λ (ls : List Line). EndMoves (length pre) (length gone) o (end_in a start ls)) (sym are)
+      (subst (λ (p : Option ℕ). EndMoves (length pre) (length gone) p (end_in a start (pre ++ more)))
+      (ap (end_in a start) (sym was) ∙ ends) (ends_without a start pre h))
+
+  pub none_without : (s now : Document) (pre : List Line) → lines s ≡ pre ++ (gone ++ more) → lines now ≡ pre ++ more
+      → (a : List Part) → LeavesHeaders a (reading_after_lines start pre) → end_of s a ≡ None → end_of now a ≡ None
+  none_without s now pre was are [] h none = absurd cc
+  none_without s now pre was are (p ∷ ps) h none =
+      by (end_in (p ∷ ps) start (lines now)) refl (ends_moved s now pre was are (p ∷ ps) h None none)
+    where
+      by : (o : Option ℕ) → end_of now (p ∷ ps) ≡ o → EndMoves (length pre) (length gone) None o
+          → end_of now (p ∷ ps) ≡ None
+      by None e moves = e
+      by (Some j) e moves = absurd moves
+
   pub end_without : (s now : Document) (pre : List Line) → lines s ≡ pre ++ (gone ++ more) → lines now ≡ pre ++ more
       → (a : List Part) (i : ℕ) → LeavesHeaders a (reading_after_lines start pre) → end_of s a ≡ Some i
       → IsEndGone now a (length pre) (length gone) i
@@ -137,10 +158,7 @@ module _ (gone more : List Line) (over : body_length (gone ++ more) ≡ 0) (over
         );
       }
   end_without s now pre was are (p ∷ ps) i h ends =
-      by (end_in (p ∷ ps) start (lines now)) refl
-      (subst (λ (ls : List Line). EndMoves (length pre) (length gone) (Some i) (end_in (p ∷ ps) start ls)) (sym are)
-      (subst (λ (o : Option ℕ). EndMoves (length pre) (length gone) o (end_in (p ∷ ps) start (pre ++ more)))
-      (ap (end_in (p ∷ ps) start) (sym was) ∙ ends) (ends_without (p ∷ ps) start pre h)))
+      by (end_in (p ∷ ps) start (lines now)) refl (ends_moved s now pre was are (p ∷ ps) h (Some i) ends)
     where
       by : (o : Option ℕ) → end_of now (p ∷ ps) ≡ o → EndMoves (length pre) (length gone) (Some i) o
           → IsEndGone now (p ∷ ps) (length pre) (length gone) i
@@ -188,6 +206,13 @@ module _ (profile : Profile) (limit : ℕ) (s : Document) (path : List Part) (c 
         ap (λ (y : Reading). last_line (begins a) y after) (body_keeps s path at u)
             ∙ sym (last_goes (λ q. ⊤) (λ q. q) left.inj u x after left.behind a tt),
       )
+
+  -- no header begins a body of it then, if none did
+  pub none_now : end_of s a ≡ None → end_of (table.now profile limit s path c fine h) a ≡ None
+  none_now none =
+      none_without taken after over over_now s (table.now profile limit s path c fine h)
+      (table.before profile limit s path c fine h) (table.lines_were profile limit s path c fine h)
+      (table.lines_are profile limit s path c fine h) a leaves_headers none
 
   pub end_now : (i : ℕ) → end_of s a ≡ Some i
       → IsEndGone (table.now profile limit s path c fine h) a (table.n profile limit s path c fine h)

@@ -32,11 +32,11 @@ entry_lawful profile limit s (append_table keys) a value c fine h = absurd h.of_
 entry_lawful profile limit s (append_element keys) a value c fine h = absurd h.of_entry
 
 pub run_goes_on_by_entry : RunGoesOnByEntry
-run_goes_on_by_entry profile limit s edits changes now e a value c r h alone beside =
+run_goes_on_by_entry profile limit s edits changes lines now e a value c r h alone beside =
     let there : TextChange = moved_past changes c in
     let is_now : SetsValue profile limit now a value there = (r.later (set a value) c h.sets alone beside tt).0 in
-    let longer : IsRunLonger profile limit s edits changes now (set a value) c =
-    run_goes_on profile limit s edits changes now (set a value) c r h.sets alone beside tt in
+    let longer : IsRunLonger profile limit s edits changes lines now (set a value) c =
+    run_goes_on profile limit s edits changes lines now (set a value) c r h.sets alone beside tt in
     let still : MakesSet profile limit now e a value there =
     still_makes_set profile limit s e a value c now e a there r.first r.editable h is_now
     (r.kept c beside (within_text profile limit s (set a value) c r.first h.sets))
@@ -44,5 +44,6 @@ run_goes_on_by_entry profile limit s edits changes now e a value c r h alone bes
     record {
       allowed = still.allowed;
       lawful = entry_lawful profile limit now e a value there r.editable still;
-      run = subst (IsRun profile limit s (set a value ∷ edits) (with_change changes c)) (sym still.same) longer.run;
+      run = subst (IsRun profile limit s (set a value ∷ edits) (with_change changes c) lines) (sym still.same)
+          longer.run;
     }

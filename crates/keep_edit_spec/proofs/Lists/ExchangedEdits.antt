@@ -1,10 +1,11 @@
 -- Edits that are made at once, where an insert has another in its place, of another value at the same path: what is
 -- asked of edits and of their changes.
 --
--- Edits leave one another alone by their paths (`alone_more`, `left_more`), and the changes are at one place and take
--- nothing. So where each edit has its place it has it still (`placed_more`), if the newlines that come are alike. What
--- the insert leaves alone is apart from its first new key, and so from the whole path, which begins with that
--- (`whole_apart`, `passes_whole`); so a set of the value goes on after it (`set_still`).
+-- Edits leave one another alone by their paths (`alone_more`, `left_more`). The changes are at one place and take
+-- nothing, and the same lines are added (`lines_more`). So where each edit has its place it has it still
+-- (`placed_more`), if the newlines that come are alike. What the insert leaves alone is apart from its first new key,
+-- and so from the whole path, which begins with that (`whole_apart`, `passes_whole`); so a set of the value goes on
+-- after it (`set_still`).
 --
 -- Theorems: `each_more`, `changes_more`, `placed_more`, `alone_more`, `left_more`, `set_still`.
 use Rattle.std.proofs.Common.{◌≡◌, ℕ, ◌+◌, ◌<◌, Bool, true, false, List, [], ◌∷◌, ◌++◌, length, map, suc, All, refl}
@@ -14,24 +15,25 @@ use Rattle.std.specs.List.{list_any}
 use Rattle.std.proofs.lemmas.List.{map-append}
 use Rattle.std.proofs.lemmas.List.Elements.{All-cons, All-head, All-tail, All-weaker, filter_map-append}
 use Rattle.keep_types.specs.declared.leaf.Profile.{Profile}
-use Rattle.keep_syntax.specs.Tree.{Document, Value}
+use Rattle.keep_syntax.specs.Tree.{Document, Value, text}
 use Rattle.keep_path.specs.Path.{Part, beside, key, strip}
-use Rattle.keep_edit_spec.specs.AddedLines.{AddsLine, first_new}
+use Rattle.keep_edit_spec.specs.AddedLines.{first_new}
+use Rattle.keep_edit_spec.specs.DottedLines.{AddedAt, IsAfter, added_at, into_dotted}
 use Rattle.keep_edit_spec.specs.Edits.{Edit, append_element, append_table, edited_document, insert, remove, rename, set}
 use Rattle.keep_edit_spec.specs.Laws.{IsEditable}
 use Rattle.keep_edit_spec.specs.Look.{key_text, keys_in}
-use Rattle.keep_edit_spec.specs.RunLists.{MadeEdit, seen_of}
-use Rattle.keep_edit_spec.specs.Runs.{AreApart, ArePlain, IsBeforeHeaders, IsPlain, IsPlainBefore, KeepsPlace}
-use Rattle.keep_edit_spec.specs.Runs.{LeavesAlone, LetsCome, MakesChange, PassesBy, is_header, is_insert, is_new_after}
-use Rattle.keep_edit_spec.specs.Runs.{seen, takes_up_to}
+use Rattle.keep_edit_spec.specs.RunLists.{MadeEdit, lines_of, made, seen_of}
+use Rattle.keep_edit_spec.specs.Runs.{AreApart, ArePlain, IsBeforeHeaders, IsInOrder, IsPlain, IsPlainBefore}
+use Rattle.keep_edit_spec.specs.Runs.{IsSeenStill, KeepsPlace, LeavesAlone, LetsCome, MakesChange}
+use Rattle.keep_edit_spec.specs.Runs.{PassesBy, is_header, is_insert, is_new_after, seen, takes_up_to, with_line}
 use Rattle.keep_edit_spec.specs.SetValues.{SetsValue}
 use Rattle.keep_edit_spec.specs.TextChanges.{IsBeside, TextChange, change_at, moved}
 use Rattle.keep_edit_spec.proofs.Insert.KeysAtEnd.{path_goes_on}
-use Rattle.keep_edit_spec.proofs.Lists.AddedLine.{clear_under, path_clear}
 use Rattle.keep_edit_spec.proofs.Lists.ApartPaths.{apart_renamed}
 use Rattle.keep_edit_spec.proofs.Lists.ExchangedChanges.{IsAmong, all_before, all_from, all_join}
-use Rattle.keep_edit_spec.proofs.Lists.NewHolder.{apart_clear}
-use Rattle.keep_edit_spec.proofs.Lists.NewPaths.{InsertsKeys, first_clear, line_keys}
+use Rattle.keep_edit_spec.proofs.Lists.NewHolder.{apart_under, clear_under}
+use Rattle.keep_edit_spec.proofs.Lists.NewPaths.{InsertsKeys, any_keys, first_clear}
+use Rattle.keep_edit_spec.proofs.Lists.RunLaws.{same_seen}
 use Rattle.keep_edit_spec.proofs.Lists.SetAfterRename.{set_after_rename}
 use Rattle.keep_edit_spec.proofs.Lists.StillMakes.{still_makes}
 
@@ -59,16 +61,18 @@ left_more path value more (append_element keys) h = h
 -- ---- a set of the value of a line that was added
 
 -- A path apart from that of the first new key is apart from the whole path.
-whole_apart : (profile : Profile) (limit : ℕ) (s : Document) (path : List Part) (value : Value) (c : TextChange)
-    → AddsLine profile limit s path value c → (q : List Part) → AreApart (first_new s path) q → AreApart q path
-whole_apart profile limit s path value c h q apart =
-    let back : AreApart q (first_new s path) = (apart.1, apart.0) in
-    (apart_clear profile limit s path value c h q back, path_clear profile limit s path value c h q apart.0)
+whole_apart : (profile : Profile) (limit : ℕ) (s : Document) (path : List Part) (value : Value)
+    → InsertsKeys profile limit s path value → (q : List Part) → AreApart (first_new s path) q → AreApart q path
+whole_apart profile limit s path value h q apart =
+    let both : AreApart path q =
+    subst (λ (p : List Part). AreApart p q) (sym (path_goes_on s path h.text h.more h.new))
+    (apart_under (first_new s path) (map key h.more) q apart) in
+    (both.1, both.0)
 
-passes_whole : (profile : Profile) (limit : ℕ) (s : Document) (path : List Part) (value : Value) (c : TextChange)
-    → AddsLine profile limit s path value c → (keys : List (List ℕ)) → PassesBy keys (first_new s path)
+passes_whole : (profile : Profile) (limit : ℕ) (s : Document) (path : List Part) (value : Value)
+    → InsertsKeys profile limit s path value → (keys : List (List ℕ)) → PassesBy keys (first_new s path)
     → PassesBy keys path
-passes_whole profile limit s path value c h keys passes =
+passes_whole profile limit s path value h keys passes =
     let first : List Part = first_new s path in
     let rest : List (List ℕ) = keys_in (map key h.more) in
     let whole : map key (keys_in path) ≡ map key (keys_in first) ++ map key rest =
@@ -78,47 +82,45 @@ passes_whole profile limit s path value c h keys passes =
     (clear_under (map key (keys_in first)) (map key rest) (map key keys) passes)
 
 -- The document now is after other edits, and the edit makes its change there, as before.
-module _ (profile : Profile) (limit : ℕ) (s now : Document) (path : List Part) (value more : Value) (c : TextChange)
-    (h : AddsLine profile limit s path value c) (y : TextChange) (fine : IsEditable profile limit now)
+module _ (profile : Profile) (limit : ℕ) (s now : Document) (path : List Part) (value more : Value)
+    (own : InsertsKeys profile limit s path value) (y : TextChange) (fine : IsEditable profile limit now)
     (sets : SetsValue profile limit now path more y) where
   abbrev IsSetStill : Edit → TextChange → Type 0
   IsSetStill f x =
-      MakesChange profile limit now f x → seen now f ≡ seen s f → IsBeside x y
+      MakesChange profile limit now f x → IsSeenStill s now f → IsBeside x y
       → SetsValue profile limit (edited_document now f) path more (moved x y)
 
   by_laws : (f : Edit) (x : TextChange) → LeavesAlone (seen s f) (set path more) → IsSetStill f x
   by_laws f x alone makes same side =
       (still_makes profile limit now f x (set path more) y fine makes sets
-      (subst (λ (e : Edit). LeavesAlone e (set path more)) (sym same) alone) side (λ new. absurd (no_place new))).0
+      (subst (λ (e : Edit). LeavesAlone e (set path more)) (sym (same_seen s now f same)) alone) side
+      (λ new. absurd (no_place new), tt)).0
     where
       no_place : IsTrue (is_new_after f (set path more)) → ⊥
       no_place new = let no : false ≡ true = new in absurd cc
 
-  abbrev own : InsertsKeys profile limit s path value
-  own = line_keys profile limit s path value c h
-
   -- The set makes its change after an edit that the insert leaves alone.
   pub set_still : (f : Edit) (x z : TextChange) → MakesChange profile limit s f z
       → LeavesAlone (seen s (insert path value)) (seen s f) → IsSetStill f x
-  set_still (insert other new) x z k alone =
+  set_still (insert other new) x z (to, k) alone =
+      let its : InsertsKeys profile limit s other new = any_keys profile limit s other new z to k in
       by_laws (insert other new) x
-      (whole_apart profile limit s path value c h (first_new s other) (
-        first_clear profile limit s path value other new own (line_keys profile limit s other new z k) alone,
-        first_clear profile limit s other new path value (line_keys profile limit s other new z k) own
-            (λ same. alone (sym same)),
+      (whole_apart profile limit s path value own (first_new s other) (
+        first_clear profile limit s path value other new own its alone,
+        first_clear profile limit s other new path value its own (λ same. alone (sym same)),
       ))
   set_still (remove other) x z k alone =
-      by_laws (remove other) x (whole_apart profile limit s path value c h other alone)
+      by_laws (remove other) x (whole_apart profile limit s path value own other alone)
   set_still (set other new) x z k alone = by_laws (set other new) x tt
   set_still (rename other name) x z k alone = λ makes same side.
       set_after_rename profile limit now other name x path more y fine makes sets
-      (whole_apart profile limit s path value c h other alone.0)
-      (whole_apart profile limit s path value c h (beside other name)
+      (whole_apart profile limit s path value own other alone.0)
+      (whole_apart profile limit s path value own (beside other name)
       (apart_renamed (first_new s path) other name alone.0 alone.1)) side
   set_still (append_table keys) x z k alone =
-      by_laws (append_table keys) x (passes_whole profile limit s path value c h keys alone)
+      by_laws (append_table keys) x (passes_whole profile limit s path value own keys alone)
   set_still (append_element keys) x z k alone =
-      by_laws (append_element keys) x (passes_whole profile limit s path value c h keys alone)
+      by_laws (append_element keys) x (passes_whole profile limit s path value own keys alone)
 
 -- ---- what holds of all
 
@@ -145,11 +147,20 @@ changes_more P c d xs ys k on h =
 
 -- no edit is a header, or none of the changes takes the byte before a place: these are the same tests
 header_none : (s : Document) (path : List Part) (value more : Value) (c d : TextChange) (later earlier : List MadeEdit)
-    → list_any is_header (seen_of s (later ++ record { edit = insert path value; change = c } ∷ earlier))
-    ≡ list_any is_header (seen_of s (later ++ record { edit = insert path more; change = d } ∷ earlier))
+    → list_any is_header (seen_of s (later ++ made (insert path value) c ∷ earlier))
+    ≡ list_any is_header (seen_of s (later ++ made (insert path more) d ∷ earlier))
 header_none s path value more c d [] earlier = refl
 header_none s path value more c d (x ∷ later) earlier =
     ap (λ (b : Bool). is_header (seen s x.edit) || b) (header_none s path value more c d later earlier)
+
+-- the same lines are added
+pub lines_more : (s : Document) (path : List Part) (value more : Value) (c d : TextChange) → c.at ≡ d.at
+    → (later earlier : List MadeEdit) → lines_of s (later ++ made (insert path value) c ∷ earlier)
+    ≡ lines_of s (later ++ made (insert path more) d ∷ earlier)
+lines_more s path value more c d at [] earlier =
+    ap (λ (n : ℕ). record { first = first_new s path; at = n; dotted = into_dotted s path } ∷ lines_of s earlier) at
+lines_more s path value more c d at (x ∷ later) earlier =
+    ap (with_line s x.edit x.change) (lines_more s path value more c d at later earlier)
 
 any_more : (test : TextChange → Bool) (c d : TextChange) (before after : List TextChange) → test c ≡ test d
     → list_any test (before ++ c ∷ after) ≡ list_any test (before ++ d ∷ after)
@@ -169,7 +180,10 @@ module _ (c d : TextChange) (at : c.at ≡ d.at) (none : c.size ≡ 0) (no_size 
   takes_none : (to : ℕ) (x : TextChange) → x.size ≡ 0 → takes_up_to to x ≡ false
   takes_none to x zero_size = ap (λ (n : ℕ). nat_lt 0 n && (x.at + n == to)) zero_size
 
-  module _ (bytes : List ℕ) (xs ys : List TextChange) (k : IsAmong c d xs ys) where
+  module _ (s : Document) (xs ys : List TextChange) (k : IsAmong c d xs ys) where
+    abbrev bytes : List ℕ
+    bytes = text s
+
     takes_alike : (to : ℕ) → list_any (takes_up_to to) xs ≡ list_any (takes_up_to to) ys
     takes_alike to =
         ap (list_any (takes_up_to to)) k.is
@@ -196,12 +210,18 @@ module _ (c d : TextChange) (at : c.at ≡ d.at) (none : c.size ≡ 0) (no_size 
     plain_more : IsPlain d.new → ArePlain bytes xs → ArePlain bytes ys
     plain_more new (plain, all) = (plain, changes_more (λ x. IsPlain x.new) c d xs ys k (λ one. new) all)
 
-    module _ (s : Document) (path : List Part) (value more : Value) (later earlier : List MadeEdit) where
+    module _ (path : List Part) (value more : Value) (later earlier : List MadeEdit) where
+      abbrev ms : List MadeEdit
+      ms = later ++ made (insert path value) c ∷ earlier
+
+      abbrev others : List MadeEdit
+      others = later ++ made (insert path more) d ∷ earlier
+
       abbrev was : List Edit
-      was = seen_of s (later ++ record { edit = insert path value; change = c } ∷ earlier)
+      was = seen_of s ms
 
       abbrev edits : List Edit
-      edits = seen_of s (later ++ record { edit = insert path more; change = d } ∷ earlier)
+      edits = seen_of s others
 
       headers_more : (to : ℕ) → IsBeforeHeaders bytes was to → IsBeforeHeaders bytes edits to
       headers_more to (inl clear) = inl (sym (header_none s path value more c d later earlier) ∙ clear)
@@ -213,9 +233,13 @@ module _ (c d : TextChange) (at : c.at ≡ d.at) (none : c.size ≡ 0) (no_size 
 
       all_more : (P : Edit → Type 0) → (P (seen s (insert path value)) → P (seen s (insert path more))) → All P was
           → All P edits
-      all_more P on =
-          each_more s P (record { edit = insert path value; change = c })
-          (record { edit = insert path more; change = d }) later earlier on
+      all_more P on = each_more s P (made (insert path value) c) (made (insert path more) d) later earlier on
+
+      order_more : (line : AddedAt) → IsInOrder (lines_of s ms) xs line → IsInOrder (lines_of s others) ys line
+      order_more line order = record {
+        after = subst (All (λ l. IsAfter l line)) (lines_more s path value more c d at later earlier) order.after;
+        stays = λ is. sym (takes_alike line.at) ∙ order.stays is;
+      }
 
       placed_header : (x : TextChange) → IsPlain d.new
           → All (λ e. IsTrue (is_header e)) was ⊎ IsPlainBefore bytes xs x.at
@@ -226,14 +250,22 @@ module _ (c d : TextChange) (at : c.at ≡ d.at) (none : c.size ≡ 0) (no_size 
       no_insert : {A : Type 0} → IsTrue false → A
       no_insert it = absurd (let e : false ≡ true = it in cc)
 
-      pub placed_more : (f : Edit) (x : TextChange) → AreAlike f → KeepsPlace bytes was xs f x
-          → KeepsPlace bytes edits ys f x
-      placed_more (insert other new) x alike (inl all) =
-          inl (all_more (λ e. IsTrue (is_insert e)) (λ one. one) all)
-      placed_more (insert other new) x (inl plain) (inr (all, (lets, before))) =
+      placed_line : (x : TextChange) → IsPlain d.new ⊎ All (λ e. IsTrue (is_insert e)) was
+          → All (λ e. IsTrue (is_insert e)) was
+          ⊎ (ArePlain bytes xs × (All (LetsCome bytes xs x.at) xs × IsBeforeHeaders bytes was x.at))
+          → All (λ e. IsTrue (is_insert e)) edits
+          ⊎ (ArePlain bytes ys × (All (LetsCome bytes ys x.at) ys × IsBeforeHeaders bytes edits x.at))
+      placed_line x alike (inl all) = inl (all_more (λ e. IsTrue (is_insert e)) (λ one. one) all)
+      placed_line x (inl plain) (inr (all, (lets, before))) =
           inr (plain_more plain all, (lets_more x.at lets, headers_more x.at before))
-      placed_more (insert other new) x (inr (own, all)) (inr h) =
-          inl (all_more (λ e. IsTrue (is_insert e)) (λ one. one) all)
+      placed_line x (inr all) (inr h) = inl (all_more (λ e. IsTrue (is_insert e)) (λ one. one) all)
+
+      pub placed_more : (f : Edit) (x : TextChange) → AreAlike f → KeepsPlace s was xs (lines_of s ms) f x
+          → KeepsPlace s edits ys (lines_of s others) f x
+      placed_more (insert other new) x alike (order, h) = (
+        order_more (added_at s other x (into_dotted s other)) order,
+        placed_line x (elim alike [ inl plain ↦ inl plain | inr (line, all) ↦ inr all ]) h,
+      )
       placed_more (append_table keys) x (inl plain) h = placed_header x plain h
       placed_more (append_table keys) x (inr (own, all)) h = no_insert own
       placed_more (append_element keys) x (inl plain) h = placed_header x plain h

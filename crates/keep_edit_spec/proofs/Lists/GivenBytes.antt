@@ -6,7 +6,7 @@
 -- its line takes what the line says and the space after it (`page_takes`), and its change goes on to the end of the
 -- line. So the comment and the newline come back, and a newline has a byte.
 --
--- Theorems: `set_gives`, `rename_gives`, `clear_gives`: none of these changes is without new bytes.
+-- Theorems: `set_gives`, `rename_gives`, `clear_gives`: none of these changes is without new bytes; `key_has_bytes`.
 use Rattle.std.proofs.Common.{◌≡◌, ℕ, suc, ◌+◌, ◌<◌, Bool, true, false, cond, List, [], ◌∷◌, ◌++◌, length, take, refl}
 use Rattle.std.proofs.Common.{sym, ap, ap₂, subst, ◌∙◌, length-append, arith, Option}
 use Rattle.std.specs.List.{AllByRecursion}
@@ -60,7 +60,7 @@ set_gives profile limit s path value c editable h none =
 
 -- ---- a rename
 
-key_has_bytes : (t : List ℕ) → 0 < length (encoded_key t)
+pub key_has_bytes : (t : List ℕ) → 0 < length (encoded_key t)
 key_has_bytes t = by (is_bare_text t) refl
   where
     bare : (u : List ℕ) → is_bare_text u ≡ true → 0 < length u

@@ -4,10 +4,9 @@
 -- (`tables_beside`), so the header is let come (`lets_without`). The line does not end where the header comes, so that
 -- is written as before (HeaderStays).
 --
--- Theorems: `table_after_remove`, `element_after_remove`; `lets_without`; `any_made`.
-use Rattle.std.proofs.Common.{◌≡◌, ℕ, ◌+◌, ◌<◌, Bool, false, ◌||◌, List, [], ◌∷◌, ◌++◌, length, refl, sym, ap, ◌∙◌}
-use Rattle.std.proofs.Common.{Option, Some, None}
-use Rattle.std.specs.List.{cons_option, filter_map, list_any}
+-- Theorems: `table_after_remove`, `element_after_remove`; `lets_without`.
+use Rattle.std.proofs.Common.{◌≡◌, ℕ, ◌+◌, ◌<◌, Bool, List, ◌∷◌, ◌++◌, length, sym, ap, ◌∙◌, Some}
+use Rattle.std.specs.List.{list_any}
 use Rattle.keep_types.specs.declared.leaf.Profile.{Profile}
 use Rattle.keep_syntax.specs.Tree.{Name, Value, keyval, Line, Document}
 use Rattle.keep_path.specs.Path.{Part}
@@ -27,28 +26,11 @@ use Rattle.keep_edit_spec.proofs.Append.AppendLaw.{reading_append}
 use Rattle.keep_edit_spec.proofs.Append.AppendTable.{tables_stated}
 use Rattle.keep_edit_spec.proofs.Common.LineLaws.{lines_mentions-append}
 use Rattle.keep_edit_spec.proofs.Common.SetDocument.{reading_of}
-use Rattle.keep_edit_spec.proofs.Lists.HeaderSaid.{LetsCome}
+use Rattle.keep_edit_spec.proofs.Lists.HeaderSaid.{LetsCome, any_made, some_passes}
 use Rattle.keep_edit_spec.proofs.Lists.HeaderStays.{element_stays, table_stays}
 use Rattle.keep_edit_spec.proofs.Lists.LineGone as gone
 use Rattle.keep_edit_spec.proofs.Lists.OwnLine as line
 use Rattle.keep_edit_spec.proofs.Lists.RemovedPlaces.{mine}
-
--- ---- a test of what is made of some
-
-abbrev pub some_passes : {B : Type 0} → (B → Bool) → Option B → Bool
-some_passes T None = false
-some_passes T (Some y) = T y
-
-pub any_made : {A B : Type 0} (f : A → Option B) (T : B → Bool) (xs : List A)
-    → list_any T (filter_map f xs) ≡ list_any (λ (x : A). some_passes T (f x)) xs
-any_made f T [] = refl
-any_made {A = A} {B = B} f T (x ∷ xs) = by (f x) (any_made f T xs)
-  where
-    by : (o : Option B) → list_any T (filter_map f xs) ≡ list_any (λ (x : A). some_passes T (f x)) xs
-        → list_any T (cons_option o (filter_map f xs))
-        ≡ (some_passes T o || list_any (λ (x : A). some_passes T (f x)) xs)
-    by None same = same
-    by (Some y) same = ap (λ (b : Bool). T y || b) same
 
 -- ---- what a header meets
 

@@ -24,9 +24,8 @@ use Rattle.keep_edit_spec.proofs.EditLaws.{remove_lawful}
 use Rattle.keep_edit_spec.proofs.Append.AppendLaw.{reading_append}
 use Rattle.keep_edit_spec.proofs.Append.AppendTable.{tables_stated}
 use Rattle.keep_edit_spec.proofs.Common.HeadersGo.{with_body}
-use Rattle.keep_edit_spec.proofs.Lists.HeaderAfterRemove.{any_made, some_passes}
 use Rattle.keep_edit_spec.proofs.Lists.HeaderLeft.{section_read}
-use Rattle.keep_edit_spec.proofs.Lists.HeaderSaid.{LetsCome}
+use Rattle.keep_edit_spec.proofs.Lists.HeaderSaid.{LetsCome, any_made, some_passes}
 use Rattle.keep_edit_spec.proofs.Lists.HeaderStays.{element_stays, table_stays}
 use Rattle.keep_edit_spec.proofs.Lists.SectionGone as gone
 

@@ -1,24 +1,25 @@
 -- A header that an append writes at the end of a text that ends in a newline, of a table or of an element.
 --
 -- All that another edit asks of it is in `HeaderComes`: what it says is said after the rest, and has paths that its
--- keys lead to (HeaderSays); it states nothing of a path whose body begins in the document (HeaderNew), so it does not
--- begin that body once more (`not_begun`); it comes before the last line (HeaderLines), where the change is stated to
--- be; and it has no value, nor a key part that leads to a path that its keys pass by.
+-- keys lead to (HeaderSays); it states nothing of a table that is made in the document (HeaderNew), so it begins no
+-- body of that table (`not_begun`); it comes before the last line (HeaderLines), where the change is stated to be, at
+-- the end of the text (`comes_at`); and it has no value, nor a key part that leads to a path that its keys pass by.
 --
--- Theorems: `table_comes`, `element_comes`; `after_header`, `not_begun`, `values_pass`.
-use Rattle.std.proofs.Common.{◌≡◌, ℕ, Bool, true, false, List, [], ◌∷◌, ◌++◌, map, refl, sym, ap, subst, ◌∙◌, Option}
-use Rattle.std.proofs.Common.{Some, None}
+-- Theorems: `table_comes`, `element_comes`; `after_header`, `comes_at`, `not_begun`, `values_pass`.
+use Rattle.std.proofs.Common.{◌≡◌, ℕ, Bool, true, false, List, [], ◌∷◌, ◌++◌, length, map, refl, sym, ap, subst, ◌∙◌}
+use Rattle.std.proofs.Common.{Option, Some, None}
 use Rattle.std.specs.Prelude.{position}
 use Rattle.keep_types.specs.declared.leaf.Profile.{Profile}
 use Rattle.keep_syntax.specs.Tree.{Content, Document, Line, blank, comment_leaves, element, header, text}
 use Rattle.keep_syntax.specs.Tree.{text_of}
+use Rattle.keep_syntax.specs.Grammar.{IsDocument}
 use Rattle.keep_path.specs.Path.{Part, same_path}
 use Rattle.keep_meaning.specs.Marks as marks_of
 use Rattle.keep_meaning.specs.Marks.{Mention, Reading, Statement, header_path, marks, start, statement_mentions}
 use Rattle.keep_meaning.specs.Meaning.{keys_of, line_mentions, line_of, lines, mentions_in, reading_after_lines}
 use Rattle.keep_meaning.specs.Rules.{ObeysRules}
 use Rattle.keep_edit_spec.specs.AppendedHeaders.{AppendsElement, AppendsTable}
-use Rattle.keep_edit_spec.specs.Changed.{Changed, place_of, within}
+use Rattle.keep_edit_spec.specs.Changed.{Changed, Place, place_of, within}
 use Rattle.keep_edit_spec.specs.Edits.{append, changed_or_same, key_with}
 use Rattle.keep_edit_spec.specs.Laws.{IsEditable}
 use Rattle.keep_edit_spec.specs.Lines.{begins, in_content, in_line, key_prefixes, part_paths, plain_line}
@@ -28,13 +29,14 @@ use Rattle.keep_edit_spec.specs.TextChanges.{TextChange, place_of_change}
 use Rattle.keep_edit_spec.specs.TextEnds.{ends_in_newline}
 use Rattle.keep_edit_spec.specs.Values.{Act}
 use Rattle.keep_edit_spec.proofs.Append.AppendLaw.{reading_append}
+use Rattle.keep_edit_spec.proofs.Append.AppendPlace.{append_place}
 use Rattle.keep_edit_spec.proofs.Append.AppendTable.{no_conflict, tables_stated}
 use Rattle.keep_edit_spec.proofs.Common.BodyEnd.{IsStated, begins_stated}
 use Rattle.keep_edit_spec.proofs.Common.Marks.{rules_of_document}
 use Rattle.keep_edit_spec.proofs.Common.NewLines.{key_means}
 use Rattle.keep_edit_spec.proofs.Common.Runs.{AllOf, Rules, SomeOf, meet}
 use Rattle.keep_edit_spec.proofs.Lists.HeaderLines.{FindsNothing, append_is, headed, last_blank}
-use Rattle.keep_edit_spec.proofs.Lists.HeaderNew.{IsBegunIn, StatesNothing, element_new, not_stated, table_new}
+use Rattle.keep_edit_spec.proofs.Lists.HeaderNew.{IsMadeIn, StatesNothing, element_new, not_stated, table_new}
 use Rattle.keep_edit_spec.proofs.Lists.HeaderSays.{IsOfHeader, element_own, not_named, table_own}
 use Rattle.keep_edit_spec.proofs.Lists.StillAppends.{said}
 use Rattle.keep_edit_spec.proofs.Rename.KeyTexts.{key_texts}
@@ -47,7 +49,7 @@ pub record HeaderComes (s : Document) (keys : List (List ℕ)) (c : TextChange) 
   pub says : mentions_in (headed s content).to ≡ mentions_in s ++ own
   pub stated : (r : Reading) → r.tables ≡ tables_in (mentions_in s) → line_mentions r (plain_line content) ≡ own
   pub of_header : AllOf (IsOfHeader keys) own
-  pub new : (a : List Part) → IsBegunIn a (mentions_in s) → AllOf (StatesNothing a) own
+  pub new : (a : List Part) → IsMadeIn a (mentions_in s) → AllOf (StatesNothing a) own
   pub no_value : (act : Act) (body path : List Part) → in_content act body path content ≡ None
   pub no_part : (r : Reading) (q : List Part) → PassesBy keys q → position (same_path q) (part_paths r content) ≡ None
 
@@ -57,9 +59,16 @@ pub after_header : (P : Document → Type 0) (s : Document) (content : Content) 
 after_header P s content keys c h holds =
     subst (λ (o : Option (Changed Document)). P (changed_or_same s o).to) (sym h.made) holds
 
--- It does not begin once more a body that begins in the document.
 module _ (s : Document) (keys : List (List ℕ)) (c : TextChange) (content : Content) (h : HeaderComes s keys c content)
   where
+    -- It comes at the end of the text.
+    pub comes_at : (profile : Profile) → IsDocument profile s → c.at ≡ length (text s)
+    comes_at profile valid =
+        ap (λ (p : Place). p.start)
+        (sym h.is ∙ ap (λ (o : Option (Changed Document)). place_of (changed_or_same s o)) (sym h.made)
+        ∙ append_place profile s valid content)
+
+    -- It begins no body of a table that is made in the document.
     abbrev at_end : Reading
     at_end = reading_after_lines start (map line_of s.ended)
 
@@ -70,8 +79,8 @@ module _ (s : Document) (keys : List (List ℕ)) (c : TextChange) (content : Con
         ∙ ap (λ (x : Content). reading_after_lines at_end (plain_line x ∷ [])) h.empty))
         ∙ tables_stated start (lines s)
 
-    pub not_begun : (a : List Part) → IsBegunIn a (mentions_in s) → begins a at_end (plain_line content) ≡ false
-    not_begun a begun = by (begins a at_end (plain_line content)) refl
+    pub not_begun : (a : List Part) → IsMadeIn a (mentions_in s) → begins a at_end (plain_line content) ≡ false
+    not_begun a made = by (begins a at_end (plain_line content)) refl
       where
         by : (b : Bool) → begins a at_end (plain_line content) ≡ b → b ≡ false
         by false e = refl
@@ -79,7 +88,7 @@ module _ (s : Document) (keys : List (List ℕ)) (c : TextChange) (content : Con
             let (m, stated, nothing) =
             meet (IsStated a) (StatesNothing a) h.own
             (subst (SomeOf (IsStated a)) (h.stated at_end tables) (begins_stated a at_end (plain_line content) e))
-            (h.new a begun) in
+            (h.new a made) in
             absurd (not_stated a m stated nothing)
 
 -- A search in values passes it.
@@ -101,7 +110,7 @@ comes : (profile : Profile) (limit : ℕ) (s : Document) (k : List ℕ) (ks : Li
     → ((r : Reading) → line_mentions r (plain_line content)
     ≡ statement_mentions (record { tables = r.tables; body = [] }) st)
     → AllOf (IsOfHeader (k ∷ ks)) (statement_mentions (end_reading (mentions_in s)) st)
-    → ((a : List Part) → IsBegunIn a (mentions_in s)
+    → ((a : List Part) → IsMadeIn a (mentions_in s)
     → Rules (mentions_in s ++ statement_mentions (end_reading (mentions_in s)) st)
     → AllOf (StatesNothing a) (statement_mentions (end_reading (mentions_in s)) st))
     → ((act : Act) (body path : List Part) → in_content act body path content ≡ None)
@@ -126,7 +135,7 @@ comes profile limit s k ks c content st fine closed free is states of_header new
       stated = λ r e. states r
           ∙ ap (λ (tables : List (List Part)). statement_mentions (record { tables = tables; body = [] }) st) e;
       of_header = of_header;
-      new = λ a begins. new a begins rules;
+      new = λ a there. new a there rules;
       no_value = no_value;
       no_part = λ r q clear. ap (λ (l : List (List Part)). position (same_path q) l) (parts r)
           ∙ not_named r.tables k ks q clear;
@@ -141,7 +150,7 @@ table_comes profile limit s (k ∷ ks) c fine h =
     comes profile limit s k ks c (header [] (key_with (k ∷ ks)) []) (marks_of.header (k ∷ ks)) fine h.closed h.allowed
     h.is (λ r. ap (λ (x : List (List ℕ)). statement_mentions r (marks_of.header x)) same)
     (table_own (tables_in (mentions_in s)) k ks [])
-    (λ a begins rules. table_new s k ks a begins rules) (λ act body path. refl)
+    (λ a there rules. table_new s k ks a there rules) (λ act body path. refl)
     (λ r. ap (λ (x : List (List ℕ)). map (header_path r.tables []) (key_prefixes x)) same)
 
 pub element_comes : (profile : Profile) (limit : ℕ) (s : Document) (keys : List (List ℕ)) (c : TextChange)
@@ -153,5 +162,5 @@ element_comes profile limit s (k ∷ ks) c fine h =
     comes profile limit s k ks c (element [] (key_with (k ∷ ks)) []) (marks_of.element_header (k ∷ ks)) fine h.closed
     h.allowed h.is (λ r. ap (λ (x : List (List ℕ)). statement_mentions r (marks_of.element_header x)) same)
     (element_own (tables_in (mentions_in s)) k ks [])
-    (λ a begins rules. element_new s k ks a begins rules) (λ act body path. refl)
+    (λ a there rules. element_new s k ks a there rules) (λ act body path. refl)
     (λ r. ap (λ (x : List (List ℕ)). map (header_path r.tables []) (key_prefixes x)) same)

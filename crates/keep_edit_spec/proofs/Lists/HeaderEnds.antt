@@ -2,17 +2,18 @@
 --
 -- The lines that come, and the last line, which is blank, are none of a body that began before: blank lines at the end
 -- do not count, and a header ends the body before it. So a body's length is the same (`lengths_same`), and so is its
--- end, if the header does not begin it once more (`ends_same`, both by induction over the lines).
+-- end, if the header does not begin it once more (`ends_same`, both by induction over the lines). Nor do the new lines
+-- lead through a path by dots, so the last line that does is the same (`leads_headed`).
 --
--- Theorems: `lengths_same`, `last_headed`, `end_headed`.
-use Rattle.std.proofs.Common.{◌≡◌, ℕ, true, false, List, [], ◌∷◌, ◌++◌, map, refl, sym, ap, ap₂, ◌∙◌, Option, Some}
-use Rattle.std.proofs.Common.{None}
-use Rattle.keep_syntax.specs.Tree.{Content, Document, Line, blank}
+-- Theorems: `lengths_same`, `last_headed`, `leads_headed`, `end_headed`.
+use Rattle.std.proofs.Common.{◌≡◌, ℕ, Bool, true, false, List, [], ◌∷◌, ◌++◌, map, refl, sym, ap, ap₂, ◌∙◌, Option}
+use Rattle.std.proofs.Common.{Some, None}
+use Rattle.keep_syntax.specs.Tree.{Content, Document, Line, blank, element, header, keyval}
 use Rattle.keep_path.specs.Path.{Part}
 use Rattle.keep_meaning.specs.Marks.{Reading, start}
 use Rattle.keep_meaning.specs.Meaning.{after_line, line_of, lines, reading_after_lines}
 use Rattle.keep_edit_spec.specs.Edits.{end_of}
-use Rattle.keep_edit_spec.specs.Lines.{begins, body_length, is_header, last_line, more_lines, plain_line}
+use Rattle.keep_edit_spec.specs.Lines.{begins, body_length, is_header, last_line, leads_dotted, more_lines, plain_line}
 use Rattle.keep_edit_spec.proofs.Lists.BodyEnds.{end_at, end_cons, end_in, end_or, header_none, length_after}
 use Rattle.keep_edit_spec.proofs.Lists.HeaderLines.{headed, last_before, lines_are, not_last, put_is}
 
@@ -30,6 +31,20 @@ ends_same a r (l ∷ first) more others h same =
     ∙ ap₂ (λ (n : ℕ) (o : Option ℕ). end_or (begins a r l) n o) (lengths_same first more others h)
     (ends_same a (after_line r l) first more others h same)
     ∙ sym (end_cons a r l (first ++ others))
+
+-- what a blank line and a header do not do
+none_begins : (a : List Part) (r : Reading) (l : Line) → l.content ≡ blank → begins a r l ≡ false
+none_begins a r l e = ap (λ (x : Content). begins a r (plain_line x)) e
+
+none_leads : (a : List Part) (r : Reading) (l : Line) → l.content ≡ blank → leads_dotted a r l ≡ false
+none_leads a r l e = ap (λ (x : Content). leads_dotted a r (plain_line x)) e
+
+header_leads : (a : List Part) (r : Reading) (c : Content) → is_header c ≡ true
+    → leads_dotted a r (plain_line c) ≡ false
+header_leads a r blank h = absurd cc
+header_leads a r (keyval name value) h = absurd cc
+header_leads a r (header before k after) h = refl
+header_leads a r (element before k after) h = refl
 
 module _ (s : Document) (content : Content) (empty : s.last.content ≡ blank) (is : is_header content ≡ true) where
   abbrev first : List Line
@@ -50,31 +65,45 @@ module _ (s : Document) (content : Content) (empty : s.last.content ≡ blank) (
       ap (more_lines false) (header_none content (body_length last) is)
       ∙ sym (ap (λ (x : Content). length_after x 0) empty)
 
-  none_in_last : (a : List Part) (r : Reading) → last_line (begins a) r last ≡ None
-  none_in_last a r =
-      not_last (begins a) r s.last [] (ap (λ (x : Content). begins a r (plain_line x)) empty) refl
-
-  none_in_more : (a : List Part) → begins a at_end (plain_line content) ≡ false
-      → last_line (begins a) at_end more ≡ None
-  none_in_more a other =
-      not_last (begins a) at_end (plain_line blank) (plain_line content ∷ last) refl
-      (not_last (begins a) at_end (plain_line content) last other
-      (none_in_last a (after_line at_end (plain_line content))))
-
-  none_begun : (a : List Part) → begins a at_end (plain_line content) ≡ false
-      → end_in a at_end more ≡ end_in a at_end last
-  none_begun a other =
-      ap (end_at more) (none_in_more a other) ∙ sym (ap (end_at last) (none_in_last a at_end))
-
   now_are : lines (headed s content).to ≡ first ++ more
   now_are = ap lines (put_is s content) ∙ lines_are s content
+
+  -- ---- the last line that passes a test which blank lines do not pass
+
+  module _ (test : Reading → Line → Bool)
+      (blanks : (r : Reading) (l : Line) → l.content ≡ blank → test r l ≡ false) where
+    none_in_last : (r : Reading) → last_line test r last ≡ None
+    none_in_last r = not_last test r s.last [] (blanks r s.last empty) refl
+
+    none_in_more : test at_end (plain_line content) ≡ false → last_line test at_end more ≡ None
+    none_in_more other =
+        not_last test at_end (plain_line blank) (plain_line content ∷ last) (blanks at_end (plain_line blank) refl)
+        (not_last test at_end (plain_line content) last other
+        (none_in_last (after_line at_end (plain_line content))))
+
+    last_now : test at_end (plain_line content) ≡ false
+        → last_line test start (lines (headed s content).to) ≡ last_line test start (lines s)
+    last_now other =
+        ap (last_line test start) now_are ∙ last_before test start first more (none_in_more other)
+        ∙ sym (last_before test start first last (none_in_last at_end))
 
   -- the line that begins a body
   pub last_headed : (a : List Part) → begins a at_end (plain_line content) ≡ false
       → last_line (begins a) start (lines (headed s content).to) ≡ last_line (begins a) start (lines s)
-  last_headed a other =
-      ap (last_line (begins a) start) now_are ∙ last_before (begins a) start first more (none_in_more a other)
-      ∙ sym (last_before (begins a) start first last (none_in_last a at_end))
+  last_headed a other = last_now (begins a) (none_begins a) other
+
+  -- the last line whose key leads through a path
+  pub leads_headed : (a : List Part)
+      → last_line (leads_dotted a) start (lines (headed s content).to) ≡ last_line (leads_dotted a) start (lines s)
+  leads_headed a = last_now (leads_dotted a) (none_leads a) (header_leads a at_end content is)
+
+  -- ---- the ends
+
+  none_begun : (a : List Part) → begins a at_end (plain_line content) ≡ false
+      → end_in a at_end more ≡ end_in a at_end last
+  none_begun a other =
+      ap (end_at more) (none_in_more (begins a) (none_begins a) other)
+      ∙ sym (ap (end_at last) (none_in_last (begins a) (none_begins a) at_end))
 
   pub end_headed : (a : List Part) → begins a at_end (plain_line content) ≡ false
       → end_of (headed s content).to a ≡ end_of s a

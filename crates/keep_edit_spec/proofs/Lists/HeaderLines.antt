@@ -11,11 +11,12 @@
 -- stays, too.
 --
 -- Theorems: `put_is`, `lines_are`, `lines_end`, `last_empty`, `last_blank`, `append_is`, `after_is`, `newline_again`,
--- `ends_again`; `last_before`, `not_last`; `lines_stay`, `none_stays`.
-use Rattle.std.proofs.Common.{◌≡◌, ℕ, suc, ◌<◌, Bool, true, false, cond, List, [], ◌∷◌, ◌++◌, length, map, refl, sym}
-use Rattle.std.proofs.Common.{ap, ap₂, subst, ◌∙◌, append_assoc, length-append, arith, Option, Some, None}
+-- `ends_again`; `starts_stay`: the lines before them begin where they did; `last_before`, `not_last`; `lines_stay`,
+-- `none_stays`.
+use Rattle.std.proofs.Common.{◌≡◌, ℕ, suc, ◌+◌, ◌<◌, ◌≤◌, Bool, true, false, cond, List, [], ◌∷◌, ◌++◌, length, map}
+use Rattle.std.proofs.Common.{refl, sym, ap, ap₂, subst, ◌∙◌, append_assoc, length-append, arith, Option, Some, None}
 use Rattle.std.specs.List.{AllByRecursion}
-use Rattle.std.proofs.lemmas.List.{map-append}
+use Rattle.std.proofs.lemmas.List.{map-append, take-append-le}
 use Rattle.keep_types.specs.declared.leaf.Profile.{Profile}
 use Rattle.keep_syntax.specs.Tree.{Written, Content, blank, Line, Ended, Document, bom_leaves, ended_leaves, text}
 use Rattle.keep_syntax.specs.Tree.{text_of}
@@ -23,9 +24,10 @@ use Rattle.keep_syntax.specs.Grammar.{IsDocument, IsEnded}
 use Rattle.keep_meaning.specs.Marks.{Reading, start}
 use Rattle.keep_meaning.specs.Meaning.{after_line, line_of, lines, reading_after_lines}
 use Rattle.keep_edit_spec.specs.Changed.{Changed, framed_change, or_else, within}
+use Rattle.keep_edit_spec.specs.ClearedLines.{line_start}
 use Rattle.keep_edit_spec.specs.Edits.{append, at_line, changed_or_same}
-use Rattle.keep_edit_spec.specs.Lines.{Page, in_document, in_lines, is_empty, last_line, line_text, new_line}
-use Rattle.keep_edit_spec.specs.Lines.{newline_of, page_text, plain_line, put_lines, with_page}
+use Rattle.keep_edit_spec.specs.Lines.{Page, ended_text, in_document, in_lines, is_empty, last_line, line_text}
+use Rattle.keep_edit_spec.specs.Lines.{new_line, newline_of, page_text, plain_line, put_lines, with_page}
 use Rattle.keep_edit_spec.specs.TextEnds.{ends_in_newline}
 use Rattle.keep_edit_spec.proofs.Append.AppendLaw.{blank_by}
 use Rattle.keep_edit_spec.proofs.Append.AppendPlace.{last_written, lines_written, none_written}
@@ -63,6 +65,13 @@ pub lines_are : (s : Document) (c : Content)
 lines_are s c =
     ap (λ (ls : List Line). ls ++ s.last ∷ []) (map-append line_of s.ended (header_lines s c))
     ∙ append_assoc (map line_of s.ended) (map line_of (header_lines s c)) (s.last ∷ [])
+
+pub starts_stay : (s : Document) (c : Content) (i : ℕ) → i ≤ length s.ended
+    → line_start (headed s c).to i ≡ line_start s i
+starts_stay s c i few =
+    ap (λ (t : Document). line_start t i) (put_is s c)
+    ∙ ap (λ (es : List Ended). length (text_of (bom_leaves s.bom)) + length (ended_text es))
+    (take-append-le i s.ended (header_lines s c) few)
 
 -- the text of lines with newlines, before a last line with no bytes
 pub lines_end : (profile : Profile) (s : Document) → IsDocument profile s → is_empty s.last ≡ true → 0 < length s.ended

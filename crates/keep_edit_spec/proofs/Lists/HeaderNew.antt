@@ -1,11 +1,12 @@
--- A header that obeys the rules after a document is of no table or element whose body begins there, nor is the array
--- that it names such a table.
+-- A header that obeys the rules after a document is of no table or element whose body begins there or which dotted keys
+-- make, nor is the array that it names such a table.
 --
 -- A body is begun by the line that defines it. The path of a header ends in a key, so it is of no element, and a table
--- that is defined is neither defined again nor named an array (`begun_before`, by the rules). Elements are counted: one
--- that is begun has a lesser number than a new one (`counts`, by induction over the lines). What a header says of the
--- paths on its way states nothing. So of a path whose body begins the header says neither what it is nor that it is an
--- array, and it is a table as before (`table_stays`).
+-- that is defined is neither defined again nor named an array (`begun_before`, by the rules). Nor is one that dotted
+-- keys make (`dotted_before`), which is no element. Elements are counted: one that is begun has a lesser number than a
+-- new one (`counts`, by induction over the lines). What a header says of the paths on its way states nothing. So of a
+-- path that is made before the header says neither what it is nor that it is an array, and it is a table as before
+-- (`table_stays`).
 --
 -- Theorems: `table_new`, `element_new`; `table_stays`, `not_stated`.
 use Rattle.std.proofs.Common.{◌≡◌, ℕ, ◌<◌, Bool, true, false, cond, not, ◌&&◌, ◌||◌, List, [], ◌∷◌, ◌++◌, length, map}
@@ -20,23 +21,25 @@ use Rattle.keep_syntax.specs.Tree.{Written, Gap, Content, blank, keyval, header,
 use Rattle.keep_path.specs.Path.{Part, index, same_path}
 use Rattle.keep_meaning.specs.Fact.{Fact}
 use Rattle.keep_meaning.specs.Marks as marks_of
-use Rattle.keep_meaning.specs.Marks.{Mention, MentionKind, Reading, start, begun, define, elements_of, fact_of}
+use Rattle.keep_meaning.specs.Marks.{Mention, MentionKind, Reading, start, begun, define, dotted, elements_of, fact_of}
 use Rattle.keep_meaning.specs.Marks.{header_path, header_prefixes, statement_mentions}
 use Rattle.keep_meaning.specs.Meaning.{after_line, further_value, key_value, keys_of, line_mentions, lines}
 use Rattle.keep_meaning.specs.Meaning.{lines_mentions, mentions_in, reading_after_lines}
-use Rattle.keep_meaning.specs.Nodes.{fact_at, first_of, has, is_at, is_begun, is_define, is_element, kinds_at}
+use Rattle.keep_meaning.specs.Nodes.{fact_at, first_of, has, is_at, is_begun, is_define, is_dotted, is_element}
+use Rattle.keep_meaning.specs.Nodes.{kinds_at}
 use Rattle.keep_edit_spec.specs.Lines.{begins}
 use Rattle.keep_edit_spec.specs.Look.{is_table, is_table_fact, strip, without_last}
 use Rattle.keep_edit_spec.specs.Refusals.{end_reading, tables_in}
 use Rattle.keep_edit_spec.proofs.Append.AppendTable.{none_prefixes, silent_prefixes, tables_stated}
 use Rattle.keep_edit_spec.proofs.Common.BodyEnd.{IsStated}
 use Rattle.keep_edit_spec.proofs.Common.Cuts.{without_last-snoc}
+use Rattle.keep_edit_spec.proofs.Common.Doubles.{IsMentioned}
 use Rattle.keep_edit_spec.proofs.Common.FromMarks.{ends_disjoint}
 use Rattle.keep_edit_spec.proofs.Common.FromMarksLines.{path_ends}
 use Rattle.keep_edit_spec.proofs.Common.InsertLaw.{or_true}
 use Rattle.keep_edit_spec.proofs.Common.LineLaws.{EndsInKey, last_from, last_snoc, never_root}
 use Rattle.keep_edit_spec.proofs.Common.Runs.{Across, AllOf, Allowed, Rules, SomeOf, all_join, all_right, kinds_allow}
-use Rattle.keep_edit_spec.proofs.Common.Runs.{kinds_at-append, pairs_split, same_path-refl, same_path-sound}
+use Rattle.keep_edit_spec.proofs.Common.Runs.{kinds_at-append, meet, pairs_split, same_path-refl, same_path-sound}
 use Rattle.keep_edit_spec.proofs.Common.ValueThere.{some_cases}
 use Rattle.keep_edit_spec.proofs.Lists.RenamedEnds.{headed, heads, silent_starts}
 use Rattle.keep_edit_spec.proofs.Remove.RemoveRefusal.{NotBegun, lines_begun}
@@ -44,6 +47,10 @@ use Rattle.keep_edit_spec.proofs.Remove.RemoveRefusal.{NotBegun, lines_begun}
 -- the root, or a path whose body begins by a line
 abbrev pub IsBegunIn : List Part → List Mention → Type 0
 IsBegunIn a ms = (a ≡ []) ⊎ SomeOf (IsStated a) ms
+
+-- such a path, or that of a table which dotted keys make
+abbrev pub IsMadeIn : List Part → List Mention → Type 0
+IsMadeIn a ms = IsBegunIn a ms ⊎ (EndsInKey a × SomeOf (IsMentioned is_dotted a) ms)
 
 -- of that path it states nothing, and no array
 abbrev pub StatesNothing : List Part → Mention → Type 0
@@ -62,17 +69,27 @@ begun_define define h g = refl
 begun_define begun h g = absurd cc
 begun_define _ h g = absurd cc
 
+kind_dotted : (k : MentionKind) → is_dotted k ≡ true → k ≡ dotted
+kind_dotted dotted h = refl
+kind_dotted _ h = absurd cc
+
+-- what is said of the path before bars that this is said of it
+barred : (x : Mention) (p : List Part) (was kind : MentionKind) → kinds_allow was kind ≡ false
+    → (way more : List Mention) → AllOf (Allowed x) (way ++ record { path = p; kind = kind } ∷ more) → x.path ≡ p
+    → x.kind ≡ was → ⊥
+barred x p was kind bars way more allowed there is =
+    let yes : kinds_allow x.kind kind ≡ true =
+    (all_right (Allowed x) way (record { path = p; kind = kind } ∷ more) allowed).0 there in
+    let both : false ≡ true = sym bars ∙ ap (λ (k : MentionKind). kinds_allow k kind) (sym is) ∙ yes in
+    absurd cc
+
 clash : (p : List Part) (kind : MentionKind) → kinds_allow define kind ≡ false → (ms way more : List Mention)
     → Across Allowed ms (way ++ record { path = p; kind = kind } ∷ more) → AllOf (NotBegun p) ms
     → SomeOf (IsStated p) ms → ⊥
 clash p kind bars [] way more across none s = absurd s
 clash p kind bars (x ∷ ms) way more across none (inr s) = clash p kind bars ms way more across.1 none.1 s
 clash p kind bars (x ∷ ms) way more across none (inl s) =
-    let is : x.kind ≡ define = begun_define x.kind s.1 (none.0 s.0) in
-    let yes : kinds_allow x.kind kind ≡ true =
-    (all_right (Allowed x) way (record { path = p; kind = kind } ∷ more) across.0).0 s.0 in
-    let both : false ≡ true = sym bars ∙ ap (λ (k : MentionKind). kinds_allow k kind) (sym is) ∙ yes in
-    absurd cc
+    barred x p define kind bars way more across.0 s.0 (begun_define x.kind s.1 (none.0 s.0))
 
 begun_before : (s : Document) (p : List Part) (kind : MentionKind) → EndsInKey p → kinds_allow define kind ≡ false
     → (way more : List Mention) → Rules (mentions_in s ++ (way ++ record { path = p; kind = kind } ∷ more))
@@ -82,6 +99,24 @@ begun_before s p kind ends bars way more rules (inr some) =
     clash p kind bars (mentions_in s) way more
     (pairs_split Allowed (mentions_in s) (way ++ record { path = p; kind = kind } ∷ more) rules).across
     (lines_begun p ends start (lines s)) some
+
+dotted_before : (s : Document) (p : List Part) (kind : MentionKind) → kinds_allow dotted kind ≡ false
+    → (way more : List Mention) → Rules (mentions_in s ++ (way ++ record { path = p; kind = kind } ∷ more))
+    → SomeOf (IsMentioned is_dotted p) (mentions_in s) → ⊥
+dotted_before s p kind bars way more rules some =
+    let new : List Mention = way ++ record { path = p; kind = kind } ∷ more in
+    let (x, said, allowed) =
+    meet (IsMentioned is_dotted p) (λ (m : Mention). AllOf (Allowed m) new) (mentions_in s) some
+    (pairs_split Allowed (mentions_in s) new rules).across in
+    barred x p dotted kind bars way more allowed said.0 (kind_dotted x.kind said.1)
+
+made_before : (s : Document) (p : List Part) (kind : MentionKind) → EndsInKey p → kinds_allow define kind ≡ false
+    → kinds_allow dotted kind ≡ false → (way more : List Mention)
+    → Rules (mentions_in s ++ (way ++ record { path = p; kind = kind } ∷ more)) → IsMadeIn p (mentions_in s) → ⊥
+made_before s p kind ends bars bars_dotted way more rules (inl by_line) =
+    begun_before s p kind ends bars way more rules by_line
+made_before s p kind ends bars bars_dotted way more rules (inr by_dots) =
+    dotted_before s p kind bars_dotted way more rules by_dots.1
 
 -- ---- an element
 
@@ -158,6 +193,13 @@ not_begun s p (inr some) =
     let less : n < elements_of p (reading_after_lines start (lines s)).tables = counts p n start (lines s) some in
     omega (arith, less, ap (elements_of p) (tables_stated start (lines s)))
 
+not_made : (s : Document) (p : List Part)
+    → IsMadeIn (p ++ index (elements_of p (tables_in (mentions_in s))) ∷ []) (mentions_in s) → ⊥
+not_made s p (inl by_line) = not_begun s p by_line
+not_made s p (inr by_dots) =
+    let n : ℕ = elements_of p (tables_in (mentions_in s)) in
+    ends_disjoint (p ++ index n ∷ []) (p ++ index n ∷ []) by_dots.0 (p, n, refl) refl
+
 -- ---- what a header says
 
 way_states : (a : List Part) (ms : List Mention) → AllOf (λ (m : Mention). fact_of m.kind ≡ None) ms
@@ -165,7 +207,7 @@ way_states : (a : List Part) (ms : List Mention) → AllOf (λ (m : Mention). fa
 way_states a [] h g = tt
 way_states a (m ∷ ms) h g = ((λ e. (h.0, g.0)), way_states a ms h.1 g.1)
 
-module _ (s : Document) (k : List ℕ) (ks : List (List ℕ)) (a : List Part) (begins_there : IsBegunIn a (mentions_in s))
+module _ (s : Document) (k : List ℕ) (ks : List (List ℕ)) (a : List Part) (made : IsMadeIn a (mentions_in s))
   where
     abbrev ms : List Mention
     ms = mentions_in s
@@ -182,14 +224,16 @@ module _ (s : Document) (k : List ℕ) (ks : List (List ℕ)) (a : List Part) (b
     way_nothing : AllOf (StatesNothing a) way
     way_nothing = way_states a way (silent_prefixes tables [] (k ∷ ks)) (none_prefixes tables [] (k ∷ ks))
 
-    at_path : (q : List Part) → q ≡ a → IsBegunIn q ms
-    at_path q e = subst (λ (x : List Part). IsBegunIn x ms) (sym e) begins_there
+    at_path : (q : List Part) → q ≡ a → IsMadeIn q ms
+    at_path q e = subst (λ (x : List Part). IsMadeIn x ms) (sym e) made
 
     pub table_new : Rules (ms ++ statement_mentions (end_reading ms) (marks_of.header (k ∷ ks)))
         → AllOf (StatesNothing a) (statement_mentions (end_reading ms) (marks_of.header (k ∷ ks)))
     table_new rules =
-        all_join (StatesNothing a) way (record { path = path; kind = define } ∷ []) way_nothing
-        ((λ e. absurd (begun_before s path define (path_ends tables [] k ks) refl way [] rules (at_path path e))), tt)
+        all_join (StatesNothing a) way (record { path = path; kind = define } ∷ []) way_nothing (
+          (λ e. absurd (made_before s path define (path_ends tables [] k ks) refl refl way [] rules (at_path path e))),
+          tt,
+        )
 
     pub element_new : Rules (ms ++ statement_mentions (end_reading ms) (marks_of.element_header (k ∷ ks)))
         → AllOf (StatesNothing a) (statement_mentions (end_reading ms) (marks_of.element_header (k ∷ ks)))
@@ -197,9 +241,9 @@ module _ (s : Document) (k : List ℕ) (ks : List (List ℕ)) (a : List Part) (b
         let new : Mention = record { path = path ++ index (elements_of path tables) ∷ []; kind = begun } in
         all_join (StatesNothing a) way (record { path = path; kind = marks_of.element } ∷ new ∷ []) way_nothing (
           (λ e.
-              absurd (begun_before s path marks_of.element (path_ends tables [] k ks) refl way (new ∷ []) rules
+              absurd (made_before s path marks_of.element (path_ends tables [] k ks) refl refl way (new ∷ []) rules
               (at_path path e))),
-          ((λ e. absurd (not_begun s path (at_path new.path e))), tt),
+          ((λ e. absurd (not_made s path (at_path new.path e))), tt),
         )
 
 -- ---- the table stays

@@ -2,15 +2,16 @@
 -- more than before, and those have as many elements (`LetsCome`).
 --
 -- A header meets nothing else, and each path on its way has its first keys, so it passes key by key (`goes_on`). It is
--- so if the same is said of those paths (`same_lets`): what the marks refuse at a path is known by what is said of it
+-- so if the same is said of those paths (`same_lets`), and already if each test of what is said of one tells the same
+-- and as many elements are said (`any_lets`): what the marks refuse at a path is known by what is said of it
 -- (`refused_roles`), and so is how many elements it has (`element_count`). Such a path is not at or below one that the
 -- header passes by (`passes_clear`).
 --
--- Theorems: `passes_clear`, `same_lets`, `table_unrefused`, `element_unrefused`.
-use Rattle.std.proofs.Common.{◌≡◌, ℕ, ◌+◌, ◌-◌, Bool, true, false, cond, not, ◌&&◌, ◌==◌, List, [], ◌∷◌, ◌++◌, map}
-use Rattle.std.proofs.Common.{refl, sym, ap, ap₂, ◌∙◌, append_assoc, arith, Option, Some, None, inl, inr}
+-- Theorems: `any_made`; `passes_clear`, `any_lets`, `same_lets`, `table_unrefused`, `element_unrefused`.
+use Rattle.std.proofs.Common.{◌≡◌, ℕ, ◌+◌, ◌-◌, Bool, true, false, cond, not, ◌&&◌, ◌||◌, ◌==◌, List, [], ◌∷◌, ◌++◌}
+use Rattle.std.proofs.Common.{map, refl, sym, ap, ap₂, ◌∙◌, append_assoc, arith, Option, Some, None, inl, inr}
 use Rattle.std.specs.Prelude.{filter}
-use Rattle.std.specs.List.{cons_option, count_by, list_any}
+use Rattle.std.specs.List.{cons_option, count_by, filter_map, list_any}
 use Rattle.std.specs.Option.{option_map}
 use Rattle.std.proofs.lemmas.List.{map-append}
 use Rattle.std.proofs.lemmas.List.Elements.{filter_map-append}
@@ -21,7 +22,7 @@ use Rattle.keep_types.specs.declared.role.Role.TheVariants.{Define, Element, Thr
 use Rattle.keep_syntax.specs.declared.fault.Why.{Why}
 use Rattle.keep_syntax.specs.Tree.{Document}
 use Rattle.keep_path.specs.Path.{Part, index, key, same_path, strip}
-use Rattle.keep_meaning.specs.Marks.{Mention, MentionKind, elements_of, entered_path, marks}
+use Rattle.keep_meaning.specs.Marks.{Mention, MentionKind, elements_of, entered_path, marks, role_of}
 use Rattle.keep_meaning.specs.Meaning.{mentions_in}
 use Rattle.keep_meaning.specs.Nodes.{is_at, is_element, kinds_at}
 use Rattle.keep_meaning.specs.Rules.{ObeysRules, allows, why_of}
@@ -32,9 +33,26 @@ use Rattle.keep_edit_spec.specs.Look.{key_text, keys_in}
 use Rattle.keep_edit_spec.specs.Runs.{PassesBy}
 use Rattle.keep_edit_spec.specs.Refusals.{refusal, tables_in}
 use Rattle.keep_edit_spec.proofs.Append.HeaderConflict.{element_met, table_met}
-use Rattle.keep_edit_spec.proofs.Append.HeaderMarks.{lets_pass, refused_roles, roles_of}
+use Rattle.keep_edit_spec.proofs.Append.HeaderMarks.{lets_pass, refused_roles}
 use Rattle.keep_edit_spec.proofs.Common.Runs.{none_or_some, strip-append, strip-sound}
 use Rattle.keep_edit_spec.proofs.Lists.HeaderApart.{entered_keys, keys_split, last_passes, no_reason}
+
+-- ---- a test of what is made of some
+
+abbrev pub some_passes : {B : Type 0} → (B → Bool) → Option B → Bool
+some_passes T None = false
+some_passes T (Some y) = T y
+
+pub any_made : {A B : Type 0} (f : A → Option B) (T : B → Bool) (xs : List A)
+    → list_any T (filter_map f xs) ≡ list_any (λ (x : A). some_passes T (f x)) xs
+any_made f T [] = refl
+any_made {A = A} {B = B} f T (x ∷ xs) = by (f x) (any_made f T xs)
+  where
+    by : (o : Option B) → list_any T (filter_map f xs) ≡ list_any (λ (x : A). some_passes T (f x)) xs
+        → list_any T (cons_option o (filter_map f xs))
+        ≡ (some_passes T o || list_any (λ (x : A). some_passes T (f x)) xs)
+    by None same = same
+    by (Some y) same = ap (λ (b : Bool). T y || b) same
 
 -- ---- paths with first keys of a header
 
@@ -92,19 +110,29 @@ pub record LetsCome (was now : List Mention) (keys : List (List ℕ)) : Type 0 w
   pub counts : (q : List Part) (rest : List (List ℕ)) → keys ≡ keys_in q ++ rest
       → elements_of q (tables_in now) ≡ elements_of q (tables_in was)
 
+-- where a test of what is said of such a path tells the same as before, and as many elements are said
+pub any_lets : (was now : List Mention) (keys : List (List ℕ))
+    → ((test : MentionKind → Bool) (q : List Part) (rest : List (List ℕ)) → keys ≡ keys_in q ++ rest
+    → list_any test (kinds_at q now) ≡ list_any test (kinds_at q was))
+    → ((q : List Part) (rest : List (List ℕ)) → keys ≡ keys_in q ++ rest
+    → count_by is_element (kinds_at q now) ≡ count_by is_element (kinds_at q was))
+    → LetsCome was now keys
+any_lets was now keys tests elements = record {
+  lets = λ role q rest is h.
+      let T : Role → Bool = λ r. not (allows r role) in
+      refused_roles role q now ∙ any_made role_of T (kinds_at q now)
+      ∙ tests (λ (kind : MentionKind). some_passes T (role_of kind)) q rest is
+      ∙ sym (refused_roles role q was ∙ any_made role_of T (kinds_at q was)) ∙ h;
+  counts = λ q rest is. element_count q now ∙ elements q rest is ∙ sym (element_count q was);
+}
+
 -- where the same is said of each such path
 pub same_lets : (was now : List Mention) (keys : List (List ℕ))
     → ((q : List Part) (rest : List (List ℕ)) → keys ≡ keys_in q ++ rest → kinds_at q now ≡ kinds_at q was)
     → LetsCome was now keys
-same_lets was now keys same = record {
-  lets = λ role q rest is h.
-      refused_roles role q now
-      ∙ ap (λ (kinds : List MentionKind). list_any (λ (r : Role). not (allows r role)) (roles_of kinds))
-      (same q rest is)
-      ∙ sym (refused_roles role q was) ∙ h;
-  counts = λ q rest is.
-      element_count q now ∙ ap (count_by is_element) (same q rest is) ∙ sym (element_count q was);
-}
+same_lets was now keys same =
+    any_lets was now keys (λ test q rest is. ap (list_any test) (same q rest is))
+    (λ q rest is. ap (count_by is_element) (same q rest is))
 
 module _ (was now : List Mention) (all : List (List ℕ)) (come : LetsCome was now all) (role : Role) where
   goes_on : (at : List Part) (k : List ℕ) (ks : List (List ℕ)) → keys_in at ++ k ∷ ks ≡ all

@@ -71,16 +71,10 @@ module _ (profile : Profile) (limit : ℕ) (s : Document) (path : List Part) (c 
   j = end_now.number
 
   -- what is added is beside what goes
-  places_differ : c.at ≢ d.at
-  places_differ e = by beside
-    where
-      by : IsBeside c d → ⊥
-      by (inl after) = absurd (omega (arith, e, after, table.has_bytes profile limit s path c fine h))
-      by (inr before) = absurd (omega (arith, e, before.0))
-
   number_apart : k.number ≢ n
   number_apart e =
-      places_differ (table.start_is profile limit s path c fine h ∙ ap (line_start s) (sym e) ∙ sym d_at)
+      table.begins_elsewhere profile limit s path c fine h d beside
+      (table.start_is profile limit s path c fine h ∙ ap (line_start s) (sym e) ∙ sym d_at)
 
   closed_now : j ≤ length now.ended
   closed_now = elim end_now.moves [

@@ -5,7 +5,7 @@
 -- line before this is not blank (`said`, by SaidBefore), so the body ends where it was (`ends_now`, by EndsInPlace). So
 -- the insert adds its own there (AddsAgain).
 --
--- Theorem: `insert_in_place`.
+-- Theorems: `insert_in_place`; `same_number`.
 use Rattle.std.proofs.Common.{◌≡◌, ℕ, suc, ◌+◌, ◌<◌, ◌≤◌, List, [], ◌∷◌, ◌++◌, length, map, sym, ap, subst, ◌∙◌}
 use Rattle.std.proofs.Common.{length-append, arith, Some, None, inl, inr}
 use Rattle.std.proofs.lemmas.Bool.{cases_lt}
@@ -33,7 +33,7 @@ use Rattle.keep_edit_spec.proofs.Lists.SaidBefore.{EndsSaid, said_before}
 use Rattle.keep_edit_spec.proofs.Lists.TwoKinds.{InsertInPlace}
 
 -- lines that begin at the same byte have the same number
-same_number : (profile : Profile) (limit : ℕ) (s : Document) → IsEditable profile limit s → (i n : ℕ)
+pub same_number : (profile : Profile) (limit : ℕ) (s : Document) → IsEditable profile limit s → (i n : ℕ)
     → i ≤ length s.ended → n ≤ length s.ended → line_start s i ≡ line_start s n → i ≡ n
 same_number profile limit s fine i n few some same = elim (cases_lt i n) [
   | inl less ↦ absurd (omega (arith, same, width_grows profile n i s.ended fine.valid.ended less some))

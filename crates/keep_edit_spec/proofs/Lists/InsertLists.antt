@@ -1,50 +1,53 @@
 -- If one of some edits that are made at once adds a line, so are the others with an insert of another value there in
 -- its place; and they make what a later set of the value makes after all of them.
 --
--- Right after the insert the set replaces the line's value (ValueAdded). The insert leaves each later edit alone, whose
--- change is beside the whole line, so the set makes its change still (`set_there`, by induction on the later edits).
--- With the later value in the text of the line this is the text that the other edits make, and a text is that of one
--- document (`same_document`). The insert is found by its change, which no other edit makes (`found_there`, by
--- OneInsert).
+-- Right after the insert the set replaces the line's value (ValueAdded), behind keys that are as long as in the first
+-- document (AddedKeys). The insert leaves each later edit alone, whose change is beside the whole line, so the set
+-- makes its change still (`set_there`, by induction on the later edits). With the later value in the text of the line
+-- this is the text that the other edits make, and a text is that of one document (`same_document`). The insert is found
+-- by its change, which no other edit makes (`found_there`, by OneInsert).
 --
 -- Theorem: `run_goes_on_inserted`.
-use Rattle.std.proofs.Common.{◌≡◌, ◌≢◌, ℕ, ◌+◌, ◌≤◌, List, [], ◌∷◌, ◌++◌, length, map, take, All, refl, sym}
-use Rattle.std.proofs.Common.{ap, ap₂, subst, subst₂, ◌∙◌, arith, length-append, None, ◌⊎◌, inl, inr}
+use Rattle.std.proofs.Common.{◌≡◌, ◌≢◌, ℕ, suc, ◌+◌, ◌≤◌, Bool, true, false, List, [], ◌∷◌, ◌++◌, length, take, All}
+use Rattle.std.proofs.Common.{refl, sym, ap, ap₂, subst, subst₂, ◌∙◌, arith, length-append, None, ◌⊎◌, inl, inr}
 use Rattle.std.specs.Prelude.{IsTrue}
 use Rattle.std.proofs.lemmas.List.Elements.{All-head, All-nil, All-tail, All-weaker}
 use Rattle.std.proofs.lemmas.Option.{same_Some}
 use Rattle.keep_types.specs.declared.leaf.Profile.{Profile}
 use Rattle.keep_syntax.specs.Tree.{Document, Value, bom_leaves, text, text_of, value_text}
 use Rattle.keep_syntax.proofs.Shared.{one_document}
-use Rattle.keep_path.specs.Path.{Part, key}
-use Rattle.keep_meaning.specs.Meaning.{mentions_in}
-use Rattle.keep_edit_spec.specs.AddedLines.{AddsLine, first_new}
+use Rattle.keep_path.specs.Path.{Part}
+use Rattle.keep_edit_spec.specs.AddedLines.{first_new}
 use Rattle.keep_edit_spec.specs.Changed.{put}
+use Rattle.keep_edit_spec.specs.DottedLines.{AddsLineTo, into_dotted}
 use Rattle.keep_edit_spec.specs.Edits.{Edit, edited_document, insert, set}
 use Rattle.keep_edit_spec.specs.InsertLists.{RunGoesOnInserted}
 use Rattle.keep_edit_spec.specs.Laws.{IsEditable}
 use Rattle.keep_edit_spec.specs.Lines.{newline_of}
-use Rattle.keep_edit_spec.specs.Look.{holder}
 use Rattle.keep_edit_spec.specs.Refusals.{refusal}
-use Rattle.keep_edit_spec.specs.RunLists.{AreAtOnce, MadeEdit, changes_of, document_after, made, seen_of}
-use Rattle.keep_edit_spec.specs.Runs.{ArePlain, IsBeforeHeaders, IsPlain, IsRun, KeepsPlace, LeavesAlone, LetsCome}
-use Rattle.keep_edit_spec.specs.Runs.{is_insert, path_of, seen}
+use Rattle.keep_edit_spec.specs.RunLists.{AreAtOnce, MadeEdit, changes_of, document_after, lines_of, made, seen_of}
+use Rattle.keep_edit_spec.specs.Runs.{ArePlain, IsBeforeHeaders, IsInOrder, IsPlain, IsRun, KeepsPlace, LeavesAlone}
+use Rattle.keep_edit_spec.specs.Runs.{LetsCome, MakesChange, is_insert, seen}
 use Rattle.keep_edit_spec.specs.SetValues.{SetsValue}
 use Rattle.keep_edit_spec.specs.TextChanges.{Follow, IsBeside, TextChange, change_at, moved_by_all, moved_past}
 use Rattle.keep_edit_spec.specs.TextChanges.{place_of_change, text_with, with_change}
 use Rattle.keep_edit_spec.proofs.EditLaws.{change_put, set_lawful}
-use Rattle.keep_edit_spec.proofs.Insert.KeysAtEnd.{first_is}
+use Rattle.keep_edit_spec.proofs.Lists.AddedKeys.{as_long, keys_text, line_text_is, same_line}
+use Rattle.keep_edit_spec.proofs.Lists.AddedKeyval.{AddsKeyval, keyval_of, keys as keys_of_line}
+use Rattle.keep_edit_spec.proofs.Lists.DottedLine as dotted
 use Rattle.keep_edit_spec.proofs.Lists.ExchangedChanges.{IsAmong, IsAmongFirst, IsAmongMore, IsFoundThere}
 use Rattle.keep_edit_spec.proofs.Lists.ExchangedChanges.{found_other, found_own, goes_among, moved_there, put_among}
 use Rattle.keep_edit_spec.proofs.Lists.ExchangedChanges.{put_part, starts_there, text_after, text_parts, text_to}
 use Rattle.keep_edit_spec.proofs.Lists.ExchangedEdits.{alone_more, beside_more, beside_of, changes_more, each_more}
 use Rattle.keep_edit_spec.proofs.Lists.ExchangedEdits.{left_more, placed_more, set_still}
 use Rattle.keep_edit_spec.proofs.Lists.MadeChanges.{within_text}
+use Rattle.keep_edit_spec.proofs.Lists.NewPaths.{any_keys}
 use Rattle.keep_edit_spec.proofs.Lists.OneInsert.{only_insert}
 use Rattle.keep_edit_spec.proofs.Lists.Places.{at_is, width}
 use Rattle.keep_edit_spec.proofs.Lists.RunLists.{run_is_known}
+use Rattle.keep_edit_spec.proofs.Lists.StillMakes.{dotted_is}
 use Rattle.keep_edit_spec.proofs.Lists.TextChanges.{all_with}
-use Rattle.keep_edit_spec.proofs.Lists.ValueAdded.{keys_text, line_text_is, same_keys, set_after}
+use Rattle.keep_edit_spec.proofs.Lists.ValueAdded.{set_after}
 
 -- what holds of all holds of the one
 of_one : (s : Document) (P : Edit → Type 0) (m : MadeEdit) (later earlier : List MadeEdit)
@@ -53,38 +56,61 @@ of_one s P m [] earlier h = All-head P (seen s m.edit) (seen_of s earlier) h
 of_one s P m (x ∷ later) earlier h =
     of_one s P m later earlier (All-tail P (seen s x.edit) (seen_of s (later ++ m ∷ earlier)) h)
 
+-- Two inserts of one path add their lines at one place.
+same_at : (profile : Profile) (limit : ℕ) (s : Document) (path : List Part) (value more : Value) (to : Bool)
+    (c d : TextChange) → AddsLineTo to profile limit s path value c → AddsLineTo to profile limit s path more d
+    → c.at ≡ d.at
+same_at profile limit s path value more false c d h k =
+    let number : h.number ≡ k.number = same_Some h.number k.number (sym h.ends ∙ k.ends) in
+    at_is profile limit s path value c h
+    ∙ ap (λ (n : ℕ). length (text_of (bom_leaves s.bom)) + width (take n s.ended)) number
+    ∙ sym (at_is profile limit s path more d k)
+same_at profile limit s path value more true c d h k =
+    let number : h.number ≡ k.number = same_Some h.number k.number (sym h.last ∙ k.last) in
+    dotted.at_is profile limit s path value c h
+    ∙ ap (λ (n : ℕ). length (text_of (bom_leaves s.bom)) + width (take (suc n) s.ended)) number
+    ∙ sym (dotted.at_is profile limit s path more d k)
+
 module _ (profile : Profile) (limit : ℕ) (s : Document) (path : List Part) (value : Value) (c : TextChange)
-    (more : Value) (d : TextChange) (fine : IsEditable profile limit s) (h : AddsLine profile limit s path value c)
-    (k : AddsLine profile limit s path more d) where
+    (more : Value) (d : TextChange) (to : Bool) (fine : IsEditable profile limit s)
+    (h : AddsLineTo to profile limit s path value c) (k : AddsLineTo to profile limit s path more d) where
   abbrev m : MadeEdit
   m = made (insert path value) c
 
   abbrev by : MadeEdit
   by = made (insert path more) d
 
+  abbrev line : AddsKeyval profile limit s path value c
+  line = keyval_of profile limit s path value c to fine h
+
+  abbrev other_line : AddsKeyval profile limit s path more d
+  other_line = keyval_of profile limit s path more d to fine k
+
   -- ---- the two lines
 
+  none : c.size ≡ 0
+  none = line.puts.adds
+
+  no_size : d.size ≡ 0
+  no_size = other_line.puts.adds
+
   abbrev keys : List ℕ
-  keys = keys_text (h.text ∷ h.more)
+  keys = keys_text (keys_of_line profile limit s path value c line)
 
   abbrev newline : List ℕ
   newline = (newline_of s).text
 
+  at : c.at ≡ d.at
+  at = same_at profile limit s path value more to c d h k
+
   c_is : c.new ≡ keys ++ (value_text value ++ newline)
-  c_is = line_text_is profile limit s path value c h
+  c_is = line_text_is profile limit s path value c line
 
   d_is : d.new ≡ keys ++ (value_text more ++ newline)
-  d_is = line_text_is profile limit s path more d k
+  d_is =
+      line_text_is profile limit s path more d other_line
       ∙ ap (λ (ks : List (List ℕ)). keys_text ks ++ (value_text more ++ newline))
-      (same_keys path (holder path (mentions_in s)) (holder path (mentions_in s)) (k.text ∷ k.more) (h.text ∷ h.more)
-      k.new h.new refl)
-
-  at : c.at ≡ d.at
-  at =
-      let number : h.number ≡ k.number = same_Some h.number k.number (sym h.ends ∙ k.ends) in
-      at_is profile limit s path value c h
-      ∙ ap (λ (n : ℕ). length (text_of (bom_leaves s.bom)) + width (take n s.ended)) number
-      ∙ sym (at_is profile limit s path more d k)
+      (sym (same_line profile limit s path value more c d fine line other_line at))
 
   -- the other insert after the edits before it
   alone_first : (earlier : List MadeEdit)
@@ -97,15 +123,17 @@ module _ (profile : Profile) (limit : ℕ) (s : Document) (path : List Part) (va
   beside_first : (earlier : List MadeEdit) → All (λ x. IsBeside x c) (changes_of earlier)
       → All (λ x. IsBeside x d) (changes_of earlier)
   beside_first earlier =
-      All-weaker (λ x. IsBeside x c) (λ x. IsBeside x d) (beside_of c d at h.adds k.adds) (changes_of earlier)
+      All-weaker (λ x. IsBeside x c) (λ x. IsBeside x d) (beside_of c d at none no_size) (changes_of earlier)
 
   placed_first : (earlier : List MadeEdit)
-      → KeepsPlace (text s) (seen_of s earlier) (changes_of earlier) (insert path value) c
-      → KeepsPlace (text s) (seen_of s earlier) (changes_of earlier) (insert path more) d
+      → KeepsPlace s (seen_of s earlier) (changes_of earlier) (lines_of s earlier) (insert path value) c
+      → KeepsPlace s (seen_of s earlier) (changes_of earlier) (lines_of s earlier) (insert path more) d
   placed_first earlier =
-      subst (λ (n : ℕ). All (λ e. IsTrue (is_insert e)) (seen_of s earlier)
+      subst (λ (n : ℕ). IsInOrder (lines_of s earlier) (changes_of earlier)
+      (record { first = first_new s path; at = n; dotted = into_dotted s path })
+      × (All (λ e. IsTrue (is_insert e)) (seen_of s earlier)
       ⊎ (ArePlain (text s) (changes_of earlier) × (All (LetsCome (text s) (changes_of earlier) n) (changes_of earlier)
-      × IsBeforeHeaders (text s) (seen_of s earlier) n))) at
+      × IsBeforeHeaders (text s) (seen_of s earlier) n)))) at
 
   -- ---- the set after the edits
 
@@ -117,43 +145,29 @@ module _ (profile : Profile) (limit : ℕ) (s : Document) (path : List Part) (va
     among : IsAmong c d (changes_of ms) (changes_of others)
     sets : SetsValue profile limit (document_after s ms) path more (there (moved_by_all among.before c.at))
 
-  -- where the first new key is the same, it comes after as many steps
-  same_length : (now : Document) (t : List ℕ) (ts : List (List ℕ))
-      → path ≡ holder path (mentions_in now) ++ map key (t ∷ ts) → first_new now path ≡ first_new s path
-      → length (holder path (mentions_in now)) ≡ length (holder path (mentions_in s))
-  same_length now t ts new same =
-      omega (
-        arith,
-        length-append (holder path (mentions_in now)) (key t ∷ []),
-        length-append (holder path (mentions_in s)) (key h.text ∷ []),
-        ap length (sym (first_is now path t ts new) ∙ same ∙ first_is s path h.text h.more h.new),
-      )
-
   set_first : (earlier : List MadeEdit) → AreAtOnce profile limit s (m ∷ earlier)
       → IsSetThere (m ∷ earlier) (by ∷ earlier)
   set_first earlier (makes, (alone, (beside, (placed, others)))) =
-      let run : IsRun profile limit s (seen_of s earlier) (changes_of earlier) (document_after s earlier) =
+      let run : IsRun profile limit s (seen_of s earlier) (changes_of earlier) (lines_of s earlier)
+      (document_after s earlier) =
       run_is_known profile limit s earlier fine others in
       let first : IsAmongFirst (changes_of earlier) c d = put_among (changes_of earlier) c d run.follow at in
       let now : Document = document_after s earlier in
-      let (adds, as_seen) = run.later (insert path value) c makes alone beside placed in
-      let (adds_more, more_seen) =
-      run.later (insert path more) d k (alone_first earlier alone) (beside_first earlier beside)
+      let moved : TextChange = moved_past (changes_of earlier) c in
+      let moved_more : TextChange = moved_past (changes_of earlier) d in
+      let (made_now, still) = run.later (insert path value) c makes alone beside placed in
+      let (made_more, still_more) =
+      run.later (insert path more) d (to, k) (alone_first earlier alone) (beside_first earlier beside)
       (placed_first earlier placed) in
-      let first_same : first_new now path ≡ first_new s path = ap path_of as_seen in
-      let long : length (holder path (mentions_in now)) ≡ length (holder path (mentions_in s)) =
-      same_length now adds.text adds.more adds.new first_same in
-      let same : adds.text ∷ adds.more ≡ h.text ∷ h.more =
-      same_keys path (holder path (mentions_in now)) (holder path (mentions_in s)) (adds.text ∷ adds.more)
-      (h.text ∷ h.more) adds.new h.new long in
+      let line_now : AddsKeyval profile limit now path value moved =
+      keyval_of profile limit now path value moved made_now.0 run.editable made_now.1 in
+      let long : length (keys_text (keys_of_line profile limit now path value moved line_now)) ≡ length keys =
+      as_long profile limit now s path value moved c run.editable fine line_now line refl in
       record {
         among = first.among;
-        sets = subst₂ (λ (n : ℕ) (ks : List (List ℕ)). SetsValue profile limit
-            (edited_document now (insert path value)) path more
-            (change_at (n + length (keys_text ks)) (length (value_text value)) (value_text more)))
-            (sym first.start) same
-            (set_after profile limit now path value (moved_past (changes_of earlier) c) run.editable adds more
-            (moved_past (changes_of earlier) d) adds_more);
+        sets = subst₂ (λ (n m : ℕ). SetsValue profile limit (edited_document now (insert path value)) path more
+            (change_at (n + m) (length (value_text value)) (value_text more))) (sym first.start) long
+            (set_after profile limit now path value moved line_now run.editable made_now more moved_more made_more);
       }
 
   few : length keys + length (value_text value) ≤ length c.new
@@ -171,14 +185,14 @@ module _ (profile : Profile) (limit : ℕ) (s : Document) (path : List Part) (va
   set_there (x ∷ later) earlier (makes, (alone, (beside, (placed, others)))) =
       let ms : List MadeEdit = later ++ m ∷ earlier in
       let now : Document = document_after s ms in
-      let run : IsRun profile limit s (seen_of s ms) (changes_of ms) now =
+      let run : IsRun profile limit s (seen_of s ms) (changes_of ms) (lines_of s ms) now =
       run_is_known profile limit s ms fine others in
       let before : IsSetThere ms (later ++ by ∷ earlier) = set_there later earlier others in
       let start : ℕ = moved_by_all before.among.before c.at in
       let e : TextChange = moved_past (changes_of ms) x.change in
       let (made_now, as_seen) = run.later x.edit x.change makes alone beside placed in
       let goes : IsAmongMore c d (changes_of ms) (changes_of (later ++ by ∷ earlier)) start x.change =
-      goes_among c d (changes_of ms) (changes_of (later ++ by ∷ earlier)) before.among x.change h.adds at run.follow
+      goes_among c d (changes_of ms) (changes_of (later ++ by ∷ earlier)) before.among x.change none at run.follow
       beside in
       let next : ℕ = moved_by_all goes.among.before c.at in
       let (side, moves) =
@@ -187,8 +201,9 @@ module _ (profile : Profile) (limit : ℕ) (s : Document) (path : List Part) (va
         among = goes.among;
         sets = subst (λ (n : ℕ). SetsValue profile limit (edited_document now x.edit) path more
             (change_at n (length (value_text value)) (value_text more))) moves
-            (set_still profile limit s now path value more c h (there start) run.editable before.sets x.edit e x.change
-            makes (of_one s (λ f. LeavesAlone f (seen s x.edit)) m later earlier alone) made_now as_seen side);
+            (set_still profile limit s now path value more (any_keys profile limit s path value c to h) (there start)
+            run.editable before.sets x.edit e x.change makes
+            (of_one s (λ f. LeavesAlone f (seen s x.edit)) m later earlier alone) made_now as_seen side);
       }
 
   -- ---- the other edits
@@ -197,7 +212,7 @@ module _ (profile : Profile) (limit : ℕ) (s : Document) (path : List Part) (va
       → IsPlain d.new ⊎ All (λ e. IsTrue (is_insert e)) (seen_of s (later ++ m ∷ earlier))
       → AreAtOnce profile limit s (later ++ m ∷ earlier) → AreAtOnce profile limit s (later ++ by ∷ earlier)
   at_once [] earlier plain (makes, (alone, (beside, (placed, others)))) =
-      (k, (alone_first earlier alone, (beside_first earlier beside, (placed_first earlier placed, others))))
+      ((to, k), (alone_first earlier alone, (beside_first earlier beside, (placed_first earlier placed, others))))
   at_once (x ∷ later) earlier plain (makes, (alone, (beside, (placed, others)))) =
       let ms : List MadeEdit = later ++ m ∷ earlier in
       let among : IsAmong c d (changes_of ms) (changes_of (later ++ by ∷ earlier)) =
@@ -208,10 +223,10 @@ module _ (profile : Profile) (limit : ℕ) (s : Document) (path : List Part) (va
               (left_more (first_new s path) value more (seen s x.edit)) alone,
           (
             changes_more (λ y. IsBeside y x.change) c d (changes_of ms) (changes_of (later ++ by ∷ earlier)) among
-                (beside_more c d at h.adds k.adds x.change) beside,
+                (beside_more c d at none no_size x.change) beside,
             (
-              placed_more c d at h.adds k.adds (text s) (changes_of ms) (changes_of (later ++ by ∷ earlier)) among s
-                  path value more later earlier x.edit x.change (alike plain) placed,
+              placed_more c d at none no_size s (changes_of ms) (changes_of (later ++ by ∷ earlier)) among path value
+                  more later earlier x.edit x.change (alike plain) placed,
               at_once later earlier (fewer plain) others,
             ),
           ),
@@ -240,10 +255,11 @@ module _ (profile : Profile) (limit : ℕ) (s : Document) (path : List Part) (va
     abbrev now : Document
     now = document_after s ms
 
-    run : IsRun profile limit s (seen_of s ms) (changes_of ms) now
+    run : IsRun profile limit s (seen_of s ms) (changes_of ms) (lines_of s ms) now
     run = run_is_known profile limit s ms fine all
 
-    other_run : IsRun profile limit s (seen_of s others) (changes_of others) (document_after s others)
+    other_run : IsRun profile limit s (seen_of s others) (changes_of others) (lines_of s others)
+        (document_after s others)
     other_run = run_is_known profile limit s others fine still
 
     -- the text on both sides of the line
@@ -261,7 +277,7 @@ module _ (profile : Profile) (limit : ℕ) (s : Document) (path : List Part) (va
 
     text_other : text (document_after s others) ≡ left ++ ((keys ++ (value_text more ++ newline)) ++ right)
     text_other =
-        let ends : d.at + d.size ≡ c.at + c.size = omega (arith, at, h.adds, k.adds) in
+        let ends : d.at + d.size ≡ c.at + c.size = omega (arith, at, none, no_size) in
         other_run.text ∙ ap (text_with 0 (text s)) it.among.other
         ∙ text_parts 0 (text s) it.among.before it.among.after d (subst (Follow 0) it.among.other other_run.follow)
         ∙ ap₂ (λ (n z : ℕ).
@@ -272,7 +288,7 @@ module _ (profile : Profile) (limit : ℕ) (s : Document) (path : List Part) (va
     starts =
         starts_there (text s) it.among.before it.among.after c
         (let in_text : c.at + c.size ≤ length (text s) =
-        within_text profile limit s (insert path value) c fine h in omega (arith, in_text))
+        within_text profile limit s (insert path value) c fine (to, h) in omega (arith, in_text))
         (subst (Follow 0) it.among.is run.follow)
 
     text_then : text (edited_document now (set path more)) ≡ text (document_after s others)
@@ -301,8 +317,8 @@ record IsFound (path : List Part) (more : Value) (ms : List MadeEdit) (before : 
   changes : changes_of (later ++ made (insert path more) d ∷ earlier) ≡ before ++ d ∷ after
 
 module _ (profile : Profile) (limit : ℕ) (s : Document) (path : List Part) (value : Value) (c : TextChange)
-    (more : Value) (d : TextChange) (fine : IsEditable profile limit s) (h : AddsLine profile limit s path value c)
-    (same : c.at ≡ d.at) where
+    (more : Value) (d : TextChange) (to : Bool) (fine : IsEditable profile limit s)
+    (h : AddsLineTo to profile limit s path value c) (same : c.at ≡ d.at) where
   -- edits that leave an insert of the path alone make other changes
   others_differ : (ms : List MadeEdit) (new : Value) → AreAtOnce profile limit s ms
       → All (λ e. LeavesAlone e (seen s (insert path new))) (seen_of s ms) → All (λ x. x ≢ c) (changes_of ms)
@@ -311,7 +327,7 @@ module _ (profile : Profile) (limit : ℕ) (s : Document) (path : List Part) (va
       all_with (λ y. y ≢ c) (changes_of ms) x.change
       (others_differ ms new others
       (All-tail (λ e. LeavesAlone e (seen s (insert path new))) (seen s x.edit) (seen_of s ms) alone))
-      (by (only_insert profile limit s path value c fine h x.edit x.change makes)
+      (by (only_insert profile limit s path value c fine (to, h) x.edit x.change makes)
       (All-head (λ e. LeavesAlone e (seen s (insert path new))) (seen s x.edit) (seen_of s ms) alone))
     where
       by : ((w : Value) × (x.edit ≡ insert path w)) ⊎ (x.change ≢ c)
@@ -328,7 +344,7 @@ module _ (profile : Profile) (limit : ℕ) (s : Document) (path : List Part) (va
       no_more [] e = absurd cc
       no_more (y ∷ l) e = absurd cc
   found_there (x ∷ ms) before after (makes, (alone, (beside, (placed, others)))) is =
-      by (only_insert profile limit s path value c fine h x.edit x.change makes)
+      by (only_insert profile limit s path value c fine (to, h) x.edit x.change makes)
       (λ l r. found_there ms l r others)
     where
       by : ((w : Value) × (x.edit ≡ insert path w)) ⊎ (x.change ≢ c)
@@ -362,20 +378,21 @@ module _ (profile : Profile) (limit : ℕ) (s : Document) (path : List Part) (va
           }
 
 pub run_goes_on_inserted : RunGoesOnInserted
-run_goes_on_inserted profile limit s ms path value more before c d after fine all adds is makes plain =
-    let same : c.at ≡ d.at = at profile limit s path value c more d fine adds makes in
+run_goes_on_inserted profile limit s ms path value more to before c d after fine all adds is makes plain =
+    let same : c.at ≡ d.at = same_at profile limit s path value more to c d adds makes in
     let found : IsFound path more ms before c d after =
-    found_there profile limit s path value c more d fine adds same ms before after all is in
+    found_there profile limit s path value c more d to fine adds same ms before after all is in
     let own : Value = found.value in
     let others : List MadeEdit = found.later ++ made (insert path more) d ∷ found.earlier in
     let ours : AreAtOnce profile limit s (found.later ++ made (insert path own) c ∷ found.earlier) =
     subst (AreAtOnce profile limit s) found.all all in
-    let its : AddsLine profile limit s path own c = its_own found.later found.earlier own ours in
+    let its : AddsLineTo to profile limit s path own c =
+    of_kind own (its_own found.later found.earlier own ours) in
     let still : AreAtOnce profile limit s others =
-    at_once profile limit s path own c more d fine its makes found.later found.earlier
+    at_once profile limit s path own c more d to fine its makes found.later found.earlier
     (subst (λ (l : List MadeEdit). IsPlain d.new ⊎ All (λ e. IsTrue (is_insert e)) (seen_of s l)) found.all plain)
     ours in
-    let there_set = set_there profile limit s path own c more d fine its makes found.later found.earlier ours in
+    let there_set = set_there profile limit s path own c more d to fine its makes found.later found.earlier ours in
     record {
       value = own;
       others = others;
@@ -385,12 +402,19 @@ run_goes_on_inserted profile limit s ms path value more before c d after fine al
       allowed = subst (λ (l : List MadeEdit). refusal profile limit (document_after s l) (set path more) ≡ None)
           (sym found.all) there_set.sets.allowed;
       same = ap (λ (l : List MadeEdit). edited_document (document_after s l) (set path more)) found.all
-          ∙ same_document profile limit s path own c more d fine its makes
+          ∙ same_document profile limit s path own c more d to fine its makes
           (found.later ++ made (insert path own) c ∷ found.earlier) others there_set ours still;
       still = still;
     }
   where
+    -- an insert there adds its line to a table of the same kind
+    of_kind : (w : Value) → MakesChange profile limit s (insert path w) c → AddsLineTo to profile limit s path w c
+    of_kind w (b, h) =
+        subst (λ (b : Bool). AddsLineTo b profile limit s path w c)
+        (sym (dotted_is b profile limit s path w c h) ∙ dotted_is to profile limit s path value c adds) h
+
     its_own : (later earlier : List MadeEdit) (w : Value)
-        → AreAtOnce profile limit s (later ++ made (insert path w) c ∷ earlier) → AddsLine profile limit s path w c
+        → AreAtOnce profile limit s (later ++ made (insert path w) c ∷ earlier)
+        → MakesChange profile limit s (insert path w) c
     its_own [] earlier w h = h.0
     its_own (x ∷ later) earlier w h = its_own later earlier w h.1.1.1.1

@@ -3,9 +3,9 @@
 --
 -- The new line comes right after a keyval, so the body that this one is in becomes a line longer, and no other does
 -- (`moves_through`): each end of a body at that place or after it is a line later (`cut_through`). The document says of
--- the second path what it said (DottedSaid), and the same line comes (PutsKeyval).
+-- the second path what it said (SaidOnWay), and the same line comes (PutsKeyval).
 --
--- Theorem: `line_after_dotted`.
+-- Theorems: `line_after_dotted`; `cut_through`.
 use Rattle.std.proofs.Common.{◌≡◌, ◌≢◌, ℕ, zero, suc, ◌<◌, true, false, List, [], ◌∷◌, ◌++◌, length, refl, sym}
 use Rattle.std.proofs.Common.{ap, ◌∙◌, append_assoc, length-append, arith, Some, Option}
 use Rattle.keep_types.specs.declared.leaf.Profile.{Profile}
@@ -25,10 +25,11 @@ use Rattle.keep_edit_spec.proofs.Lists.BodyEnds.{EachMoves, IsCut, Moves, end_mo
 use Rattle.keep_edit_spec.proofs.Lists.BodyEnds.{later_from, later_positive, later_suc, length_after}
 use Rattle.keep_edit_spec.proofs.Lists.DottedLine as line
 use Rattle.keep_edit_spec.proofs.Lists.DottedLine.{lines_now, puts}
-use Rattle.keep_edit_spec.proofs.Lists.DottedSaid.{holder_stays, refusal_stays}
+use Rattle.keep_edit_spec.proofs.Lists.LineOnWay.{AddsOnWay, dotted_on_way}
 use Rattle.keep_edit_spec.proofs.Lists.NewPaths.{InsertsKeys, line_keys}
 use Rattle.keep_edit_spec.proofs.Lists.Places.{later_line}
 use Rattle.keep_edit_spec.proofs.Lists.PutsKeyval.{PutsKeyval, line_still}
+use Rattle.keep_edit_spec.proofs.Lists.SaidOnWay.{holder_stays, refusal_stays}
 
 -- ---- lengths of bodies
 
@@ -78,7 +79,7 @@ keyval_goes a r before after comment (header b k x) h m = absurd cc
 keyval_goes a r before after comment (element b k x) h m = absurd cc
 keyval_goes a r before after comment (keyval name v) h m = refl
 
-cut_through : (name : Name) (v : Value) (a : List Part) (ls : List Line) (i : ℕ)
+pub cut_through : (name : Name) (v : Value) (a : List Part) (ls : List Line) (i : ℕ)
     → last_line (leads_dotted a) start ls ≡ Some i → IsCut name v ls (suc i)
 cut_through name v a ls i e =
     let f : IsLast (leads_dotted a) start ls i = last_found (leads_dotted a) start ls i e in
@@ -106,10 +107,11 @@ line_after_dotted profile limit s path value c other more d fine h k differs =
     let n : ℕ = line.n profile limit s path value c h in
     let name : Name = name_with (line.keys profile limit s path value c h) in
     let p : PutsKeyval s now n name value c = puts profile limit s path value c h fine in
+    let way : AddsOnWay profile limit s path value = dotted_on_way profile limit s path value c h in
     let its : InsertsKeys profile limit s other more = line_keys profile limit s other more d k in
     line_still s now n name value c p profile limit other more d fine k
-    (holder_stays profile limit s path value c h other more its differs)
-    (refusal_stays profile limit s path value c h other more its differs)
+    (holder_stays profile limit s path value way other more its differs)
+    (refusal_stays profile limit s path value way other more its differs)
     (end_moves name value s now n (holder other (mentions_in s)) k.number
     (cut_through name value (holder path (mentions_in s)) (lines s) h.number h.last)
     (lines_now profile limit s path value c h) k.ends)

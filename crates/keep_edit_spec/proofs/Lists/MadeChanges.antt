@@ -4,16 +4,20 @@
 -- with the one is the text with the other (`change_puts`).
 --
 -- Theorems: `change_is_there`, `removes_there`, `change_allowed`, `change_lawful`, `within_text`, `change_puts`;
--- `same_place`: where nothing goes.
+-- `same_place`: where nothing goes; `added`: what all lines have that inserts add.
 use Rattle.std.proofs.Common.{◌≡◌, ℕ, ◌+◌, ◌<◌, ◌≤◌, List, [], length, sym, ap, subst, ◌∙◌, arith, None, inl, inr}
+use Rattle.std.proofs.Common.{IsUtf8, true, false}
+use Rattle.std.specs.List.{AllByRecursion}
 use Rattle.std.proofs.lemmas.List.{append-nil}
 use Rattle.keep_types.specs.declared.leaf.Profile.{Profile}
-use Rattle.keep_syntax.specs.Tree.{Document, text}
+use Rattle.keep_types.specs.declared.leaf.Profile.TheVariants.{Wide}
+use Rattle.keep_syntax.specs.Tree.{Document, Value, text}
 use Rattle.keep_path.specs.Path.{Part}
 use Rattle.keep_edit_spec.specs.Changed.{Place, put}
 use Rattle.keep_edit_spec.specs.Edits.{Edit, append_element, append_table, insert, place, remove, rename, set}
 use Rattle.keep_edit_spec.specs.Insertion.{put_in}
-use Rattle.keep_edit_spec.specs.Laws.{IsEditable, IsLawfulEdit}
+use Rattle.keep_edit_spec.specs.Laws.{IsEditable, IsGivenValue, IsLawfulEdit}
+use Rattle.keep_edit_spec.specs.Look.{keys_in}
 use Rattle.keep_edit_spec.specs.Refusals.{refusal}
 use Rattle.keep_edit_spec.specs.Runs.{IsOfPlace, MakesChange}
 use Rattle.keep_edit_spec.specs.TextChanges.{TextChange, place_of_change, IsWider}
@@ -30,6 +34,22 @@ pub same_place : (c : TextChange) → c.size ≡ 0 → put_in c.at c.new ≡ pla
 same_place c none =
     ap (λ (e : ℕ). record { start = c.at; end = e; new = c.new })
     (let e : c.at ≡ c.at + c.size = omega (arith, none) in e)
+
+-- what both kinds of lines have that an insert adds
+pub record IsAdded (profile : Profile) (limit : ℕ) (s : Document) (path : List Part) (value : Value) (c : TextChange)
+    : Type 0 where
+  pub utf8 : AllByRecursion IsUtf8 (keys_in path)
+  pub given : IsGivenValue Wide value
+  pub allowed : refusal profile limit s (insert path value) ≡ None
+  pub adds : c.size ≡ 0
+  pub is : place s (insert path value) ≡ put_in c.at c.new
+
+pub added : (profile : Profile) (limit : ℕ) (s : Document) (path : List Part) (value : Value) (c : TextChange)
+    → MakesChange profile limit s (insert path value) c → IsAdded profile limit s path value c
+added profile limit s path value c (true, h) =
+    record { utf8 = h.utf8; given = h.given; allowed = h.allowed; adds = h.adds; is = h.is }
+added profile limit s path value c (false, h) =
+    record { utf8 = h.utf8; given = h.given; allowed = h.allowed; adds = h.adds; is = h.is }
 
 no_text : (c : TextChange) → c.new ≡ [] → record { start = c.at; end = c.at + c.size; new = [] } ≡ place_of_change c
 no_text c none = ap (λ (t : List ℕ). record { start = c.at; end = c.at + c.size; new = t }) (sym none)
@@ -59,7 +79,9 @@ removes_there profile limit s path c fine (inr (inr h)) = (
 
 pub change_is_there : (profile : Profile) (limit : ℕ) (s : Document) (e : Edit) (c : TextChange)
     → IsEditable profile limit s → MakesChange profile limit s e c → IsOfPlace s e c
-change_is_there profile limit s (insert path value) c fine h = h.is ∙ same_place c h.adds
+change_is_there profile limit s (insert path value) c fine h =
+    let a : IsAdded profile limit s path value c = added profile limit s path value c h in
+    a.is ∙ same_place c a.adds
 change_is_there profile limit s (remove path) c fine h = (removes_there profile limit s path c fine h).0
 change_is_there profile limit s (set path value) c fine h = h.is
 change_is_there profile limit s (rename path name) c fine h = h.is
@@ -68,7 +90,7 @@ change_is_there profile limit s (append_element keys) c fine h = h.is
 
 pub change_allowed : (profile : Profile) (limit : ℕ) (s : Document) (e : Edit) (c : TextChange)
     → MakesChange profile limit s e c → refusal profile limit s e ≡ None
-change_allowed profile limit s (insert path value) c h = h.allowed
+change_allowed profile limit s (insert path value) c h = (added profile limit s path value c h).allowed
 change_allowed profile limit s (remove path) c (inl h) = h.allowed
 change_allowed profile limit s (remove path) c (inr (inl h)) = h.allowed
 change_allowed profile limit s (remove path) c (inr (inr h)) = h.allowed
@@ -80,7 +102,8 @@ change_allowed profile limit s (append_element keys) c h = h.allowed
 pub change_lawful : (profile : Profile) (limit : ℕ) (s : Document) (e : Edit) (c : TextChange)
     → IsEditable profile limit s → MakesChange profile limit s e c → IsLawfulEdit profile limit s e
 change_lawful profile limit s (insert path value) c fine h =
-    insert_lawful profile limit s path value fine h.given h.utf8 h.allowed
+    let a : IsAdded profile limit s path value c = added profile limit s path value c h in
+    insert_lawful profile limit s path value fine a.given a.utf8 a.allowed
 change_lawful profile limit s (remove path) c fine h =
     remove_lawful profile limit s path fine (change_allowed profile limit s (remove path) c h)
 change_lawful profile limit s (set path value) c fine h = set_lawful profile limit s path value fine h.given h.allowed

@@ -2,30 +2,36 @@
 --
 -- Then the document says nothing under that path (`nothing_under`), so no prefix of the insert's path that goes through
 -- it is a node (`no_node`). The longest prefix that is a node is the one right before it, if that is one
--- (`holder_whole`). It is one where a body of it ends (`body_node`).
+-- (`holder_of_node`). It is one where a body of it ends (`body_node`) or a line's key leads through it (`lead_node`).
 --
--- Theorems: `no_node`, `path_new`, `holder_here`; `fresh`; `apart_clear`: the path does not begin with one that is
--- apart from the first new key's; `clear_longer`: a path that begins with neither of two paths.
-use Rattle.std.proofs.Common.{◌≡◌, ℕ, Bool, true, false, cond, ◌||◌, List, [], ◌∷◌, ◌++◌, map, refl, sym, ap, subst}
-use Rattle.std.proofs.Common.{◌∙◌, append_assoc, Option, Some, None, ◌⊎◌, inl, inr}
+-- Theorems: `nothing_under`, `no_node`, `path_new`, `holder_of_node`; `body_node`, `lead_node`; `new_clear`,
+-- `apart_clear`: the path does not begin with one that is apart from the first new key's; `clear_longer`: a path that
+-- begins with neither of two paths; `apart_differs`, `clear_under`, `apart_under`: what does not begin with a path is
+-- not that path, and does not begin with a longer one; and what is apart from a path is apart from a longer one.
+use Rattle.std.proofs.Common.{◌≡◌, ◌≢◌, ℕ, Bool, true, false, cond, ◌||◌, List, [], ◌∷◌, ◌++◌, map, refl, sym, ap}
+use Rattle.std.proofs.Common.{subst, ◌∙◌, append_assoc, Option, Some, None, ◌⊎◌, inl, inr}
 use Rattle.std.specs.List.{list_any}
+use Rattle.std.proofs.lemmas.List.{append-nil}
 use Rattle.keep_types.specs.declared.leaf.Profile.{Profile}
 use Rattle.keep_syntax.specs.Tree.{Document, Value}
 use Rattle.keep_path.specs.Path.{Part, key, strip}
-use Rattle.keep_meaning.specs.Marks.{Mention}
+use Rattle.keep_meaning.specs.Marks.{Mention, MentionKind, start}
 use Rattle.keep_meaning.specs.Meaning.{lines, mentions_in}
-use Rattle.keep_meaning.specs.Nodes.{is_at, is_node, is_root}
+use Rattle.keep_meaning.specs.Nodes.{is_at, is_begun, is_define, is_dotted, is_node, is_root}
 use Rattle.keep_edit_spec.specs.AddedLines.{AddsLine, first_new}
 use Rattle.keep_edit_spec.specs.Edits.{end_of}
+use Rattle.keep_edit_spec.specs.Lines.{last_line, leads_dotted}
 use Rattle.keep_edit_spec.specs.Look.{holder, last_passing, prefixes}
 use Rattle.keep_edit_spec.specs.Runs.{AreApart}
 use Rattle.keep_edit_spec.specs.TextChanges.{TextChange}
 use Rattle.keep_edit_spec.proofs.Common.BodyEnd.{IsStated, end_is}
+use Rattle.keep_edit_spec.proofs.Common.Doubles.{IsMentioned}
 use Rattle.keep_edit_spec.proofs.Common.InsertLaw.{fresh_disjoint, or_true}
 use Rattle.keep_edit_spec.proofs.Common.LineLaws.{beyond, prefix_cases, within_first}
 use Rattle.keep_edit_spec.proofs.Common.Runs.{AllOf, IsDisjoint, SomeOf, kinds_at-disjoint, same_path-refl}
-use Rattle.keep_edit_spec.proofs.Common.Runs.{strip-append}
-use Rattle.keep_edit_spec.proofs.Insert.KeysAtEnd.{path_goes_on, unsaid}
+use Rattle.keep_edit_spec.proofs.Common.Runs.{strip-append, strip_shorter}
+use Rattle.keep_edit_spec.proofs.Insert.InsertDotted.{dotted_line}
+use Rattle.keep_edit_spec.proofs.Insert.KeysAtEnd.{path_goes_on}
 use Rattle.keep_edit_spec.proofs.Insert.NewPath.{mapped, passing_map}
 use Rattle.keep_edit_spec.proofs.Remove.Shift.{not_reached, unreached}
 use Rattle.keep_edit_spec.proofs.Lists.SaidOfPrefixes.{node_kinds, node_of}
@@ -39,6 +45,22 @@ clear_longer path other rest clear back = unreached path (other ++ rest) (λ u.
       | beyond b bs e v ↦
           (let no : None ≡ Some (b ∷ bs) = sym back ∙ ap (strip other) e ∙ strip-append other (b ∷ bs) in absurd cc)
     ])
+
+pub apart_differs : (path other : List Part) → strip path other ≡ None → path ≢ other
+apart_differs path other clear same =
+    let k : None ≡ Some [] = sym clear ∙ ap (strip path) (sym same ∙ sym (append-nil path)) ∙ strip-append path [] in
+    absurd cc
+
+-- what begins with a longer path begins with that path
+pub clear_under : (path rest other : List Part) → strip path other ≡ None → strip (path ++ rest) other ≡ None
+clear_under path rest other clear =
+    unreached (path ++ rest) other
+    (λ u. not_reached path other clear (rest ++ u.0, strip_shorter path rest other u.0 u.1))
+
+-- so what is apart from a path is apart from a longer one
+pub apart_under : (path rest other : List Part) → AreApart path other → AreApart (path ++ rest) other
+apart_under path rest other apart =
+    (clear_under path rest other apart.0, clear_longer other path rest apart.1 apart.0)
 
 -- ---- the longest prefix that passes, where none that is longer does
 
@@ -65,22 +87,32 @@ holder_whole a p ps ms e none =
     ap (λ (o : Option (List Part)). elim o [ Some q ↦ q | None ↦ [] ])
     (last_whole (λ q. is_node q ms) a p ps e none)
 
--- ---- a path whose body ends somewhere is a node
+-- ---- a path whose body ends somewhere is a node, and so is one through which a line's key leads
 
--- what a header states is a node
-stated_said : (a : List Part) (ms : List Mention) → SomeOf (IsStated a) ms → list_any (is_at a) ms ≡ true
-stated_said a [] h = absurd h
-stated_said a (m ∷ ms) (inl h) =
+-- what is mentioned is a node
+mentioned_said : (test : MentionKind → Bool) (a : List Part) (ms : List Mention) → SomeOf (IsMentioned test a) ms
+    → list_any (is_at a) ms ≡ true
+mentioned_said test a [] h = absurd h
+mentioned_said test a (m ∷ ms) (inl h) =
     let here : is_at a m ≡ true = subst (λ (q : List Part). is_at q m ≡ true) h.0 (same_path-refl m.path) in
     rw here refl
-stated_said a (m ∷ ms) (inr h) = or_true (is_at a m) (list_any (is_at a) ms) (stated_said a ms h)
+mentioned_said test a (m ∷ ms) (inr h) =
+    or_true (is_at a m) (list_any (is_at a) ms) (mentioned_said test a ms h)
 
-body_node : (s : Document) (a : List Part) (n : ℕ) → end_of s a ≡ Some n → is_node a (mentions_in s) ≡ true
+mentioned_node : (test : MentionKind → Bool) (a : List Part) (ms : List Mention) → SomeOf (IsMentioned test a) ms
+    → is_node a ms ≡ true
+mentioned_node test a ms h = or_true (is_root a) (list_any (is_at a) ms) (mentioned_said test a ms h)
+
+pub body_node : (s : Document) (a : List Part) (n : ℕ) → end_of s a ≡ Some n → is_node a (mentions_in s) ≡ true
 body_node s a n ends = by (end_is s a n ends).stated
   where
     by : (a ≡ []) ⊎ SomeOf (IsStated a) (mentions_in s) → is_node a (mentions_in s) ≡ true
     by (inl e) = ap (λ (q : List Part). is_node q (mentions_in s)) e
-    by (inr some) = or_true (is_root a) (list_any (is_at a) (mentions_in s)) (stated_said a (mentions_in s) some)
+    by (inr some) = mentioned_node (λ (k : MentionKind). is_define k || is_begun k) a (mentions_in s) some
+
+pub lead_node : (s : Document) (a : List Part) (n : ℕ) → last_line (leads_dotted a) start (lines s) ≡ Some n
+    → is_node a (mentions_in s) ≡ true
+lead_node s a n last = mentioned_node is_dotted a (mentions_in s) (dotted_line s a n last).dotted
 
 -- ---- the path, and its holder
 
@@ -94,7 +126,7 @@ module _ (s : Document) (path a : List Part) (text : List ℕ) (more : List (Lis
     abbrev first : List Part
     first = a ++ key text ∷ []
 
-    nothing_under : AllOf (IsDisjoint first) (mentions_in s)
+    pub nothing_under : AllOf (IsDisjoint first) (mentions_in s)
     nothing_under = fresh_disjoint first (lines s) (a, text, refl) none
 
     pub no_node : (r : List Part) → is_node (first ++ r) (mentions_in s) ≡ false
@@ -110,21 +142,24 @@ module _ (s : Document) (path a : List Part) (text : List ℕ) (more : List (Lis
         (new ∙ sym (append_assoc a (key text ∷ []) (map key more)))
         ∙ no_node (map key more)
 
-    pub holder_here : (n : ℕ) → end_of s a ≡ Some n → holder path (mentions_in s) ≡ a
-    holder_here n ends =
+    pub holder_of_node : is_node a (mentions_in s) ≡ true → holder path (mentions_in s) ≡ a
+    holder_of_node node =
         ap (λ (q : List Part). holder q (mentions_in s)) new
-        ∙ holder_whole a (key text) (map key more) (mentions_in s) (body_node s a n ends)
+        ∙ holder_whole a (key text) (map key more) (mentions_in s) node
         (λ q. ap (λ (p : List Part). is_node p (mentions_in s)) (sym (append_assoc a (key text ∷ []) q)) ∙ no_node q)
 
--- ---- of an insert that adds a line
+-- ---- of an insert of new keys
+
+pub new_clear : (s : Document) (path : List Part) (text : List ℕ) (more : List (List ℕ))
+    → path ≡ holder path (mentions_in s) ++ map key (text ∷ more)
+    → (other : List Part) → AreApart other (first_new s path) → strip other path ≡ None
+new_clear s path text more new other apart =
+    subst (λ (p : List Part). strip other p ≡ None) (sym (path_goes_on s path text more new))
+    (clear_longer other (first_new s path) (map key more) apart.0 apart.1)
+
+-- ---- of one that adds a line
 
 module _ (profile : Profile) (limit : ℕ) (s : Document) (path : List Part) (value : Value) (c : TextChange)
     (h : AddsLine profile limit s path value c) where
-  -- nothing is said at its first new key
-  pub fresh : list_any (is_at (holder path (mentions_in s) ++ key h.text ∷ [])) (mentions_in s) ≡ false
-  fresh = unsaid profile limit s path h.text h.more value h.number h.utf8 h.allowed h.new h.ends
-
   pub apart_clear : (other : List Part) → AreApart other (first_new s path) → strip other path ≡ None
-  apart_clear other apart =
-      subst (λ (p : List Part). strip other p ≡ None) (sym (path_goes_on s path h.text h.more h.new))
-      (clear_longer other (first_new s path) (map key h.more) apart.0 apart.1)
+  apart_clear other apart = new_clear s path h.text h.more h.new other apart

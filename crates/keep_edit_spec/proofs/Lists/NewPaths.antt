@@ -4,8 +4,9 @@
 -- Of two such inserts with other first new keys, neither first new key is below the other, since each comes right after
 -- a node (`first_clear`). So the path of neither, nor a prefix of it, begins with the other's (`before_clear`).
 --
--- Theorems: `first_path`, `goes`, `unsaid`, `node_clear`; `first_clear`, `other_clear`, `before_clear`.
-use Rattle.std.proofs.Common.{◌≡◌, ◌≢◌, ℕ, true, false, List, [], ◌∷◌, ◌++◌, length, map, drop, sym, ap, subst}
+-- Theorems: `first_path`, `goes`, `unsaid`, `node_clear`; `first_clear`, `other_clear`, `before_clear`; `any_keys`: an
+-- insert that adds a line is one of new keys.
+use Rattle.std.proofs.Common.{◌≡◌, ◌≢◌, ℕ, Bool, true, false, List, [], ◌∷◌, ◌++◌, length, map, drop, sym, ap, subst}
 use Rattle.std.proofs.Common.{◌∙◌, None, inl, inr}
 use Rattle.std.specs.List.{list_any}
 use Rattle.keep_types.specs.declared.leaf.Profile.{Profile}
@@ -15,7 +16,7 @@ use Rattle.keep_meaning.specs.Marks.{Mention}
 use Rattle.keep_meaning.specs.Meaning.{mentions_in}
 use Rattle.keep_meaning.specs.Nodes.{is_at, is_node}
 use Rattle.keep_edit_spec.specs.AddedLines.{AddsLine, first_new}
-use Rattle.keep_edit_spec.specs.DottedLines.{AddsDotted}
+use Rattle.keep_edit_spec.specs.DottedLines.{AddsDotted, AddsLineTo}
 use Rattle.keep_edit_spec.specs.Edits.{insert}
 use Rattle.keep_edit_spec.specs.Look.{holder}
 use Rattle.keep_edit_spec.specs.Refusals.{refusal}
@@ -45,6 +46,11 @@ abbrev pub dotted_keys : (profile : Profile) (limit : ℕ) (s : Document) (path 
     (c : TextChange) → AddsDotted profile limit s path value c → InsertsKeys profile limit s path value
 dotted_keys profile limit s path value c h =
     record { text = h.text; more = h.more; new = h.new; allowed = h.allowed }
+
+pub any_keys : (profile : Profile) (limit : ℕ) (s : Document) (path : List Part) (value : Value) (c : TextChange)
+    (to : Bool) → AddsLineTo to profile limit s path value c → InsertsKeys profile limit s path value
+any_keys profile limit s path value c true h = dotted_keys profile limit s path value c h
+any_keys profile limit s path value c false h = line_keys profile limit s path value c h
 
 module _ (profile : Profile) (limit : ℕ) (s : Document) (path : List Part) (value : Value)
     (h : InsertsKeys profile limit s path value) where

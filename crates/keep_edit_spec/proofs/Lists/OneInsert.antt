@@ -6,7 +6,7 @@
 -- insert. What any other edit changes has bytes that go.
 --
 -- Theorem: `only_insert`.
-use Rattle.std.proofs.Common.{◌≡◌, ◌≢◌, ℕ, Bool, true, false, cond, ◌&&◌, List, [], ◌∷◌, ◌++◌, length}
+use Rattle.std.proofs.Common.{◌≡◌, ◌≢◌, ℕ, ◌<◌, Bool, true, false, cond, ◌&&◌, List, [], ◌∷◌, ◌++◌, length}
 use Rattle.std.proofs.Common.{refl, sym, ap, subst, ◌∙◌, length-append, arith, None, ◌⊎◌, inl, inr}
 use Rattle.std.proofs.lemmas.List.{append-nil}
 use Rattle.keep_types.specs.declared.leaf.Profile.{Profile}
@@ -15,7 +15,6 @@ use Rattle.keep_syntax.proofs.Shared.{one_document}
 use Rattle.keep_path.specs.Path.{Part, index, same_path, strip}
 use Rattle.keep_meaning.specs.Marks.{Mention, elements_of, header_path}
 use Rattle.keep_meaning.specs.Meaning.{mentions_in, mentions_of_value}
-use Rattle.keep_edit_spec.specs.AddedLines.{AddsLine}
 use Rattle.keep_edit_spec.specs.Edits.{Edit, append_element, append_table, edited_document, insert, remove, rename, set}
 use Rattle.keep_edit_spec.specs.Laws.{IsEditable}
 use Rattle.keep_edit_spec.specs.Look.{holder}
@@ -25,10 +24,11 @@ use Rattle.keep_edit_spec.specs.TextChanges.{TextChange}
 use Rattle.keep_edit_spec.specs.Trees.{a_table, fact_from, from, is_through_alone, source}
 use Rattle.keep_edit_spec.proofs.EditLaws.{change_put}
 use Rattle.keep_edit_spec.proofs.Common.Runs.{none_or_some, same_path-refl, same_path-sound, strip-sound}
-use Rattle.keep_edit_spec.proofs.Lists.MadeChanges.{change_lawful, change_puts, removes_there}
-use Rattle.keep_edit_spec.proofs.Lists.OtherPaths.{no_item}
+use Rattle.keep_edit_spec.proofs.Lists.MadeChanges.{added, change_lawful, change_puts, removes_there}
+use Rattle.keep_edit_spec.proofs.Lists.NewPaths.{InsertsKeys, any_keys}
+use Rattle.keep_edit_spec.proofs.Lists.Places.{item_none}
 use Rattle.keep_edit_spec.proofs.Lists.SetAllowed.{value_of}
-use Rattle.keep_edit_spec.proofs.Lists.ValueAdded.{has_then, lawful, no_value}
+use Rattle.keep_edit_spec.proofs.Lists.ValueAdded.{has_then, no_value}
 use Rattle.keep_edit_spec.proofs.Rename.RenamedPath.{short_disjoint}
 
 -- two edits that make one change
@@ -47,7 +47,10 @@ none_after ms new true path none = refl
 none_after ms new false path none = none
 
 module _ (profile : Profile) (limit : ℕ) (s : Document) (path : List Part) (value : Value) (c : TextChange)
-    (fine : IsEditable profile limit s) (h : AddsLine profile limit s path value c) where
+    (fine : IsEditable profile limit s) (h : MakesChange profile limit s (insert path value) c) where
+  abbrev new_keys : InsertsKeys profile limit s path value
+  new_keys = any_keys profile limit s path value c h.0 h.1
+
   -- where the path has no value, the insert did not make the document
   not_made : (f : Edit) → MakesChange profile limit s f c
       → has_value path (mentions_in (edited_document s f)) ≡ false → ⊥
@@ -55,28 +58,31 @@ module _ (profile : Profile) (limit : ℕ) (s : Document) (path : List Part) (va
       let has : has_value path (mentions_in (edited_document s f)) ≡ true =
       subst (λ (d : Document). has_value path (mentions_in d) ≡ true)
       (one_made profile limit s (insert path value) f c fine h k)
-      (has_then profile limit s path value c fine h) in
+      (has_then profile limit s path value new_keys
+      (change_lawful profile limit s (insert path value) c fine h)) in
       absurd cc
 
   was_none : has_value path (mentions_in s) ≡ false
-  was_none = no_value profile limit s path value c fine h
+  was_none = no_value profile limit s path value new_keys
 
   -- nor did an insert of a path that this one does not begin with
-  not_below : (other : List Part) (more : Value) → AddsLine profile limit s other more c → strip other path ≡ None → ⊥
+  not_below : (other : List Part) (more : Value) → MakesChange profile limit s (insert other more) c
+      → strip other path ≡ None → ⊥
   not_below other more k clear =
       let ms : List Mention = mentions_in s in
+      let its : InsertsKeys profile limit s other more = any_keys profile limit s other more c k.0 k.1 in
       let through : Bool = same_path path (holder other ms) && is_through_alone path ms in
       let own : source ms (insert other more) path ≡ cond through a_table (from path) =
-      rw (no_item profile limit s other more c ms k, clear, source) refl in
+      rw (item_none other (holder other ms) its.text its.more its.new ms, clear, source) refl in
       not_made (insert other more) k
-      (ap value_of ((lawful profile limit s other more c fine k).tree path
+      (ap value_of ((change_lawful profile limit s (insert other more) c fine k).tree path
       ∙ ap (fact_from ms (mentions_of_value more)) own)
       ∙ none_after ms (mentions_of_value more) through path was_none)
 
 -- inserts of two paths that make one change
 two_made : (profile : Profile) (limit : ℕ) (s : Document) (path other : List Part) (value more : Value) (c : TextChange)
-    → IsEditable profile limit s → AddsLine profile limit s path value c → AddsLine profile limit s other more c
-    → other ≢ path → ⊥
+    → IsEditable profile limit s → MakesChange profile limit s (insert path value) c
+    → MakesChange profile limit s (insert other more) c → other ≢ path → ⊥
 two_made profile limit s path other value more c fine h k differs = elim (none_or_some (strip other path)) [
   | inl clear ↦ not_below profile limit s path value c fine h other more k clear
   | inr (rest, e) ↦ longer rest (strip-sound other path rest e)
@@ -89,12 +95,19 @@ two_made profile limit s path other value more c fine h k differs = elim (none_o
         (short_disjoint path other (omega (arith, ap length is, length-append other (p ∷ ps))))
 
 module _ (profile : Profile) (limit : ℕ) (s : Document) (path : List Part) (value : Value) (c : TextChange)
-    (fine : IsEditable profile limit s) (h : AddsLine profile limit s path value c) where
-  other_insert : (other : List Part) (more : Value) (x : TextChange) → AddsLine profile limit s other more x
-      → other ≢ path → x ≢ c
+    (fine : IsEditable profile limit s) (h : MakesChange profile limit s (insert path value) c) where
+  other_insert : (other : List Part) (more : Value) (x : TextChange)
+      → MakesChange profile limit s (insert other more) x → other ≢ path → x ≢ c
   other_insert other more x k differs same =
       two_made profile limit s path other value more c fine h
-      (subst (AddsLine profile limit s other more) same k) differs
+      (subst (MakesChange profile limit s (insert other more)) same k) differs
+
+  none_taken : c.size ≡ 0
+  none_taken = (added profile limit s path value c h).adds
+
+  -- what takes bytes
+  takes_some : (x : TextChange) → 0 < x.size → x ≢ c
+  takes_some x some same = omega (arith, some, ap (λ (y : TextChange). y.size) same, none_taken)
 
   table_other : (keys : List (List ℕ)) (x : TextChange) → MakesChange profile limit s (append_table keys) x → x ≢ c
   table_other keys x k same =
@@ -132,15 +145,8 @@ module _ (profile : Profile) (limit : ℕ) (s : Document) (path : List Part) (va
               let own : same_path other path ≡ true =
               ap (λ (p : List Part). same_path p path) same ∙ same_path-refl path in
               absurd cc
-  only_insert (remove other) x k =
-      inr (λ same. omega (
-        arith,
-        (removes_there profile limit s other x fine k).1,
-        ap (λ (y : TextChange). y.size) same,
-        h.adds,
-      ))
-  only_insert (set other more) x k = inr (λ same. omega (arith, k.some, ap (λ (y : TextChange). y.size) same, h.adds))
-  only_insert (rename other name) x k =
-      inr (λ same. omega (arith, k.some, ap (λ (y : TextChange). y.size) same, h.adds))
+  only_insert (remove other) x k = inr (takes_some x (removes_there profile limit s other x fine k).1)
+  only_insert (set other more) x k = inr (takes_some x k.some)
+  only_insert (rename other name) x k = inr (takes_some x k.some)
   only_insert (append_table keys) x k = inr (table_other keys x k)
   only_insert (append_element keys) x k = inr (element_other keys x k)

@@ -5,7 +5,8 @@
 -- last one was at i or later, and does if that was line i, the last is a line later from line i on (`last_still`). The
 -- reading before a line has the body that it had, if that line leaves the body as it is (`body_still`).
 --
--- Theorems: `last_still`, `body_still`; `none_still`: where none passes; `at_most_last`: a line that passes.
+-- Theorems: `last_with`, `last_still`, `body_still`; `none_still`: where none passes; `at_most_last`: a line that
+-- passes; `new_before`, `new_from`: the last one's number; `reading_later`, `reading_alike`: the reading before a line.
 use Rattle.std.proofs.Common.{◌≡◌, ℕ, zero, suc, ◌<◌, ◌≤◌, Bool, true, false, cond, List, [], ◌∷◌, ◌++◌, length, take}
 use Rattle.std.proofs.Common.{refl, sym, ap, ap₂, subst, ◌∙◌, arith, Option, Some, None, inl, inr}
 use Rattle.std.specs.Prelude.{nat_lt}
@@ -23,14 +24,14 @@ use Rattle.keep_edit_spec.proofs.Lists.RemovedOwn.{last_or, last_without}
 -- ---- a new line that passes
 
 -- the number of the last: that of the new line, if none behind it passes
-abbrev or_new : ℕ → Option ℕ → ℕ
+abbrev pub or_new : ℕ → Option ℕ → ℕ
 or_new n None = n
 or_new n (Some j) = cond (nat_lt j n) n (suc j)
 
-new_before : (n j : ℕ) → j < n → or_new n (Some j) ≡ n
+pub new_before : (n j : ℕ) → j < n → or_new n (Some j) ≡ n
 new_before n j h = rw (lt-ltb j n h) refl
 
-new_from : (n j : ℕ) → n ≤ j → or_new n (Some j) ≡ suc j
+pub new_from : (n j : ℕ) → n ≤ j → or_new n (Some j) ≡ suc j
 new_from n j h = rw (le-ltb j n h) refl
 
 new_suc : (n j : ℕ) → suc (or_new n (Some j)) ≡ or_new (suc n) (Some (suc j))
@@ -39,7 +40,7 @@ new_suc n j = elim (cases_lt j n) [
   | inr g ↦ ap suc (new_from n j g) ∙ sym (new_from (suc n) (suc j) (omega (arith, g)))
 ]
 
-last_with : (test : Reading → Line → Bool) (r : Reading) (first : List Line) (l : Line) (more : List Line)
+pub last_with : (test : Reading → Line → Bool) (r : Reading) (first : List Line) (l : Line) (more : List Line)
     → after_line (reading_after_lines r first) l ≡ reading_after_lines r first
     → test (reading_after_lines r first) l ≡ true
     → last_line test r (first ++ l ∷ more) ≡ Some (or_new (length first) (last_line test r (first ++ more)))
@@ -127,7 +128,7 @@ module _ (test : Reading → Line → Bool) (r : Reading) (first : List Line) (l
 
 -- ---- the reading before a line
 
-reading_later : (r : Reading) (first : List Line) (l : Line) (more : List Line) (m : ℕ)
+pub reading_later : (r : Reading) (first : List Line) (l : Line) (more : List Line) (m : ℕ)
     → after_line (reading_after_lines r first) l ≡ reading_after_lines r first → length first ≤ m
     → reading_after_lines r (take (suc m) (first ++ l ∷ more)) ≡ reading_after_lines r (take m (first ++ more))
 reading_later r [] l more m keeps h = ap (λ (x : Reading). reading_after_lines x (take m more)) keeps
@@ -138,7 +139,7 @@ reading_later r (x ∷ first) l more (suc m) keeps h =
     (let few : suc (length first) ≤ suc m = h in omega (arith, few))
 
 -- in lines that begin alike
-reading_alike : (r : Reading) (first more others : List Line) (m : ℕ) → m ≤ length first
+pub reading_alike : (r : Reading) (first more others : List Line) (m : ℕ) → m ≤ length first
     → reading_after_lines r (take m (first ++ more)) ≡ reading_after_lines r (take m (first ++ others))
 reading_alike r first more others m h =
     ap (reading_after_lines r) (take-append-le m first more h ∙ sym (take-append-le m first others h))

@@ -3,7 +3,7 @@
 -- A keyval says something at the paths of its key parts, at its path and under it (`keyed_silent`, by induction over
 -- the keys). A path apart from its own is none of these. So what is said there is the same without the line.
 --
--- Theorem: `kinds_beside`.
+-- Theorems: `keyval_silent`, `kinds_beside`.
 use Rattle.std.proofs.Common.{◌≡◌, ℕ, ◌<◌, List, [], ◌∷◌, ◌++◌, length, map, sym, ap, subst, ◌∙◌, Some, None}
 use Rattle.std.proofs.Common.{inl, inr}
 use Rattle.keep_types.specs.declared.leaf.Profile.{Profile}
@@ -58,7 +58,7 @@ keyed_silent (k ∷ l ∷ ks) ms q apart =
     by [] apart silent = let no : Some (map key (l ∷ ks)) ≡ None = apart.1 in absurd cc
     by (p ∷ r) apart silent = silent apart
 
-keyval_silent : (body : List Part) (name : Name) (held : Value) (q : List Part)
+pub keyval_silent : (body : List Part) (name : Name) (held : Value) (q : List Part)
     → AreApart (body ++ step 0 (Some name)) q → kinds_at q (map (below body) (keyval_mentions name held)) ≡ []
 keyval_silent body name held q apart =
     below_silent body q (keyval_mentions name held)

@@ -1,13 +1,14 @@
 -- What an insert that adds a line writes, and where: the place of a line, and the moved place once there is one more.
 --
 -- An insert at the end of a body puts a line in before line n, so its place is the length of the lines before it
--- (`put_here`). One more line before line n leaves the lines before line i as they are if i comes before n, and else
--- makes them longer by that line (`later_width`). A line has at least one byte, so their lengths are in the order of
+-- (`put_here`). More lines before line n leave the lines before line i as they are if i comes before n, and else make
+-- them longer by those lines (`later_width`). A line has at least one byte, so their lengths are in the order of
 -- their numbers (`width_grows`, `width_stays`). The newline is the document's first, so it is the same if the new value
 -- has none in it, or if a line comes before the new one.
 --
 -- Theorems: `place_is`, `edited_is`, `at_is`, `line_is`, `newline_stays`; `put_place`, `put_document`, `newline_by`,
--- `line_moves`: of any change that puts in a keyval; `scalar_quiet`: a scalar has no newline in it; `item_none`.
+-- `line_moves`: of any change that puts in a keyval; `puts_place`, `puts_document`, `lines_stay`, `lines_move`: of one
+-- that puts in lines; `scalar_quiet`: a scalar has no newline in it; `item_none`.
 use Rattle.std.proofs.Common.{◌≡◌, ℕ, zero, suc, ◌+◌, ◌-◌, ◌<◌, ◌≤◌, Bool, true, false, cond, List, [], ◌∷◌, ◌++◌}
 use Rattle.std.proofs.Common.{length, take, drop, refl, sym, ap, subst, ◌∙◌, append_assoc, length-append, arith}
 use Rattle.std.proofs.Common.{Option, Some, None, inl, inr, map}
@@ -18,8 +19,8 @@ use Rattle.std.proofs.lemmas.List.{append-nil}
 use Rattle.keep_types.specs.declared.leaf.Profile.{Profile}
 use Rattle.keep_types.specs.declared.leaf.Leaf.{Leaf}
 use Rattle.keep_types.specs.declared.leaf.Leaf.TheVariants as leaf
-use Rattle.keep_syntax.specs.Tree.{Written, Name, Value, Line, Ended, Document, keyval, bom_leaves, ended_leaves}
-use Rattle.keep_syntax.specs.Tree.{further_leaves, leaves}
+use Rattle.keep_syntax.specs.Tree.{Written, Name, Value, Content, Line, Ended, Document, keyval, bom_leaves}
+use Rattle.keep_syntax.specs.Tree.{ended_leaves, further_leaves, leaves}
 use Rattle.keep_syntax.specs.Tree.{line_leaves, name_leaves, text_of, token, value_leaves, scalar, Entries, none, entry}
 use Rattle.keep_syntax.specs.Grammar.{IsEnded, IsValue}
 use Rattle.keep_path.specs.Path.{EndsInKey, Part, key, last_part}
@@ -82,40 +83,62 @@ put_here (suc m) more newline (e ∷ es) last h =
       new = p.new;
     }
 
--- ---- what a change writes that puts in a keyval
+-- ---- what a change writes that puts in lines
+
+abbrev pub with_lines_before : ℕ → List Ended → Document → Document
+with_lines_before n xs s = record { bom = s.bom; ended = take n s.ended ++ (xs ++ drop n s.ended); last = s.last }
 
 abbrev pub with_line_before : ℕ → Ended → Document → Document
-with_line_before n x s = record { bom = s.bom; ended = take n s.ended ++ x ∷ drop n s.ended; last = s.last }
+with_line_before n x s = with_lines_before n (x ∷ []) s
+
+module _ (s : Document) (e : Edit) (contents : List Content) (n : ℕ)
+    (changed : change s e ≡ at_line s n contents) (few : n ≤ length s.ended) where
+  abbrev new_lines : List Ended
+  new_lines = map (new_line (newline_of s)) contents
+
+  here : IsPutHere n new_lines (newline_of s) s.ended s.last
+  here = put_here n new_lines (newline_of s) s.ended s.last few
+
+  abbrev placed : List ℕ → List ℕ → List ℕ → Place
+  placed b o w =
+      let at : ℕ = length (text_of (bom_leaves s.bom) ++ b) in record { start = at; end = at + length o; new = w }
+
+  pub puts_place : place s e
+      ≡ put_in (length (text_of (bom_leaves s.bom) ++ ended_text (take n s.ended))) (ended_text new_lines)
+  puts_place =
+      let bom : List ℕ = text_of (bom_leaves s.bom) in
+      let at : ℕ = length (bom ++ ended_text (take n s.ended)) in
+      ap (λ (c : Option (Changed Document)). place_of (changed_or_same s c)) changed
+      ∙ ap (λ (b : List ℕ). placed b (put_lines n new_lines (newline_of s) s.ended s.last).old
+      (put_lines n new_lines (newline_of s) s.ended s.last).new) here.before
+      ∙ ap (λ (o : List ℕ). placed (ended_text (take n s.ended)) o
+      (put_lines n new_lines (newline_of s) s.ended s.last).new) here.old
+      ∙ ap (placed (ended_text (take n s.ended)) []) here.new
+      ∙ ap (λ (z : ℕ). record { start = at; end = z; new = ended_text new_lines }) (omega arith)
+
+  pub puts_document : edited_document s e ≡ with_lines_before n new_lines s
+  puts_document =
+      ap (λ (c : Option (Changed Document)). (changed_or_same s c).to) changed
+      ∙ ap (λ (b : Page). record { bom = s.bom; ended = b.ended; last = b.last }) here.to
+
+-- ---- what a change writes that puts in a keyval
+
+pub one_text : (x : Ended) → ended_text (x ∷ []) ≡ text_of (ended_leaves x)
+one_text x = ap text_of (append-nil (ended_leaves x))
 
 module _ (s : Document) (e : Edit) (name : Name) (value : Value) (n : ℕ)
     (changed : change s e ≡ at_line s n (keyval name value ∷ [])) (few : n ≤ length s.ended) where
   abbrev line : Ended
   line = new_line (newline_of s) (keyval name value)
 
-  here : IsPutHere n (line ∷ []) (newline_of s) s.ended s.last
-  here = put_here n (line ∷ []) (newline_of s) s.ended s.last few
-
-  abbrev placed : List ℕ → List ℕ → List ℕ → Place
-  placed b o w =
-      let at : ℕ = length (text_of (bom_leaves s.bom) ++ b) in record { start = at; end = at + length o; new = w }
-
   pub put_place : place s e
       ≡ put_in (length (text_of (bom_leaves s.bom) ++ ended_text (take n s.ended))) (text_of (ended_leaves line))
   put_place =
-      let bom : List ℕ = text_of (bom_leaves s.bom) in
-      let at : ℕ = length (bom ++ ended_text (take n s.ended)) in
-      ap (λ (c : Option (Changed Document)). place_of (changed_or_same s c)) changed
-      ∙ ap (λ (b : List ℕ). placed b (put_lines n (line ∷ []) (newline_of s) s.ended s.last).old
-      (put_lines n (line ∷ []) (newline_of s) s.ended s.last).new) here.before
-      ∙ ap (λ (o : List ℕ). placed (ended_text (take n s.ended)) o
-      (put_lines n (line ∷ []) (newline_of s) s.ended s.last).new) here.old
-      ∙ ap (placed (ended_text (take n s.ended)) []) (here.new ∙ ap text_of (append-nil (ended_leaves line)))
-      ∙ ap (λ (z : ℕ). record { start = at; end = z; new = text_of (ended_leaves line) }) (omega arith)
+      puts_place s e (keyval name value ∷ []) n changed few
+      ∙ ap (put_in (length (text_of (bom_leaves s.bom) ++ ended_text (take n s.ended)))) (one_text line)
 
   pub put_document : edited_document s e ≡ with_line_before n line s
-  put_document =
-      ap (λ (c : Option (Changed Document)). (changed_or_same s c).to) changed
-      ∙ ap (λ (b : Page). record { bom = s.bom; ended = b.ended; last = b.last }) here.to
+  put_document = puts_document s e (keyval name value ∷ []) n changed few
 
 -- ---- what an insert at the end of a body writes
 
@@ -160,29 +183,43 @@ drop_none : (es : List Ended) → drop 0 es ≡ es
 drop_none [] = refl
 drop_none (e ∷ es) = refl
 
--- the lines before line i, with one more before line n
-earlier : (n i : ℕ) (x : Ended) (es : List Ended) → i < n → n ≤ length es
-    → take i (take n es ++ x ∷ drop n es) ≡ take i es
-earlier zero i x es h few = absurd (omega (arith, h))
-earlier (suc n) i x [] h few = absurd (omega (arith, few))
-earlier (suc n) zero x (e ∷ es) h few = refl
-earlier (suc n) (suc i) x (e ∷ es) h few =
-    ap (λ (l : List Ended). e ∷ l) (earlier n i x es (omega (arith, h)) (omega (arith, few)))
+-- the lines before line i, with more before line n
+earlier : (n i : ℕ) (xs es : List Ended) → i < n → n ≤ length es
+    → take i (take n es ++ (xs ++ drop n es)) ≡ take i es
+earlier zero i xs es h few = absurd (omega (arith, h))
+earlier (suc n) i xs [] h few = absurd (omega (arith, few))
+earlier (suc n) zero xs (e ∷ es) h few = refl
+earlier (suc n) (suc i) xs (e ∷ es) h few =
+    ap (λ (l : List Ended). e ∷ l) (earlier n i xs es (omega (arith, h)) (omega (arith, few)))
 
-later_width : (n i : ℕ) (x : Ended) (es : List Ended) → n ≤ i → i ≤ length es
-    → width (take (suc i) (take n es ++ x ∷ drop n es)) ≡ width (take i es) + size x
-later_width zero i x es h few =
-    ap (λ (l : List Ended). width (take (suc i) (l ++ x ∷ drop 0 es))) (take_none es)
-    ∙ ap (λ (l : List Ended). width (x ∷ take i l)) (drop_none es)
-    ∙ width_more x (take i es) ∙ omega arith
-later_width (suc n) zero x es h few = absurd (omega (arith, h))
-later_width (suc n) (suc i) x [] h few = absurd (omega (arith, few))
-later_width (suc n) (suc i) x (e ∷ es) h few =
-    omega (
+past_width : (i : ℕ) (xs es : List Ended) → width (take (length xs + i) (xs ++ es)) ≡ width (take i es) + width xs
+past_width i [] es = omega (arith, ap (λ (k : ℕ). width (take k es)) (let same : 0 + i ≡ i = omega arith in same))
+past_width i (x ∷ xs) es =
+    let next : suc (length xs) + i ≡ suc (length xs + i) = omega arith in
+    ap (λ (k : ℕ). width (take k (x ∷ (xs ++ es)))) next
+    ∙ omega (
       arith,
-      width_more e (take (suc i) (take n es ++ x ∷ drop n es)),
+      width_more x (take (length xs + i) (xs ++ es)),
+      width_more x xs,
+      past_width i xs es,
+    )
+
+later_width : (n i : ℕ) (xs es : List Ended) → n ≤ i → i ≤ length es
+    → width (take (length xs + i) (take n es ++ (xs ++ drop n es))) ≡ width (take i es) + width xs
+later_width zero i xs es h few =
+    ap (λ (l : List Ended). width (take (length xs + i) (l ++ (xs ++ drop 0 es)))) (take_none es)
+    ∙ ap (λ (l : List Ended). width (take (length xs + i) (xs ++ l))) (drop_none es)
+    ∙ past_width i xs es
+later_width (suc n) zero xs es h few = absurd (omega (arith, h))
+later_width (suc n) (suc i) xs [] h few = absurd (omega (arith, few))
+later_width (suc n) (suc i) xs (e ∷ es) h few =
+    let next : length xs + suc i ≡ suc (length xs + i) = omega arith in
+    ap (λ (k : ℕ). width (take k (e ∷ (take n es ++ (xs ++ drop n es))))) next
+    ∙ omega (
+      arith,
+      width_more e (take (length xs + i) (take n es ++ (xs ++ drop n es))),
       width_more e (take i es),
-      later_width n i x es (omega (arith, h)) (omega (arith, few)),
+      later_width n i xs es (omega (arith, h)) (omega (arith, few)),
     )
 
 -- Each line has bytes, so more lines are longer.
@@ -205,41 +242,59 @@ width_stays (suc n) (suc i) [] h = omega arith
 width_stays (suc n) (suc i) (e ∷ es) h =
     omega (arith, width_more e (take n es), width_more e (take i es), width_stays n i es (omega (arith, h)))
 
--- ---- the place of a line once there is one more before line n
+-- ---- the place of a line once there are more before line n
 
 module _ (profile : Profile) (bom : List ℕ) (es : List Ended) (valid : AllByRecursion (IsEnded profile) es) (n k : ℕ)
-    (x : Ended) (l m : TextChange) (closed : n ≤ length es) (few : k ≤ length es) (adds : l.size ≡ 0)
-    (line : l.new ≡ text_of (ended_leaves x)) (at : l.at ≡ length bom + width (take n es))
+    (xs : List Ended) (l m : TextChange) (closed : n ≤ length es) (few : k ≤ length es) (adds : l.size ≡ 0)
+    (line : l.new ≡ ended_text xs) (at : l.at ≡ length bom + width (take n es))
     (m_at : m.at ≡ length bom + width (take k es)) where
   abbrev before : ℕ → List Ended
-  before j = take j (take n es ++ x ∷ drop n es)
+  before j = take j (take n es ++ (xs ++ drop n es))
 
-  moves_by : (b : Bool) → nat_lt k n ≡ b
-      → length (bom ++ ended_text (before (cond b k (suc k)))) ≡ moved_by l m.at
-  moves_by true e =
-      let less : k < n = ltb-true k n e in
+  pub lines_stay : k < n → length (bom ++ ended_text (before k)) ≡ moved_by l m.at
+  lines_stay less =
       let earlier_at : nat_lt m.at l.at ≡ true =
       lt-ltb m.at l.at (omega (arith, at, m_at, width_grows profile n k es valid less closed)) in
       length-append bom (ended_text (before k))
-      ∙ ap (λ (fs : List Ended). length bom + width fs) (earlier n k x es less closed)
+      ∙ ap (λ (fs : List Ended). length bom + width fs) (earlier n k xs es less closed)
       ∙ sym m_at
       ∙ ap (λ (b : Bool). cond b m.at ((m.at + length l.new) - l.size)) (sym earlier_at)
-  moves_by false e =
-      let past : n ≤ k = ltb-false k n e in
+
+  pub lines_move : n ≤ k → length (bom ++ ended_text (before (length xs + k))) ≡ moved_by l m.at
+  lines_move past =
       let later_at : nat_lt m.at l.at ≡ false =
       le-ltb m.at l.at (omega (arith, at, m_at, width_stays n k es past)) in
-      let long : length (bom ++ ended_text (before (suc k))) ≡ (m.at + length l.new) - l.size =
+      let long : length (bom ++ ended_text (before (length xs + k))) ≡ (m.at + length l.new) - l.size =
       omega (
         arith,
-        length-append bom (ended_text (before (suc k))),
-        later_width n k x es past few,
+        length-append bom (ended_text (before (length xs + k))),
+        later_width n k xs es past few,
         m_at,
         ap (λ (t : List ℕ). length t) line,
         adds,
       ) in
       long ∙ ap (λ (b : Bool). cond b m.at ((m.at + length l.new) - l.size)) (sym later_at)
 
-  pub line_moves : length (bom ++ ended_text (before (later_line n k))) ≡ moved_by l m.at
+-- one line more
+module _ (profile : Profile) (bom : List ℕ) (es : List Ended) (valid : AllByRecursion (IsEnded profile) es) (n k : ℕ)
+    (x : Ended) (l m : TextChange) (closed : n ≤ length es) (few : k ≤ length es) (adds : l.size ≡ 0)
+    (line : l.new ≡ text_of (ended_leaves x)) (at : l.at ≡ length bom + width (take n es))
+    (m_at : m.at ≡ length bom + width (take k es)) where
+  abbrev with_line : ℕ → List Ended
+  with_line j = take j (take n es ++ x ∷ drop n es)
+
+  one_line : l.new ≡ ended_text (x ∷ [])
+  one_line = line ∙ sym (one_text x)
+
+  moves_by : (b : Bool) → nat_lt k n ≡ b
+      → length (bom ++ ended_text (with_line (cond b k (suc k)))) ≡ moved_by l m.at
+  moves_by true e = lines_stay profile bom es valid n k (x ∷ []) l m closed few adds one_line at m_at (ltb-true k n e)
+  moves_by false e =
+      let next : suc k ≡ 1 + k = omega arith in
+      ap (λ (j : ℕ). length (bom ++ ended_text (with_line j))) next
+      ∙ lines_move profile bom es valid n k (x ∷ []) l m closed few adds one_line at m_at (ltb-false k n e)
+
+  pub line_moves : length (bom ++ ended_text (with_line (later_line n k))) ≡ moved_by l m.at
   line_moves = moves_by (nat_lt k n) refl
 
 -- ---- the newline

@@ -1,6 +1,6 @@
 -- A new line or header that keeps its place after some edits keeps it after fewer of them, without one of the changes.
 --
--- What is asked is asked of each edit and of each change, so of fewer too.
+-- What is asked is asked of each edit, of each line and of each change, so of fewer too.
 --
 -- Theorem: `placed_before`.
 use Rattle.std.proofs.Common.{◌≡◌, ℕ, ◌<◌, Bool, false, List, [], ◌∷◌, length, suc, All, inl, inr}
@@ -9,9 +9,11 @@ use Rattle.std.specs.List.{list_any}
 use Rattle.std.proofs.lemmas.Bool.{or_parts}
 use Rattle.std.proofs.lemmas.List.Elements.{All-cons, All-nil, All-weaker}
 use Rattle.std.proofs.lemmas.List.Folds.{list_any_none}
+use Rattle.keep_syntax.specs.Tree.{Document, text}
+use Rattle.keep_edit_spec.specs.DottedLines.{AddedAt, IsAfter, added_at, into_dotted}
 use Rattle.keep_edit_spec.specs.Edits.{Edit, append_element, append_table, insert, remove, rename, set}
-use Rattle.keep_edit_spec.specs.Runs.{ArePlain, IsBeforeHeaders, IsPlain, IsPlainBefore, KeepsPlace, LetsCome}
-use Rattle.keep_edit_spec.specs.Runs.{is_header, is_insert, takes_up_to}
+use Rattle.keep_edit_spec.specs.Runs.{ArePlain, IsBeforeHeaders, IsInOrder, IsPlain, IsPlainBefore, KeepsPlace}
+use Rattle.keep_edit_spec.specs.Runs.{LetsCome, is_header, is_insert, takes_up_to}
 use Rattle.keep_edit_spec.specs.TextChanges.{IsBeside, TextChange, change_at, with_change}
 use Rattle.keep_edit_spec.proofs.Lists.TextChanges.{none_with, rest_of_all}
 
@@ -46,23 +48,36 @@ each_none test (e ∷ edits) none =
     let parts = or_parts (test e) (list_any test edits) none in
     All-cons (λ x. test x ≡ false) e edits parts.0 (each_none test edits parts.1)
 
--- what holds of each of the edits holds of each of the fewer
-module _ (bytes : List ℕ) (edits fewer : List Edit) (are : (P : Edit → Type 0) → All P edits → All P fewer)
+-- what holds of each of the edits holds of each of the fewer, and of the lines
+module _ (s : Document) (edits fewer : List Edit) (are : (P : Edit → Type 0) → All P edits → All P fewer)
+    (lines less : List AddedAt) (each : (P : AddedAt → Type 0) → All P lines → All P less)
     (changes : List TextChange) (c : TextChange) where
+  abbrev bytes : List ℕ
+  bytes = text s
+
   headers_before : (at : ℕ) → IsBeforeHeaders bytes edits at → IsBeforeHeaders bytes fewer at
   headers_before at (inl none) =
       inl (list_any_none is_header fewer (are (λ e. is_header e ≡ false) (each_none is_header edits none)))
   headers_before at (inr before) = inr before
 
-  pub placed_before : (f : Edit) (d : TextChange) → KeepsPlace bytes edits (with_change changes c) f d
-      → KeepsPlace bytes fewer changes f d
-  placed_before (insert path value) d h = elim h [
-    | inl all ↦ inl (are (λ x. IsTrue (is_insert x)) all)
-    | inr (plain, (lets, before)) ↦ inr (
-      plain_before bytes changes c plain,
-      (lets_before bytes changes c d.at lets, headers_before d.at before),
-    )
-  ]
+  order_before : (line : AddedAt) → IsInOrder lines (with_change changes c) line → IsInOrder less changes line
+  order_before line order = record {
+    after = each (λ l. IsAfter l line) order.after;
+    stays = λ is. (none_with (takes_up_to line.at) changes c (order.stays is)).1;
+  }
+
+  pub placed_before : (f : Edit) (d : TextChange) → KeepsPlace s edits (with_change changes c) lines f d
+      → KeepsPlace s fewer changes less f d
+  placed_before (insert path value) d (order, h) = (
+    order_before (added_at s path d (into_dotted s path)) order,
+    elim h [
+      | inl all ↦ inl (are (λ x. IsTrue (is_insert x)) all)
+      | inr (plain, (lets, before)) ↦ inr (
+        plain_before bytes changes c plain,
+        (lets_before bytes changes c d.at lets, headers_before d.at before),
+      )
+    ],
+  )
   placed_before (append_table keys) d h = elim h [
     | inl all ↦ inl (are (λ x. IsTrue (is_header x)) all)
     | inr plain ↦ inr (clear_before bytes changes c d plain)

@@ -2,7 +2,9 @@
 --
 -- Either all edits before it are of its kind, or all newlines are line feeds, before and after (`same_newline`), and
 -- what the last edit takes or writes ends elsewhere than where it comes (`apart_now`, `not_there`), or is a line in
--- whose place it comes (`placed_now`, `line_comes`): then what is before that line is there still (`said_now`).
+-- whose place it comes (`placed_now`, `line_comes`): then what is before that line is there still (`said_now`). A line
+-- of a table which dotted keys make comes in the place of none (`line_placed`). Two lines that are in order are so
+-- still, since two changes begin at one place only where they did (`order_now`).
 --
 -- Theorem: `still_placed`.
 use Rattle.std.proofs.Common.{◌≡◌, ◌≢◌, ℕ, ◌+◌, ◌<◌, Bool, List, [], ◌∷◌, length, refl, sym, ap, subst, ◌∙◌, arith, All}
@@ -19,16 +21,19 @@ use Rattle.keep_edit_spec.specs.Edits.{Edit, append_element, append_table, edite
 use Rattle.keep_edit_spec.specs.Edits.{rename, set}
 use Rattle.keep_edit_spec.specs.Laws.{IsEditable}
 use Rattle.keep_edit_spec.specs.Lines.{newline_of}
+use Rattle.keep_edit_spec.specs.AddedLines.{first_new}
+use Rattle.keep_edit_spec.specs.DottedLines.{AddedAt, IsAfter, added_at, into_dotted}
 use Rattle.keep_edit_spec.specs.AppendedHeaders.{AppendsElement, AppendsTable}
 use Rattle.keep_edit_spec.specs.Runs.{IsBeforeHeaders, IsPlain, IsPlainBefore, IsRun, IsStillPlaced, KeepsPlace}
 use Rattle.keep_edit_spec.specs.Runs.{MakesChange, is_header, is_insert, is_new_after, takes_up_to, ArePlain}
-use Rattle.keep_edit_spec.specs.Runs.{ComesInPlace, LeavesPlace, LetsCome, seen}
+use Rattle.keep_edit_spec.specs.Runs.{ComesInOrder, ComesInPlace, IsSeenStill, LeavesPlace, LetsCome, StaysPlaced, seen}
+use Rattle.keep_edit_spec.specs.Runs.{with_line}
 use Rattle.keep_edit_spec.specs.TextChanges.{Follow, IsBeside, TextChange, moved_past, text_with, with_change}
 use Rattle.keep_edit_spec.specs.TextChanges.{change_at, moved_by_all}
 use Rattle.keep_edit_spec.proofs.Append.AppendPlace.{append_place}
 use Rattle.keep_edit_spec.proofs.Lists.PlainTexts.{plain_newline, plain_with}
-use Rattle.keep_edit_spec.proofs.Lists.TextChanges.{begins_apart, end_apart, none_with, rest_of_all, end_apart_let}
-use Rattle.keep_edit_spec.proofs.Lists.TextChanges.{moved_next, one_of_all}
+use Rattle.keep_edit_spec.proofs.Lists.TextChanges.{begins_apart, begins_at_one, end_apart, end_apart_let, moved_next}
+use Rattle.keep_edit_spec.proofs.Lists.TextChanges.{none_with, one_of_all, rest_of_all}
 use Rattle.keep_edit_spec.specs.SaidLines.{SaysBefore}
 use Rattle.keep_edit_spec.proofs.Lists.MadeChanges.{within_text, removes_there}
 
@@ -37,18 +42,6 @@ ends_elsewhere : (at : ℕ) (c : TextChange) → 0 < c.size → takes_up_to at c
 ends_elsewhere at c some clear same =
     let takes : takes_up_to at c ≡ true = rw (lt-ltb 0 c.size some) (eq-eqb (c.at + c.size) at same) in
     absurd cc
-
--- where newlines are alike
-same_newline : (profile : Profile) (limit : ℕ) (s : Document) (edits : List Edit) (changes : List TextChange)
-    (now : Document) (r : IsRun profile limit s edits changes now) (e : Edit) (c : TextChange)
-    → IsEditable profile limit (edited_document now e)
-    → text (edited_document now e) ≡ text_with 0 (text s) (with_change changes c)
-    → ArePlain (text s) (with_change changes c) → newline_of (edited_document now e) ≡ newline_of now
-same_newline profile limit s edits changes now r e c fine same (plain, new) =
-    plain_newline profile limit (edited_document now e) fine
-    (subst IsPlain (sym same) (plain_with (text s) (with_change changes c) plain new))
-    ∙ sym (plain_newline profile limit now r.editable
-    (subst IsPlain (sym r.text) (plain_with (text s) changes plain (rest_of_all (λ x. IsPlain x.new) changes c new))))
 
 module _ (s : Document) (changes : List TextChange) (c : TextChange) (left : All (λ x. IsBeside x c) changes)
     (follow : Follow 0 changes) where
@@ -73,9 +66,9 @@ abbrev range : {bytes : List ℕ} {at : ℕ} → SaysBefore bytes at → TextCha
 range b = change_at b.from (suc (length b.line)) []
 
 module _ (profile : Profile) (limit : ℕ) (s : Document) (edits : List Edit) (changes : List TextChange)
-    (now : Document) (r : IsRun profile limit s edits changes now) (c : TextChange) (some : 0 < c.size)
-    (within : c.at + c.size ≤ length (text s)) (left : All (λ x. IsBeside x c) changes) (d : TextChange)
-    (right : All (λ x. IsBeside x d) changes) (beside : IsBeside c d)
+    (lines : List AddedAt) (now : Document) (r : IsRun profile limit s edits changes lines now) (c : TextChange)
+    (some : 0 < c.size) (within : c.at + c.size ≤ length (text s)) (left : All (λ x. IsBeside x c) changes)
+    (d : TextChange) (right : All (λ x. IsBeside x d) changes) (beside : IsBeside c d)
     (lets : All (LetsCome (text s) (with_change changes c) d.at) (with_change changes c)) where
   abbrev all : List TextChange
   all = with_change changes c
@@ -112,10 +105,10 @@ module _ (profile : Profile) (limit : ℕ) (s : Document) (edits : List Edit) (c
           (other x (All-head (λ y. IsBeside y c) x cs h) (All-head (λ y. y.at ≡ c.at → 0 < y.size) x cs k))
           (none_here cs (All-tail (λ y. IsBeside y c) x cs h) (All-tail (λ y. y.at ≡ c.at → 0 < y.size) x cs k))
 
-  line_comes : (path : List Part) (value : Value)
+  line_comes : (path : List Part) (value : Value) → into_dotted now path ≡ false
       → ((moved_past changes c).at + c.size ≢ (moved_past changes d).at)
       ⊎ ComesInPlace now (moved_past changes c) (insert path value) (moved_past changes d)
-  line_comes path value = by (one_of_all (LetsCome (text s) all d.at) changes c lets)
+  line_comes path value ends = by (one_of_all (LetsCome (text s) all d.at) changes c lets)
     where
       by : LetsCome (text s) all d.at c → ((moved_past changes c).at + c.size ≢ (moved_past changes d).at)
           ⊎ ComesInPlace now (moved_past changes c) (insert path value) (moved_past changes d)
@@ -129,7 +122,7 @@ module _ (profile : Profile) (limit : ℕ) (s : Document) (edits : List Edit) (c
               (let both : false ≡ true =
               sym e ∙ eq-eqb ((moved_past changes c).at + c.size) (moved_past changes d).at same in absurd cc))
           there true e = inr (record {
-            line = refl;
+            line = ap not ends;
             some = some;
             takes = h.takes;
             next = eqb-true ((moved_past changes c).at + c.size) (moved_past changes d).at e;
@@ -205,86 +198,154 @@ takes_or_ends profile limit s (append_table keys) c fine h other =
 takes_or_ends profile limit s (append_element keys) c fine h other =
     inr (refl, (h.adds, element_at_end profile limit s keys c fine h))
 
--- it ends elsewhere than where a header comes
-apart_now : (profile : Profile) (limit : ℕ) (s : Document) (edits : List Edit) (changes : List TextChange)
-    (now : Document) (r : IsRun profile limit s edits changes now) (e : Edit) (c : TextChange)
-    → MakesChange profile limit s e c → All (λ x. IsBeside x c) changes → (d : TextChange)
-    → All (λ x. IsBeside x d) changes → IsBeside c d → IsPlainBefore (text s) (with_change changes c) d.at
-    → is_header e ≡ false → is_insert e ≡ false → (moved_past changes c).at + c.size ≢ (moved_past changes d).at
-apart_now profile limit s edits changes now r e c h left d right beside plain no_header other =
-    elim (takes_or_ends profile limit s e c r.first h other) [
-      | inl some ↦ taken_apart s changes c left r.follow some d right beside plain
-      | inr (head, there) ↦ (let both : true ≡ false = sym head ∙ no_header in absurd cc)
-    ]
-
--- or than where a line comes, or this comes in the place of what it takes
-placed_now : (profile : Profile) (limit : ℕ) (s : Document) (edits : List Edit) (changes : List TextChange)
-    (now : Document) (r : IsRun profile limit s edits changes now) (e : Edit) (c : TextChange)
-    → MakesChange profile limit s e c → All (λ x. IsBeside x c) changes → (path : List Part) (value : Value)
-    (d : TextChange) → All (λ x. IsBeside x d) changes → IsBeside c d
-    → All (LetsCome (text s) (with_change changes c) d.at) (with_change changes c)
-    → (is_header e ≡ true → d.at ≢ length (text s)) → is_insert e ≡ false
-    → ((moved_past changes c).at + c.size ≢ (moved_past changes d).at)
-    ⊎ ComesInPlace now (moved_past changes c) (insert path value) (moved_past changes d)
-placed_now profile limit s edits changes now r e c h left path value d right beside lets before other =
-    elim (takes_or_ends profile limit s e c r.first h other) [
-      | inl some ↦
-          line_comes profile limit s edits changes now r c some (within_text profile limit s e c r.first h) left d right
-          beside lets path value
-      | inr (head, (zero_size, end)) ↦ inl
-          (header_apart s changes c left r.follow zero_size end d right (before head))
-    ]
-
 not_after : (bytes : List ℕ) (e : Edit) (edits : List Edit) (at : ℕ) → IsBeforeHeaders bytes (e ∷ edits) at
     → is_header e ≡ true → at ≢ length bytes
 not_after bytes e edits at (inl none) one same =
     let no_one = (or_parts (is_header e) (list_any is_header edits) none).0 in absurd cc
 not_after bytes e edits at (inr before) one same = before same
 
--- After an edit of a run, what another writes anew keeps its place.
-pub still_placed : (profile : Profile) (limit : ℕ) (s : Document) (edits : List Edit) (changes : List TextChange)
-    (now : Document) (r : IsRun profile limit s edits changes now) (e : Edit) (c : TextChange) (f : Edit)
-    (d : TextChange) → MakesChange profile limit s e c → MakesChange profile limit now e (moved_past changes c)
-    → All (λ x. IsBeside x c) changes → All (λ x. IsBeside x d) changes
-    → IsBeside c d → IsEditable profile limit (edited_document now e)
-    → text (edited_document now e) ≡ text_with 0 (text s) (with_change changes c)
-    → KeepsPlace (text s) (seen s e ∷ edits) (with_change changes c) f d
-    → IsStillPlaced now e (moved_past changes c) f (moved_past changes d)
-still_placed profile limit s edits changes now r e c (insert path value) d h is left right beside fine same k =
-    λ new. elim k [
-      | inl all ↦
-          absurd (none_other is_insert (seen s e) edits (insert_seen s e ∙ insert_other e path value new) all)
+-- ---- lines at one place
+
+-- two lines that are in order are so still
+order_now : (s : Document) (changes : List TextChange) (now : Document) (path other : List Part) (c d : TextChange)
+    → Follow 0 changes → All (λ x. IsBeside x c) changes → All (λ x. IsBeside x d) changes
+    → first_new now path ≡ first_new s path → into_dotted now path ≡ into_dotted s path
+    → first_new now other ≡ first_new s other → into_dotted now other ≡ into_dotted s other
+    → IsAfter (added_at s path c (into_dotted s path)) (added_at s other d (into_dotted s other))
+    → IsAfter (added_at now path (moved_past changes c) (into_dotted now path))
+    (added_at now other (moved_past changes d) (into_dotted now other))
+order_now s changes now path other c d follow left right first to first' to' order is same =
+    let one : c.at ≡ d.at = begins_at_one changes c d follow left right same in
+    rw (first, first', to) (order (sym to' ∙ is) one)
+
+-- ---- after an edit of a run
+
+module _ (profile : Profile) (limit : ℕ) (s : Document) (edits : List Edit) (changes : List TextChange)
+    (lines : List AddedAt) (now : Document) (r : IsRun profile limit s edits changes lines now) (e : Edit)
+    (c : TextChange) where
+  -- where newlines are alike
+  same_newline : IsEditable profile limit (edited_document now e)
+      → text (edited_document now e) ≡ text_with 0 (text s) (with_change changes c)
+      → ArePlain (text s) (with_change changes c) → newline_of (edited_document now e) ≡ newline_of now
+  same_newline fine same (plain, new) =
+      plain_newline profile limit (edited_document now e) fine
+      (subst IsPlain (sym same) (plain_with (text s) (with_change changes c) plain new))
+      ∙ sym (plain_newline profile limit now r.editable
+      (subst IsPlain (sym r.text) (plain_with (text s) changes plain (rest_of_all (λ x. IsPlain x.new) changes c new))))
+
+  -- what it takes or writes ends elsewhere than where a header comes
+  apart_now : MakesChange profile limit s e c → All (λ x. IsBeside x c) changes → (d : TextChange)
+      → All (λ x. IsBeside x d) changes → IsBeside c d → IsPlainBefore (text s) (with_change changes c) d.at
+      → is_header e ≡ false → is_insert e ≡ false → (moved_past changes c).at + c.size ≢ (moved_past changes d).at
+  apart_now makes left d right beside plain no_header other =
+      elim (takes_or_ends profile limit s e c r.first makes other) [
+        | inl some ↦ taken_apart s changes c left r.follow some d right beside plain
+        | inr (head, there) ↦ (let both : true ≡ false = sym head ∙ no_header in absurd cc)
+      ]
+
+  -- a header after an edit of another kind
+  header_placed : (f : Edit) → is_insert f ≡ false → is_header f ≡ true → MakesChange profile limit s e c
+      → All (λ x. IsBeside x c) changes → (d : TextChange) → All (λ x. IsBeside x d) changes → IsBeside c d
+      → IsEditable profile limit (edited_document now e)
+      → text (edited_document now e) ≡ text_with 0 (text s) (with_change changes c)
+      → All (λ x. IsTrue (is_header x)) (seen s e ∷ edits) ⊎ IsPlainBefore (text s) (with_change changes c) d.at
+      → IsTrue (is_new_after e f) → StaysPlaced now e (moved_past changes c) f (moved_past changes d)
+  header_placed f line head makes left d right beside fine same k new =
+      let no_header : is_header e ≡ false = header_other e f line head new in
+      elim k [
+        | inl all ↦ absurd (none_other is_header (seen s e) edits (header_seen s e ∙ no_header) all)
+        | inr plain ↦ (
+          same_newline fine same plain.0,
+          λ other. inl (apart_now makes left d right beside plain no_header other),
+        )
+      ]
+
+  -- and elsewhere than where a line comes, or this comes in the place of what it takes
+  placed_now : MakesChange profile limit s e c → All (λ x. IsBeside x c) changes → (path : List Part) (value : Value)
+      (d : TextChange) → All (λ x. IsBeside x d) changes → IsBeside c d
+      → All (LetsCome (text s) (with_change changes c) d.at) (with_change changes c)
+      → (is_header e ≡ true → d.at ≢ length (text s)) → is_insert e ≡ false → into_dotted now path ≡ false
+      → ((moved_past changes c).at + c.size ≢ (moved_past changes d).at)
+      ⊎ ComesInPlace now (moved_past changes c) (insert path value) (moved_past changes d)
+  placed_now makes left path value d right beside lets before other ends =
+      elim (takes_or_ends profile limit s e c r.first makes other) [
+        | inl some ↦
+            line_comes profile limit s edits changes lines now r c some (within_text profile limit s e c r.first makes)
+            left d right beside lets path value ends
+        | inr (head, (zero_size, end)) ↦ inl
+            (header_apart s changes c left r.follow zero_size end d right (before head))
+      ]
+
+  -- an insert, of which it is known where it comes
+  module _ (path : List Part) (value : Value) (d : TextChange) (makes : MakesChange profile limit s e c)
+      (left : All (λ x. IsBeside x c) changes) (right : All (λ x. IsBeside x d) changes) (beside : IsBeside c d)
+      (seen_there : IsSeenStill s now (insert path value))
+      (k : KeepsPlace s (seen s e ∷ edits) (with_change changes c) (with_line s e c lines) (insert path value) d) where
+    -- after one of another kind
+    line_placed : All (LetsCome (text s) (with_change changes c) d.at) (with_change changes c)
+        → IsBeforeHeaders (text s) (seen s e ∷ edits) d.at → is_insert e ≡ false
+        → ((moved_past changes c).at + c.size ≢ (moved_past changes d).at)
+        ⊎ ComesInPlace now (moved_past changes c) (insert path value) (moved_past changes d)
+    line_placed lets before other = by (into_dotted s path) refl
+      where
+        not_last : is_header e ≡ true → d.at ≢ length (text s)
+        not_last head = not_after (text s) (seen s e) edits d.at before (header_seen s e ∙ head)
+
+        by : (b : Bool) → into_dotted s path ≡ b
+            → ((moved_past changes c).at + c.size ≢ (moved_past changes d).at)
+            ⊎ ComesInPlace now (moved_past changes c) (insert path value) (moved_past changes d)
+        by false is =
+            placed_now makes left path value d right beside lets not_last other (seen_there.1 ∙ is)
+        by true is =
+            let clear = none_with (takes_up_to d.at) changes c (k.0.stays is) in
+            elim (takes_or_ends profile limit s e c r.first makes other) [
+              | inl some ↦ inl
+                  (end_apart changes c d r.follow left right clear.1 beside (ends_elsewhere d.at c some clear.0))
+              | inr (head, (zero_size, end)) ↦ inl
+                  (header_apart s changes c left r.follow zero_size end d right (not_last head))
+            ]
+
+    -- after another line
+    lines_ordered : IsSeenStill s now e
+        → ComesInOrder now (insert path value) (moved_past changes d) e (moved_past changes c)
+    lines_ordered seen_now = by e refl
+      where
+        by : (f : Edit) → f ≡ e → ComesInOrder now (insert path value) (moved_past changes d) f (moved_past changes c)
+        by (insert other new) is =
+            let at_first : AddedAt = added_at s other c (into_dotted s other) in
+            let its : AddedAt = added_at s path d (into_dotted s path) in
+            let still : IsSeenStill s now (insert other new) = subst (IsSeenStill s now) (sym is) seen_now in
+            order_now s changes now other path c d r.follow left right still.0 still.1 seen_there.0 seen_there.1
+            (All-head (λ l. IsAfter l its) at_first lines
+            (subst (λ (f : Edit). All (λ l. IsAfter l its) (with_line s f c lines)) (sym is) k.0.after))
+        by (set other new) is = tt
+        by (rename other name) is = tt
+        by (remove other) is = tt
+        by (append_table keys) is = tt
+        by (append_element keys) is = tt
+
+  -- what another writes anew keeps its place
+  pub still_placed : (f : Edit) (d : TextChange)
+      → MakesChange profile limit s e c → IsSeenStill s now e → IsSeenStill s now f
+      → All (λ x. IsBeside x c) changes → All (λ x. IsBeside x d) changes
+      → IsBeside c d → IsEditable profile limit (edited_document now e)
+      → text (edited_document now e) ≡ text_with 0 (text s) (with_change changes c)
+      → KeepsPlace s (seen s e ∷ edits) (with_change changes c) (with_line s e c lines) f d
+      → IsStillPlaced now e (moved_past changes c) f (moved_past changes d)
+  still_placed (insert path value) d makes seen_e seen_f left right beside fine same k = (
+    λ new. elim k.1 [
+      | inl all ↦ absurd (none_other is_insert (seen s e) edits (insert_seen s e ∙ insert_other e path value new) all)
       | inr (plain, (lets, before)) ↦ (
-        same_newline profile limit s edits changes now r e c fine same plain,
-        placed_now profile limit s edits changes now r e c h left path value d right beside lets
-            (λ head. not_after (text s) (seen s e) edits d.at before (header_seen s e ∙ head)),
+        same_newline fine same plain,
+        line_placed path value d makes left right beside seen_f k lets before,
       )
-    ]
-still_placed profile limit s edits changes now r e c (append_table keys) d h is left right beside fine same k =
-    λ new. elim k [
-      | inl all ↦
-          let other = header_seen s e ∙ header_other e (append_table keys) refl refl new in
-          absurd (none_other is_header (seen s e) edits other all)
-      | inr plain ↦
-          let other = header_other e (append_table keys) refl refl new in (
-            same_newline profile limit s edits changes now r e c fine same plain.0,
-            λ line. inl (apart_now profile limit s edits changes now r e c h left d right beside plain other line),
-          )
-    ]
-still_placed profile limit s edits changes now r e c (append_element keys) d h is left right beside fine same k =
-    λ new. elim k [
-      | inl all ↦
-          let other = header_seen s e ∙ header_other e (append_element keys) refl refl new in
-          absurd (none_other is_header (seen s e) edits other all)
-      | inr plain ↦
-          let other = header_other e (append_element keys) refl refl new in (
-            same_newline profile limit s edits changes now r e c fine same plain.0,
-            λ line. inl (apart_now profile limit s edits changes now r e c h left d right beside plain other line),
-          )
-    ]
-still_placed profile limit s edits changes now r e c (remove path) d h is left right beside fine same k =
-    λ new. absurd cc
-still_placed profile limit s edits changes now r e c (set path value) d h is left right beside fine same k =
-    λ new. absurd cc
-still_placed profile limit s edits changes now r e c (rename path name) d h is left right beside fine same k =
-    λ new. absurd cc
+    ],
+    lines_ordered path value d makes left right beside seen_f k seen_e,
+  )
+  still_placed (append_table keys) d makes seen_e seen_f left right beside fine same k =
+      (header_placed (append_table keys) refl refl makes left d right beside fine same k, tt)
+  still_placed (append_element keys) d makes seen_e seen_f left right beside fine same k =
+      (header_placed (append_element keys) refl refl makes left d right beside fine same k, tt)
+  still_placed (remove path) d makes seen_e seen_f left right beside fine same k = (λ new. absurd cc, tt)
+  still_placed (set path value) d makes seen_e seen_f left right beside fine same k = (λ new. absurd cc, tt)
+  still_placed (rename path name) d makes seen_e seen_f left right beside fine same k = (λ new. absurd cc, tt)

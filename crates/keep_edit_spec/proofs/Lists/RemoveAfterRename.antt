@@ -90,8 +90,10 @@ module _ (t : List ℕ) (path other : List Part) where
 
   pub line_alike : (r r' : Reading) (l : Line) (x : Changed Line) → IsLineRead t path other r r' l x
       → IsAlike other r r' l x.to
-  line_alike r r' l x (by_key was now same) =
-      record { own = hidden_own other r' x.to.content now ∙ sym (hidden_own other r l.content was); comment = same }
+  line_alike r r' l x (by_key h) = record {
+    own = hidden_own other r' x.to.content h.now ∙ sym (hidden_own other r l.content h.was);
+    comment = h.comment;
+  }
   line_alike r r' l x (in_braces same is) =
       subst (λ (q : Reading). IsAlike other r q l x.to) (sym same)
       (subst (EachTo (IsAlike other r r l)) is (value_alike r l))

@@ -1,11 +1,11 @@
 -- A remove takes the same line, or leaves its own line with the comment, after another remove took a table with its
 -- header, if the line's path is not under the table's.
 --
--- No line of the table is the other path's own, and of the other lines the same ones are (SectionOwn). So the line that
--- the remove takes or clears is still the last own line of its path, at the same number if it comes before the table,
--- and else at one that is less by the table's lines. It has a comment if it had one (SectionSearch), and the remove is
--- not refused (RemovedOwn). Its place is as before, or earlier by the bytes of the table (`places`), and so is its end
--- (`ends_now`).
+-- No line of the table is the other path's own, and of the other lines the same ones are (SectionFound). So the line
+-- that the remove takes or clears is still the last own line of its path, at the same number if it comes before the
+-- table, and else at one that is less by the table's lines. It has a comment if it had one (SectionSearch), and the
+-- remove is not refused (RemovedOwn). Its place is as before, or earlier by the bytes of the table (`places`), and so
+-- is its end (`ends_now`).
 --
 -- Theorems: `remove_after_section`, `clear_after_section`.
 use Rattle.std.proofs.Common.{◌≡◌, ℕ, suc, ◌+◌, ◌-◌, ◌<◌, ◌≤◌, true, List, [], length, refl, sym, ap, ap₂, subst}
@@ -35,8 +35,8 @@ use Rattle.keep_edit_spec.proofs.Lists.Places.{width_stays}
 use Rattle.keep_edit_spec.proofs.Lists.RemovedOwn.{own_allowed, within_none}
 use Rattle.keep_edit_spec.proofs.Lists.RemovedPlaces.{at_is as line_at, end_is as line_end, mine, place_is}
 use Rattle.keep_edit_spec.proofs.Lists.SectionGone as gone
-use Rattle.keep_edit_spec.proofs.Lists.SectionOwn.{IsNumberNow, number_now}
-use Rattle.keep_edit_spec.proofs.Lists.SectionSearch.{clear_without, removed, removed_place}
+use Rattle.keep_edit_spec.proofs.Lists.SectionFound.{IsFoundNow, found_now}
+use Rattle.keep_edit_spec.proofs.Lists.SectionSearch.{clear_without, never_own, own_body, removed, removed_place}
 use Rattle.keep_edit_spec.proofs.Lists.SetPlaces.{Stays}
 
 module _ (profile : Profile) (limit : ℕ) (s : Document) (path : List Part) (c : TextChange)
@@ -55,8 +55,10 @@ module _ (profile : Profile) (limit : ℕ) (s : Document) (path : List Part) (c 
   abbrev count : ℕ
   count = gone.gone profile limit s path c fine h
 
-  its : IsNumberNow now other head count n
-  its = number_now profile limit s path c fine h other apart n own
+  its : IsFoundNow s now (mine other) head count n
+  its =
+      found_now profile limit s path c fine h (mine other) (λ r l e. never_own other r l.content e)
+      (λ l. own_body profile limit s path c fine h other apart l.content) n own
 
   abbrev j : ℕ
   j = its.number
@@ -73,7 +75,7 @@ module _ (profile : Profile) (limit : ℕ) (s : Document) (path : List Part) (c 
   allowed_now : refusal profile limit now (remove other) ≡ None
   allowed_now =
       own_allowed profile limit now other j
-      (rules_now profile limit s path c fine (gone.taken profile limit s path c fine h)) its.own
+      (rules_now profile limit s path c fine (gone.taken profile limit s path c fine h)) its.last
       (removable profile limit s other allowed).below_root
 
   -- ---- the place
@@ -141,10 +143,10 @@ module _ (profile : Profile) (limit : ℕ) (s : Document) (path : List Part) (c 
     allowed = allowed_now;
     bare = bare_now bare;
     number = j;
-    own = its.own;
+    own = its.last;
     closed = closed_now;
     takes = takes;
-    is = place_is now other j (bare_now bare) its.own closed_now
+    is = place_is now other j (bare_now bare) its.last closed_now
         ∙ ap₂ (λ (b e : ℕ). record { start = b; end = e; new = [] }) (places m_at).at (places m_at).end;
   }
 
@@ -197,7 +199,7 @@ module _ (profile : Profile) (limit : ℕ) (s : Document) (path : List Part) (c 
 
   clears_after : ClearsLine profile limit s other m → IsBeside c m → ClearsLine profile limit now other (moved c m)
   clears_after k side =
-      clears_now profile limit s now other c m k side allowed_now j its.own closed_now
+      clears_now profile limit s now other c m k side allowed_now j its.last closed_now
       (ends_now (omega (arith, k.some, k.is.start, k.is.end)) side)
       (ap text (sym (gone.is_now profile limit s path c fine h)) ∙ change_put s (remove path)
       ∙ ap (put (text s)) h.is)

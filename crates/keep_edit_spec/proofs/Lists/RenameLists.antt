@@ -13,15 +13,16 @@ use Rattle.std.proofs.Common.{inl, inr, None, Some}
 use Rattle.std.specs.Prelude.{◌⊎◌}
 use Rattle.std.proofs.lemmas.List.Elements.{All-cons, All-head, All-nil, All-tail, All-weaker}
 use Rattle.keep_types.specs.declared.leaf.Profile.{Profile}
-use Rattle.keep_syntax.specs.Tree as tree
 use Rattle.keep_syntax.specs.Tree.{Document}
 use Rattle.keep_path.specs.Path.{Part, beside}
+use Rattle.keep_edit_spec.specs.DottedLines.{AddedAt}
 use Rattle.keep_edit_spec.specs.Edits.{Edit, append_element, append_table, edited_document, insert, remove, rename, set}
 use Rattle.keep_edit_spec.specs.Laws.{IsEditable}
 use Rattle.keep_edit_spec.specs.RenameLists.{AllowsKey, IsRenameIn, RunGoesOnRenamed}
 use Rattle.keep_edit_spec.specs.RenamedKeys.{IsRenamedAgain, RenamesKey}
-use Rattle.keep_edit_spec.specs.RunLists.{AreAtOnce, IsOneOf, MadeEdit, changes_of, document_after, made, seen_of}
-use Rattle.keep_edit_spec.specs.Runs.{IsRun, KeepsPlace, LeavesAlone, MakesChange, seen}
+use Rattle.keep_edit_spec.specs.RunLists.{AreAtOnce, IsOneOf, MadeEdit, changes_of, document_after, lines_of}
+use Rattle.keep_edit_spec.specs.RunLists.{made, seen_of}
+use Rattle.keep_edit_spec.specs.Runs.{IsRun, KeepsPlace, LeavesAlone, MakesChange, seen, with_line}
 use Rattle.keep_edit_spec.specs.TextChanges.{IsBeside, TextChange, change_at, moved_by_all, moved_past}
 use Rattle.keep_edit_spec.proofs.Lists.RenameTwice.{renames_again, same_places, wrote_key}
 use Rattle.keep_edit_spec.proofs.Lists.RunLists.{ComesLast, beside_rest, each_apart, each_of_others, last_of}
@@ -132,8 +133,12 @@ module _ (profile : Profile) (limit : ℕ) (s : Document) (ms rest : List MadeEd
   some_bytes : MakesChange profile limit s e c → 0 < c.size
   some_bytes its = its.some
 
-  any_place : (edits : List Edit) (changes : List TextChange) → KeepsPlace (tree.text s) edits changes e c
-  any_place edits changes = tt
+  any_place : (edits : List Edit) (changes : List TextChange) (lines : List AddedAt)
+      → KeepsPlace s edits changes lines e c
+  any_place edits changes lines = tt
+
+  no_line : (lines : List AddedAt) → with_line s e c lines ≡ lines
+  no_line lines = refl
 
   alone_rest : All (λ g. LeavesAlone g f) (seen_of s rest)
   alone_rest =
@@ -142,35 +147,37 @@ module _ (profile : Profile) (limit : ℕ) (s : Document) (ms rest : List MadeEd
       (each_either profile limit s (made e c) one.later one.earlier (subst (AreAtOnce profile limit s) one.all h)))
       (each_of_others s (AllowsKey path more) (made e c) ms rest one allow).1
 
-  k : ComesLast profile limit s e c some_bytes any_place ms rest
+  k : ComesLast profile limit s e c some_bytes any_place no_line ms rest
   k =
-      last_of profile limit s e c some_bytes any_place ms rest one
+      last_of profile limit s e c some_bytes any_place no_line ms rest one
       (All-weaker (λ g. LeavesAlone g f) (λ g. LeavesAlone e g → LeavesAlone g e) (left_back path text more)
       (seen_of s rest) alone_rest) h
 
   places : (d.at ≡ c.at) × (d.size ≡ c.size)
   places = same_places profile limit s path text c more d fine k.last.0 makes
 
-  before : IsRun profile limit s (seen_of s rest) (changes_of rest) (document_after s rest)
-  before = run_before profile limit s e c some_bytes any_place ms rest fine k
+  before : IsRun profile limit s (seen_of s rest) (changes_of rest) (lines_of s rest) (document_after s rest)
+  before = run_before profile limit s e c some_bytes any_place no_line ms rest fine k
 
   beside_others : All (λ x. IsBeside x d) (changes_of rest)
   beside_others =
-      beside_rest profile limit s e c some_bytes any_place ms rest fine k d (sym places.0) (sym places.1)
+      beside_rest profile limit s e c some_bytes any_place no_line ms rest fine k d (sym places.0) (sym places.1)
 
   still : AreAtOnce profile limit s (made f d ∷ rest)
-  still =
-      (makes, (alone_rest, (beside_others, (tt, others profile limit s e c some_bytes any_place ms rest fine k))))
+  still = (
+    makes,
+    (alone_rest, (beside_others, (tt, others profile limit s e c some_bytes any_place no_line ms rest fine k))),
+  )
 
   now : document_after s ms ≡ edited_document (document_after s rest) e
-  now = same_document profile limit s e c some_bytes any_place ms rest fine k h
+  now = same_document profile limit s e c some_bytes any_place no_line ms rest fine k h
 
   again : (text ≡ more → ⊥) → IsRenamedAgain profile limit (document_after s rest) path text
       (moved_past (changes_of rest) c) more (moved_past (changes_of rest) d)
   again =
       renames_again profile limit (document_after s rest) path text (moved_past (changes_of rest) c) more
       (moved_past (changes_of rest) d) before.editable
-      (moves_past profile limit s e c some_bytes any_place ms rest fine k)
+      (moves_past profile limit s e c some_bytes any_place no_line ms rest fine k)
       (before.later f d makes alone_rest beside_others tt).0
 
   renames : (text ≡ more → ⊥) → RenamesKey profile limit (document_after s ms) (beside path text) more
@@ -188,7 +195,8 @@ run_goes_on_renamed profile limit s ms path more d fine h there allow makes =
     let c : TextChange = has.c in
     let last : ComesLast profile limit s (rename path name) c
     (some_bytes profile limit s ms rest path name c more d fine h has.one allow makes)
-    (any_place profile limit s ms rest path name c more d fine h has.one allow makes) ms rest =
+    (any_place profile limit s ms rest path name c more d fine h has.one allow makes)
+    (no_line profile limit s ms rest path name c more d fine h has.one allow makes) ms rest =
     k profile limit s ms rest path name c more d fine h has.one allow makes in
     let same_place = places profile limit s ms rest path name c more d fine h has.one allow makes in
     let at_once : AreAtOnce profile limit s (made (rename path more) d ∷ rest) =

@@ -3,7 +3,8 @@
 -- One line is changed, and each is read as before with the paths changed. The other path begins with neither the
 -- renamed path nor the new one. So a body that is at or under the renamed path was none of a prefix of the other path,
 -- and is none now; any other body stays (`Agrees`, `moved_agrees`). The line with the key says nothing of the other
--- path before and after (`IsHidden`), or the key is in a keyval's value, and the reading stays (`IsLineRead`).
+-- path before and after (`IsHidden`), and leads through it by its own key if it did (`leads_kept`); or the key is in a
+-- keyval's value, and the reading stays (`IsLineRead`).
 -- `PageRead` says all that of the lines one by one, in the order of the search for the key: of a header's or a keyval's
 -- own key by `key_reads`, as in RenameLines, and of one in braces by `value_reads`.
 --
@@ -12,24 +13,28 @@
 use Rattle.std.proofs.Common.{◌≡◌, ℕ, Bool, true, false, List, [], ◌∷◌, ◌++◌, map, refl, sym, ap, ap₂, subst, ◌∙◌}
 use Rattle.std.proofs.Common.{arith, IsUtf8, Option, Some, None, inl, inr}
 use Rattle.std.specs.Prelude.{⊤, ◌⊎◌, codes, position}
+use Rattle.std.specs.List.{list_any}
 use Rattle.std.proofs.lemmas.List.{append-nil}
 use Rattle.keep_types.specs.declared.leaf.Profile.{Profile}
 use Rattle.keep_syntax.specs.Tree.{Name, Value, Content, blank, keyval, header, element, Line, Ended, Document}
 use Rattle.keep_syntax.specs.Tree.{bom_leaves, comment_leaves, ended_leaves, name_leaves, text_of, Key}
 use Rattle.keep_path.specs.Path.{Part, beside, moved_path, same_path}
-use Rattle.keep_meaning.specs.Marks.{Mention, Reading, start}
-use Rattle.keep_meaning.specs.Meaning.{after_line, keys_of, line_mentions, line_of, lines_mentions, mentions_in, step}
+use Rattle.keep_meaning.specs.Marks.{Mention, MentionKind, Reading, below, start}
+use Rattle.keep_meaning.specs.Meaning.{after_line, keyed_mentions, keys_of, line_mentions, line_of, lines_mentions}
+use Rattle.keep_meaning.specs.Meaning.{mentions_in, step}
+use Rattle.keep_meaning.specs.Nodes.{has, is_at, is_dotted, kinds_at}
 use Rattle.keep_edit_spec.specs.Look.{strip}
 use Rattle.keep_edit_spec.specs.Changed.{Changed, IsChangeOf, framed_change, within, or_else}
 use Rattle.keep_edit_spec.specs.Values.{in_value, rename_name, rename_part, renaming, text_of_value}
 use Rattle.keep_edit_spec.specs.Lines.{Page, in_content, in_document, in_line, in_lines, line_text, page_text}
-use Rattle.keep_edit_spec.specs.Lines.{part_paths, rename_content, rename_line, with_page}
+use Rattle.keep_edit_spec.specs.Lines.{leads_dotted, part_paths, plain_line, rename_content, rename_line, with_page}
 use Rattle.keep_edit_spec.specs.Edits.{change, key_part, nested, rename}
 use Rattle.keep_edit_spec.specs.Laws.{IsEditable}
 use Rattle.keep_edit_spec.specs.Refusals.{refusal}
 use Rattle.keep_edit_spec.proofs.Common.DoneAtValue.{EachOf, of_or_else, of_within}
 use Rattle.keep_edit_spec.proofs.Common.LineTexts.{in_line-is, rename_line-is}
 use Rattle.keep_edit_spec.proofs.Common.Marks.{rules_of_document}
+use Rattle.keep_edit_spec.proofs.Common.Moves.{moved}
 use Rattle.keep_edit_spec.proofs.Common.NewLines.{IsKeyText}
 use Rattle.keep_edit_spec.proofs.Common.Runs.{AllOf, IsDisjoint, SomeOf, all_left, all_right, none_or_some}
 use Rattle.keep_edit_spec.proofs.Common.Runs.{same_path-sound, some_left, some_right, strip-append, strip-sound}
@@ -45,8 +50,9 @@ use Rattle.keep_edit_spec.proofs.Rename.RenameLines.{lines_renamed}
 use Rattle.keep_edit_spec.proofs.Rename.RenameNodes.{nodes_renamed}
 use Rattle.keep_edit_spec.proofs.Rename.RenameOnce.{Once, once_after, once_counted, once_right}
 use Rattle.keep_edit_spec.proofs.Rename.RenameWhole.{IsRenamable, beside_is, renamable}
-use Rattle.keep_edit_spec.proofs.Rename.RenamedKeys.{AreClear}
-use Rattle.keep_edit_spec.proofs.Rename.RenamedParts.{IsPart, keyval_position}
+use Rattle.keep_edit_spec.proofs.Rename.RenamedKeys.{AreClear, AreRenamed}
+use Rattle.keep_edit_spec.proofs.Rename.RenamedParts.{IsPart, keyed_renamed, keys_renamed, keyval_position}
+use Rattle.keep_edit_spec.proofs.Rename.RenamedParts.{part_reaches, replaced_key}
 use Rattle.keep_edit_spec.proofs.Rename.RenamedPath.{IsBeside, disjoint_renamed, ends_old, under_renamed}
 
 -- ---- a body, for the other path
@@ -93,10 +99,17 @@ IsHidden other body (keyval name value) = strip (body ++ step 0 (Some name)) oth
 IsHidden other body (header before k after) = ⊤
 IsHidden other body (element before k after) = ⊤
 
+-- a line with a renamed key of its own
+pub record IsKeyRead (other : List Part) (r r' : Reading) (l l' : Line) : Type 0 where
+  pub was : IsHidden other r.body l.content
+  pub now : IsHidden other r'.body l'.content
+  pub comment : l'.comment ≡ l.comment
+  pub body : Agrees other r.body r'.body
+  pub leads : leads_dotted other r' l' ≡ leads_dotted other r l
+
 -- the line that is changed, with the readings before it
 pub data IsLineRead (t : List ℕ) (path other : List Part) (r r' : Reading) (l : Line) (c : Changed Line) : Type 0 where
-  by_key : IsHidden other r.body l.content → IsHidden other r'.body c.to.content → c.to.comment ≡ l.comment
-      → IsLineRead t path other r r' l c
+  by_key : IsKeyRead other r r' l c.to → IsLineRead t path other r r' l c
   in_braces : r' ≡ r → in_line (renaming (key_part t)) path r l ≡ Some c → IsLineRead t path other r r' l c
 
 -- the same lines, read with other bodies
@@ -154,51 +167,84 @@ lines_same other f each r r' (e ∷ es) last h =
 -- ---- the key of a header, or a keyval's own
 
 module _ (profile : Profile) (t : List ℕ) (is_text : IsKeyText profile t) (p b other : List Part)
-    (two : IsBeside t p b) (below : strip p other ≡ None) (new : strip b other ≡ None) where
+    (two : IsBeside t p b) (old : strip p other ≡ None) (new : strip b other ≡ None) where
   abbrev moves : List Part → List Part
   moves = moved_path p b
 
-  record IsContentHidden (r : Reading) (n : ℕ) (c : Content) : Type 0 where
-    was : IsHidden other r.body c
-    now : EachTo (IsHidden other (moves r.body)) (rename_content (key_part t) n c)
+  kinds_kept : (ms : List Mention) → kinds_at other (map (moved moves) ms) ≡ kinds_at other ms
+  kinds_kept [] = refl
+  kinds_kept (m ∷ ms) =
+      let agrees : Agrees other m.path (moves m.path) = moved_agrees p b other m.path old new in
+      let stays : is_at other (moved moves m) ≡ is_at other m =
+      ap (λ (q : List Part). same_path q other) (sym (append-nil (moves m.path)))
+      ∙ agrees_path other m.path (moves m.path) [] agrees
+      ∙ ap (λ (q : List Part). same_path q other) (append-nil m.path) in
+      by (is_at other m) refl stays (kinds_kept ms)
+    where
+      by : (x : Bool) → is_at other m ≡ x → is_at other (moved moves m) ≡ is_at other m
+          → kinds_at other (map (moved moves) ms) ≡ kinds_at other ms
+          → kinds_at other (map (moved moves) (m ∷ ms)) ≡ kinds_at other (m ∷ ms)
+      by true e stays rest = rw (stays, e) (ap (λ (ks : List MentionKind). m.kind ∷ ks) rest)
+      by false e stays rest = rw (stays, e) rest
 
-  content_hidden : (r : Reading) (n : ℕ) (c : Content) → position (same_path p) (part_paths r c) ≡ Some n
-      → IsContentHidden r n c
-  content_hidden r n blank e = record { was = tt; now = tt }
-  content_hidden r n (header x k y) e =
-      record { was = tt; now = by (rename_part (key_part t) n k) (codes "[" ++ text_of x) (text_of y ++ codes "]") }
+  -- keys with one of them renamed lead through the other path if they did
+  leads_kept : (at : List Part) (n : ℕ) (ks ks' : List (List ℕ)) → IsPart p [] at n ks → ks' ≡ replaced_key t n ks
+      → has is_dotted other (map (below (moves at)) (keyed_mentions ks' []))
+      ≡ has is_dotted other (map (below at) (keyed_mentions ks []))
+  leads_kept at n ks ks' part is =
+      let both : AreRenamed p b [] at ks ks' =
+      subst (AreRenamed p b [] at ks) (sym is) (keys_renamed t p b [] at n ks two part) in
+      ap (has is_dotted other) (sym (keyed_renamed p b at ks ks' [] both (part_reaches p at n ks part)))
+      ∙ ap (list_any is_dotted) (kinds_kept (map (below at) (keyed_mentions ks [])))
+
+  record IsContentRead (r : Reading) (c c' : Content) : Type 0 where
+    was : IsHidden other r.body c
+    now : IsHidden other (moves r.body) c'
+    leads : leads_dotted other (moved_reading moves r) (plain_line c') ≡ leads_dotted other r (plain_line c)
+
+  content_read : (r : Reading) (n : ℕ) (c : Content) → position (same_path p) (part_paths r c) ≡ Some n
+      → EachTo (IsContentRead r c) (rename_content (key_part t) n c)
+  content_read r n blank e = tt
+  content_read r n (header x k y) e =
+      by (rename_part (key_part t) n k) (codes "[" ++ text_of x) (text_of y ++ codes "]")
     where
       by : (o : Option (Changed Key)) (left right : List ℕ)
-          → EachTo (IsHidden other (moves r.body)) (within (λ z. header x z y) left right o)
+          → EachTo (IsContentRead r (header x k y)) (within (λ z. header x z y) left right o)
       by None left right = tt
-      by (Some c) left right = tt
-  content_hidden r n (element x k y) e =
-      record { was = tt; now = by (rename_part (key_part t) n k) (codes "[[" ++ text_of x) (text_of y ++ codes "]]") }
+      by (Some c) left right = record { was = tt; now = tt; leads = refl }
+  content_read r n (element x k y) e =
+      by (rename_part (key_part t) n k) (codes "[[" ++ text_of x) (text_of y ++ codes "]]")
     where
       by : (o : Option (Changed Key)) (left right : List ℕ)
-          → EachTo (IsHidden other (moves r.body)) (within (λ z. element x z y) left right o)
+          → EachTo (IsContentRead r (element x k y)) (within (λ z. element x z y) left right o)
       by None left right = tt
-      by (Some c) left right = tt
-  content_hidden r n (keyval name v) e =
+      by (Some c) left right = record { was = tt; now = tt; leads = refl }
+  content_read r n (keyval name v) e =
       let part : IsPart p [] r.body n (keys_of name.key) = keyval_position p r.body n (keys_of name.key) e in
-      record {
-        was = own_apart p other r.body n (keys_of name.key) below part;
-        now = to_within (IsNameRenamed profile t n name) (IsHidden other (moves r.body)) (λ nm. keyval nm v) []
-            (text_of_value v) (rename_name (key_part t) n name)
-            (λ nm h. new_apart t p b other r.body n (keys_of name.key) (keys_of nm.key) two new part h.keys)
-            (name_renamed profile t is_text n name);
-      }
+      to_within (IsNameRenamed profile t n name) (IsContentRead r (keyval name v)) (λ nm. keyval nm v) []
+      (text_of_value v) (rename_name (key_part t) n name)
+      (λ nm h. record {
+        was = own_apart p other r.body n (keys_of name.key) old part;
+        now = new_apart t p b other r.body n (keys_of name.key) (keys_of nm.key) two new part h.keys;
+        leads = leads_kept r.body n (keys_of name.key) (keys_of nm.key) part h.keys;
+      }) (name_renamed profile t is_text n name)
 
   line_read : (r : Reading) (l : Line)
       → EachOf (IsLineRead t p other r (moved_reading moves r) l) (rename_line (key_part t) p r l)
   line_read r l = by (position (same_path p) (part_paths r l.content)) refl
     where
-      inside : (o : Option (Changed Content)) (left right : List ℕ) → IsHidden other r.body l.content
-          → EachTo (IsHidden other (moves r.body)) o
+      inside : (o : Option (Changed Content)) (left right : List ℕ) → EachTo (IsContentRead r l.content) o
           → EachOf (IsLineRead t p other r (moved_reading moves r) l)
           (within (λ c. record l { content = c }) left right o)
-      inside None left right h g = tt
-      inside (Some c) left right h g = by_key h g refl
+      inside None left right h = tt
+      inside (Some c) left right h =
+          by_key (record {
+            was = h.was;
+            now = h.now;
+            comment = refl;
+            body = moved_agrees p b other r.body old new;
+            leads = h.leads;
+          })
 
       by : (o : Option ℕ) → position (same_path p) (part_paths r l.content) ≡ o
           → EachOf (IsLineRead t p other r (moved_reading moves r) l) (elim o [
@@ -209,9 +255,8 @@ module _ (profile : Profile) (t : List ℕ) (is_text : IsKeyText profile t) (p b
           ])
       by None e = tt
       by (Some n) e =
-          let h : IsContentHidden r n l.content = content_hidden r n l.content e in
           inside (rename_content (key_part t) n l.content) (text_of l.before)
-          (text_of l.after ++ text_of (comment_leaves l.comment)) h.was h.now
+          (text_of l.after ++ text_of (comment_leaves l.comment)) (content_read r n l.content e)
 
   -- lines that say nothing of the path itself
   same_read : (r : Reading) (ls : List Line) → AreClear b r.tables → AllOf (IsDisjoint b) (lines_mentions r ls)
@@ -223,7 +268,7 @@ module _ (profile : Profile) (t : List ℕ) (is_text : IsKeyText profile t) (p b
       let disjoint_first = all_left (IsDisjoint b) first rest disjoint in
       let m = content_preserved p b r (ends_old t p b two) clear l.content disjoint_first
       (λ s. never (some_left (IsSolidAt p) first rest s)) in (
-        moved_agrees p b other r.body below new,
+        moved_agrees p b other r.body old new,
         subst (λ (x : Reading). AreRead other (after_line r l) x ls) (sym m.after)
             (same_read (after_line r l) ls (clear_content b r l.content clear disjoint_first)
             (all_right (IsDisjoint b) first rest disjoint) (λ s. never (some_right (IsSolidAt p) first rest s))),
@@ -293,7 +338,7 @@ module _ (profile : Profile) (t : List ℕ) (is_text : IsKeyText profile t) (p b
           inr (
             d,
             refl,
-            moved_agrees p b other r.body below new,
+            moved_agrees p b other r.body old new,
             subst (λ (x : Reading). PageRead t p other (after_line r e.line) x es last d) (sym m.after) k,
           )
 
@@ -390,14 +435,14 @@ renamed_reads : (profile : Profile) (t : List ℕ) → IsKeyText profile t → (
     → IsBeside t path b → strip path other ≡ None → strip b other ≡ None → (s : Document)
     → AllOf (IsDisjoint b) (mentions_in s) → Once path (mentions_in s)
     → EachOf (IsRenamedPage t path other s) (change s (rename path t))
-renamed_reads profile t is_text path b other two below new s clear once =
+renamed_reads profile t is_text path b other two old new s clear once =
     of_or_else (IsRenamedPage t path other s)
     (in_document s (in_lines (rename_line (key_part t) path) start s.ended s.last))
     (nested (renaming (key_part t)) path s)
     (whole (in_lines (rename_line (key_part t) path) start s.ended s.last)
     (subst (λ (q : List Part). EachOf (PageRead t path other start (record { tables = []; body = q }) s.ended s.last)
     (in_lines (rename_line (key_part t) path) start s.ended s.last)) (root_renamed path b (ends_old t path b two))
-    (key_reads profile t is_text path b other two below new start s.ended s.last tt clear once)))
+    (key_reads profile t is_text path b other two old new start s.ended s.last tt clear once)))
     (whole (in_lines (in_line (renaming (key_part t)) path) start s.ended s.last)
     (value_reads t path other start s.ended s.last))
   where
@@ -411,10 +456,10 @@ pub renamed_page : (profile : Profile) (limit : ℕ) (s : Document) (path : List
     (x : Changed Document) → IsEditable profile limit s → IsUtf8 t → refusal profile limit s (rename path t) ≡ None
     → strip path other ≡ None → strip (beside path t) other ≡ None → change s (rename path t) ≡ Some x
     → IsRenamedPage t path other s x
-renamed_page profile limit s path t other x fine utf8 allowed below new is =
+renamed_page profile limit s path t other x fine utf8 allowed old new is =
     let ms : List Mention = mentions_in s in
     let named : IsRenamable path t ms = renamable profile limit s path t allowed in
     subst (EachOf (IsRenamedPage t path other s)) is
-    (renamed_reads profile t (key_text profile t utf8) path (beside path t) other (beside_is path t ms named) below new
+    (renamed_reads profile t (key_text profile t utf8) path (beside path t) other (beside_is path t ms named) old new
     s (nodes_renamed profile limit s path t fine.valid fine.obeys utf8 allowed).clear
     (once_counted path ms (rules_of_document s fine.obeys) (omega (arith, named.marks))))

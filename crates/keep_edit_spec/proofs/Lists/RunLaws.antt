@@ -7,15 +7,18 @@
 -- move alike (`rest_stays`). A new line or header keeps its place (PlacesKept), and kept it before that edit
 -- (PlacesBefore).
 --
--- Theorems: `none_is_run`, `run_goes_on`.
+-- Theorems: `none_is_run`, `run_goes_on`; `same_seen`: as others see an edit.
 use Rattle.std.proofs.Common.{◌≡◌, ℕ, List, [], ◌∷◌, refl, sym, ap, subst, subst₂, ◌∙◌, arith, All, take, drop, ap₂}
 use Rattle.std.proofs.Common.{◌+◌}
 use Rattle.std.proofs.lemmas.List.Elements.{All-head, All-tail}
-use Rattle.keep_syntax.specs.Tree.{text}
+use Rattle.keep_syntax.specs.Tree.{Document, text}
+use Rattle.keep_path.specs.Path.{Part}
 use Rattle.keep_edit_spec.specs.Changed.{put}
-use Rattle.keep_edit_spec.specs.Edits.{Edit, edited_document}
+use Rattle.keep_edit_spec.specs.DottedLines.{AddedAt, added_at, into_dotted}
+use Rattle.keep_edit_spec.specs.Edits.{Edit, append_element, append_table, edited_document, insert, remove, rename, set}
 use Rattle.keep_edit_spec.specs.Laws.{IsEditable, IsLawfulEdit}
-use Rattle.keep_edit_spec.specs.Runs.{IsOfPlace, LeavesAlone, MakesChange, NoneIsRun, RunGoesOn, seen}
+use Rattle.keep_edit_spec.specs.Runs.{IsOfPlace, IsSeenStill, LeavesAlone, MakesChange, NoneIsRun, RunGoesOn}
+use Rattle.keep_edit_spec.specs.Runs.{seen, with_line}
 use Rattle.keep_edit_spec.specs.TextChanges.{IsBeside, moved_by_all, moved_past, place_of_change, text_with}
 use Rattle.keep_edit_spec.specs.TextChanges.{with_change, TextChange, moved_by}
 use Rattle.keep_edit_spec.proofs.EditLaws.{change_put}
@@ -27,6 +30,42 @@ use Rattle.keep_edit_spec.proofs.Lists.MadeChanges.{within_text}
 use Rattle.keep_edit_spec.proofs.Lists.StillMakes.{still_makes}
 use Rattle.keep_edit_spec.proofs.Lists.PlacesBefore.{placed_before}
 use Rattle.keep_edit_spec.proofs.Lists.PlacesKept.{still_placed}
+
+-- ---- as others see an edit
+
+seen_here : (s : Document) (e : Edit) → IsSeenStill s s e
+seen_here s (insert path value) = (refl, refl)
+seen_here s (set path value) = tt
+seen_here s (rename path name) = tt
+seen_here s (remove path) = tt
+seen_here s (append_table keys) = tt
+seen_here s (append_element keys) = tt
+
+seen_on : (s now then : Document) (e : Edit) → IsSeenStill s now e → IsSeenStill now then e → IsSeenStill s then e
+seen_on s now then (insert path value) h k = (k.0 ∙ h.0, k.1 ∙ h.1)
+seen_on s now then (set path value) h k = tt
+seen_on s now then (rename path name) h k = tt
+seen_on s now then (remove path) h k = tt
+seen_on s now then (append_table keys) h k = tt
+seen_on s now then (append_element keys) h k = tt
+
+pub same_seen : (s now : Document) (e : Edit) → IsSeenStill s now e → seen now e ≡ seen s e
+same_seen s now (insert path value) h = ap (λ (p : List Part). insert p value) h.0
+same_seen s now (set path value) h = refl
+same_seen s now (rename path name) h = refl
+same_seen s now (remove path) h = refl
+same_seen s now (append_table keys) h = refl
+same_seen s now (append_element keys) h = refl
+
+-- what holds of all lines holds of those before the last edit
+lines_before : (P : AddedAt → Type 0) (s : Document) (e : Edit) (c : TextChange) (lines : List AddedAt)
+    → All P (with_line s e c lines) → All P lines
+lines_before P s (insert path value) c lines h = All-tail P (added_at s path c (into_dotted s path)) lines h
+lines_before P s (set path value) c lines h = h
+lines_before P s (rename path name) c lines h = h
+lines_before P s (remove path) c lines h = h
+lines_before P s (append_table keys) c lines h = h
+lines_before P s (append_element keys) c lines h = h
 
 -- ---- a run
 
@@ -40,14 +79,14 @@ none_is_run profile limit s editable = record {
   later = λ e c makes alone beside placed. (
     subst (λ (at : ℕ). MakesChange profile limit s e (record c { at = at }))
         (let same : c.at ≡ moved_by_all [] c.at = omega arith in same) makes,
-    refl,
+    seen_here s e,
   );
 }
 
 -- ---- one more
 
 pub run_goes_on : RunGoesOn
-run_goes_on profile limit s edits changes now e c r makes alone beside placed =
+run_goes_on profile limit s edits changes lines now e c r makes alone beside placed =
     let (is_now, seen_now) = r.later e c makes alone beside placed in
     let is : IsOfPlace now e (moved_past changes c) =
     change_is_there profile limit now e (moved_past changes c) r.editable is_now in
@@ -86,19 +125,19 @@ run_goes_on profile limit s edits changes now e c r makes alone beside placed =
             let one : IsBeside c d = one_of_all (λ x. IsBeside x d) changes c beside' in
             let (makes_now, seen_there) =
             r.later f d makes' (All-tail (λ x. LeavesAlone x (seen s f)) (seen s e) edits alone') others
-            (placed_before (text s) (seen s e ∷ edits) edits (λ P. All-tail P (seen s e) edits) changes c f d
-            placed') in
+            (placed_before s (seen s e ∷ edits) edits (λ P. All-tail P (seen s e) edits) (with_line s e c lines) lines
+            (λ P. lines_before P s e c lines) changes c f d placed') in
             let left : LeavesAlone (seen now e) (seen now f) =
-            subst₂ (λ (a b : Edit). LeavesAlone a b) (sym seen_now) (sym seen_there)
-            (All-head (λ x. LeavesAlone x (seen s f)) (seen s e) edits alone') in
+            subst₂ (λ (a b : Edit). LeavesAlone a b) (sym (same_seen s now e seen_now))
+            (sym (same_seen s now f seen_there)) (All-head (λ x. LeavesAlone x (seen s f)) (seen s e) edits alone') in
             let (still, same) =
             still_makes profile limit now e (moved_past changes c) f (moved_past changes d) r.editable is_now makes_now
             left (beside_past changes c d r.follow beside others one)
-            (still_placed profile limit s edits changes now r e c f d makes is_now beside others one fine text_is
-            placed') in (
+            (still_placed profile limit s edits changes lines now r e c f d makes seen_now seen_there beside others one
+            fine text_is placed') in (
               subst (MakesChange profile limit (edited_document now e) f)
                   (sym (moved_with changes c d r.follow beside others one)) still,
-              same ∙ seen_there,
+              seen_on s now (edited_document now e) f seen_there same,
             );
       };
     }

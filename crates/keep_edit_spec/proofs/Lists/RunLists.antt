@@ -15,11 +15,12 @@ use Rattle.keep_types.specs.declared.leaf.Profile.{Profile}
 use Rattle.keep_syntax.specs.Tree.{Document, Value, text}
 use Rattle.keep_syntax.proofs.Shared.{one_document}
 use Rattle.keep_path.specs.Path.{Part}
+use Rattle.keep_edit_spec.specs.DottedLines.{AddedAt}
 use Rattle.keep_edit_spec.specs.Edits.{Edit, append_element, append_table, edited_document, insert, remove, rename, set}
 use Rattle.keep_edit_spec.specs.Laws.{IsEditable}
 use Rattle.keep_edit_spec.specs.RunLists.{AreAtOnce, IsOneOf, IsSetIn, MadeEdit, RunGoesOnAgain}
-use Rattle.keep_edit_spec.specs.RunLists.{RunIsKnown, changes_of, document_after, made, seen_of}
-use Rattle.keep_edit_spec.specs.Runs.{IsRun, KeepsPlace, LeavesAlone, MakesChange, seen}
+use Rattle.keep_edit_spec.specs.RunLists.{RunIsKnown, changes_of, document_after, lines_of, made, seen_of}
+use Rattle.keep_edit_spec.specs.Runs.{IsRun, KeepsPlace, LeavesAlone, MakesChange, seen, with_line}
 use Rattle.keep_edit_spec.specs.SetValues.{IsSetAgain, SetsValue}
 use Rattle.keep_edit_spec.specs.TextChanges.{IsBeside, TextChange, change_at, moved_by_all, moved_past, text_with}
 use Rattle.keep_edit_spec.specs.TextChanges.{with_change}
@@ -34,7 +35,7 @@ use Rattle.keep_edit_spec.proofs.Lists.TextChanges.{all_with, one_of_all, rest_o
 pub run_is_known : RunIsKnown
 run_is_known profile limit s [] fine h = none_is_run profile limit s fine
 run_is_known profile limit s (m ∷ ms) fine (makes, (alone, (beside, (placed, others)))) =
-    (run_goes_on profile limit s (seen_of s ms) (changes_of ms) (document_after s ms) m.edit m.change
+    (run_goes_on profile limit s (seen_of s ms) (changes_of ms) (lines_of s ms) (document_after s ms) m.edit m.change
     (run_is_known profile limit s ms fine others) makes alone beside placed).run
 
 -- ---- one of them
@@ -88,6 +89,14 @@ each_of_others s P m ms rest one h =
     each_apart s P m one.later one.earlier (subst (λ (l : List MadeEdit). All P (seen_of s l)) one.all h) in
     (this, subst (λ (l : List MadeEdit). All P (seen_of s l)) (sym one.others) more)
 
+-- The lines are those of the others, if that one adds none.
+pub lines_apart : (s : Document) (m : MadeEdit) (later earlier : List MadeEdit)
+    → ((lines : List AddedAt) → with_line s m.edit m.change lines ≡ lines)
+    → lines_of s (later ++ m ∷ earlier) ≡ lines_of s (later ++ earlier)
+lines_apart s m [] earlier none = none (lines_of s earlier)
+lines_apart s m (x ∷ later) earlier none =
+    ap (with_line s x.edit x.change) (lines_apart s m later earlier none)
+
 all_hold : (P : Edit → Type 0) → ((e : Edit) → P e) → (es : List Edit) → All P es
 all_hold P holds [] = All-nil P
 all_hold P holds (e ∷ es) = All-cons P e es (holds e) (all_hold P holds es)
@@ -124,7 +133,9 @@ beside_again x c d at size (inr (less, ends)) = inr (omega (arith, less, at), om
 -- an edit that takes bytes, and needs no place that is kept
 module _ (profile : Profile) (limit : ℕ) (s : Document) (e : Edit) (c : TextChange)
     (some : MakesChange profile limit s e c → 0 < c.size)
-    (kept : (edits : List Edit) (changes : List TextChange) → KeepsPlace (text s) edits changes e c) where
+    (kept : (edits : List Edit) (changes : List TextChange) (lines : List AddedAt)
+    → KeepsPlace s edits changes lines e c)
+    (none : (lines : List AddedAt) → with_line s e c lines ≡ lines) where
   abbrev one : MadeEdit
   one = made e c
 
@@ -158,10 +169,12 @@ module _ (profile : Profile) (limit : ℕ) (s : Document) (e : Edit) (c : TextCh
       beside_back c m.change (some its) (one_of_all (λ x. IsBeside x m.change) (changes_of rest) c aside) in
       let beside_rest : All (λ x. IsBeside x m.change) (changes_of rest) =
       rest_of_all (λ x. IsBeside x m.change) (changes_of rest) c aside in
-      let placed_rest : KeepsPlace (text s) (seen_of s rest) (changes_of rest) m.edit m.change =
-      placed_before (text s) (seen_of s ms) (seen_of s rest) (λ P h. (each_apart s P one later earlier h).1)
+      let placed_rest : KeepsPlace s (seen_of s rest) (changes_of rest) (lines_of s rest) m.edit m.change =
+      placed_before s (seen_of s ms) (seen_of s rest) (λ P h. (each_apart s P one later earlier h).1)
+      (lines_of s ms) (lines_of s rest) (λ P. subst (All P) (lines_apart s one later earlier none))
       (changes_of rest) c m.edit m.change
-      (subst (λ (l : List TextChange). KeepsPlace (text s) (seen_of s ms) l m.edit m.change) before.changes placed) in
+      (subst (λ (l : List TextChange). KeepsPlace s (seen_of s ms) l (lines_of s ms) m.edit m.change) before.changes
+      placed) in
       let without : AreAtOnce profile limit s (m ∷ rest) =
       (makes, (both.1, (beside_rest, (placed_rest, more)))) in
       let alone_last : All (λ f. LeavesAlone f own) (seen_of s (m ∷ rest)) =
@@ -173,7 +186,13 @@ module _ (profile : Profile) (limit : ℕ) (s : Document) (e : Edit) (c : TextCh
       record {
         changes = ap (λ (l : List TextChange). with_change l m.change) before.changes
             ∙ with_both (changes_of rest) c m.change back.1;
-        last = (its, (alone_last, (beside_last, (kept (seen_of s (m ∷ rest)) (changes_of (m ∷ rest)), without))));
+        last = (
+          its,
+          (
+            alone_last,
+            (beside_last, (kept (seen_of s (m ∷ rest)) (changes_of (m ∷ rest)) (lines_of s (m ∷ rest)), without)),
+          ),
+        );
       }
 
   pub last_of : (ms rest : List MadeEdit) → IsOneOf one ms rest → AreLeftBack rest → AreAtOnce profile limit s ms
@@ -187,16 +206,16 @@ module _ (profile : Profile) (limit : ℕ) (s : Document) (e : Edit) (c : TextCh
     pub others : AreAtOnce profile limit s rest
     others = k.last.1.1.1.1
 
-    pub run_before : IsRun profile limit s (seen_of s rest) (changes_of rest) (document_after s rest)
+    pub run_before : IsRun profile limit s (seen_of s rest) (changes_of rest) (lines_of s rest) (document_after s rest)
     run_before = run_is_known profile limit s rest fine others
 
     pub same_document : AreAtOnce profile limit s ms
         → document_after s ms ≡ edited_document (document_after s rest) e
     same_document h =
-        let run : IsRun profile limit s (seen_of s ms) (changes_of ms) (document_after s ms) =
+        let run : IsRun profile limit s (seen_of s ms) (changes_of ms) (lines_of s ms) (document_after s ms) =
         run_is_known profile limit s ms fine h in
         let last : IsRun profile limit s (own ∷ seen_of s rest) (with_change (changes_of rest) c)
-        (edited_document (document_after s rest) e) =
+        (with_line s e c (lines_of s rest)) (edited_document (document_after s rest) e) =
         run_is_known profile limit s (one ∷ rest) fine k.last in
         one_document profile (document_after s ms) (edited_document (document_after s rest) e)
         run.editable.valid last.editable.valid
@@ -205,7 +224,8 @@ module _ (profile : Profile) (limit : ℕ) (s : Document) (e : Edit) (c : TextCh
     -- where they make their changes still after the others
     pub moves_past : MakesChange profile limit (document_after s rest) e (moved_past (changes_of rest) c)
     moves_past =
-        (run_before.later e c k.last.0 k.last.1.0 k.last.1.1.0 (kept (seen_of s rest) (changes_of rest))).0
+        (run_before.later e c k.last.0 k.last.1.0 k.last.1.1.0
+        (kept (seen_of s rest) (changes_of rest) (lines_of s rest))).0
 
     -- a change of the same bytes
     pub beside_rest : (d : TextChange) → c.at ≡ d.at → c.size ≡ d.size → All (λ x. IsBeside x d) (changes_of rest)
@@ -222,25 +242,29 @@ module _ (profile : Profile) (limit : ℕ) (s : Document) (path : List Part) (va
   some_bytes : MakesChange profile limit s e c → 0 < c.size
   some_bytes sets = sets.some
 
-  any_place : (edits : List Edit) (changes : List TextChange) → KeepsPlace (text s) edits changes e c
-  any_place edits changes = tt
+  any_place : (edits : List Edit) (changes : List TextChange) (lines : List AddedAt)
+      → KeepsPlace s edits changes lines e c
+  any_place edits changes lines = tt
+
+  no_line : (lines : List AddedAt) → with_line s e c lines ≡ lines
+  no_line lines = refl
 
   abbrev SetLast : List MadeEdit → List MadeEdit → Type 0
-  SetLast = ComesLast profile limit s e c some_bytes any_place
+  SetLast = ComesLast profile limit s e c some_bytes any_place no_line
 
   set_last : (ms rest : List MadeEdit) → IsOneOf (made e c) ms rest → AreAtOnce profile limit s ms → SetLast ms rest
   set_last ms rest is =
-      last_of profile limit s e c some_bytes any_place ms rest is
+      last_of profile limit s e c some_bytes any_place no_line ms rest is
       (all_hold (λ f. LeavesAlone e f → LeavesAlone f e) (alone_back path value) (seen_of s rest))
 
   module _ (ms rest : List MadeEdit) (fine : IsEditable profile limit s) (k : SetLast ms rest) (more : Value)
       (d : TextChange) (makes : SetsValue profile limit s path more d) (at : c.at ≡ d.at) (size : c.size ≡ d.size)
     where
-      before : IsRun profile limit s (seen_of s rest) (changes_of rest) (document_after s rest)
-      before = run_before profile limit s e c some_bytes any_place ms rest fine k
+      before : IsRun profile limit s (seen_of s rest) (changes_of rest) (lines_of s rest) (document_after s rest)
+      before = run_before profile limit s e c some_bytes any_place no_line ms rest fine k
 
       beside_set : All (λ x. IsBeside x d) (changes_of rest)
-      beside_set = beside_rest profile limit s e c some_bytes any_place ms rest fine k d at size
+      beside_set = beside_rest profile limit s e c some_bytes any_place no_line ms rest fine k d at size
 
       alone_rest : All (λ f. LeavesAlone f (set path more)) (seen_of s rest)
       alone_rest =
@@ -248,15 +272,17 @@ module _ (profile : Profile) (limit : ℕ) (s : Document) (path : List Part) (va
           (seen_of s rest) k.last.1.0
 
       still_at_once : AreAtOnce profile limit s (made (set path more) d ∷ rest)
-      still_at_once =
-          (makes, (alone_rest, (beside_set, (tt, others profile limit s e c some_bytes any_place ms rest fine k))))
+      still_at_once = (
+        makes,
+        (alone_rest, (beside_set, (tt, others profile limit s e c some_bytes any_place no_line ms rest fine k))),
+      )
 
       set_again : IsSetAgain profile limit (document_after s rest) path value (moved_past (changes_of rest) c) more
           (moved_past (changes_of rest) d)
       set_again =
           sets_again profile limit (document_after s rest) path value (moved_past (changes_of rest) c) more
           (moved_past (changes_of rest) d) before.editable
-          (moves_past profile limit s e c some_bytes any_place ms rest fine k)
+          (moves_past profile limit s e c some_bytes any_place no_line ms rest fine k)
           (before.later (set path more) d makes alone_rest beside_set tt).0
 
 pub run_goes_on_again : RunGoesOnAgain
@@ -272,7 +298,7 @@ run_goes_on_again profile limit s ms path more d fine h there makes =
     let size : c.size ≡ d.size = sym first.size in
     let now : document_after s ms ≡ edited_document (document_after s rest) (set path value) =
     same_document profile limit s (set path value) c (some_bytes profile limit s path value c)
-    (any_place profile limit s path value c) ms rest fine k h in
+    (any_place profile limit s path value c) (no_line profile limit s path value c) ms rest fine k h in
     let again : IsSetAgain profile limit (document_after s rest) path value (moved_past (changes_of rest) c) more
     (moved_past (changes_of rest) d) =
     set_again profile limit s path value c ms rest fine k more d makes at size in

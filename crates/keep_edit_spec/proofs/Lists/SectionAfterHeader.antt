@@ -8,16 +8,15 @@
 --
 -- Theorems: `section_after_table`, `section_after_element`.
 use Rattle.std.proofs.Common.{◌≡◌, ℕ, ◌+◌, ◌-◌, ◌≤◌, Bool, true, false, cond, List, [], length, map, refl, sym, ap}
-use Rattle.std.proofs.Common.{subst, ◌∙◌, arith, Option, Some}
+use Rattle.std.proofs.Common.{subst, ◌∙◌, arith, Option, Some, inl}
 use Rattle.std.proofs.lemmas.Bool.{lt-ltb}
-use Rattle.std.proofs.lemmas.List.{take-append-le}
 use Rattle.keep_types.specs.declared.leaf.Profile.{Profile}
-use Rattle.keep_syntax.specs.Tree.{Content, Document, Ended, bom_leaves, element, header, text, text_of}
+use Rattle.keep_syntax.specs.Tree.{Content, Document, element, header, text}
 use Rattle.keep_path.specs.Path.{Part}
 use Rattle.keep_meaning.specs.Marks.{start}
 use Rattle.keep_meaning.specs.Meaning.{line_of, lines, mentions_in, reading_after_lines}
 use Rattle.keep_meaning.specs.Nodes.{kinds_at}
-use Rattle.keep_edit_spec.specs.Changed.{Changed, Place, place_of}
+use Rattle.keep_edit_spec.specs.Changed.{Changed, Place}
 use Rattle.keep_edit_spec.specs.ClearedLines.{line_start}
 use Rattle.keep_edit_spec.specs.Edits.{append, append_element, append_table, changed_or_same, end_of, key_with, remove}
 use Rattle.keep_edit_spec.specs.Laws.{IsEditable, IsLawfulEdit}
@@ -28,13 +27,12 @@ use Rattle.keep_edit_spec.proofs.Lists.SectionKinds.{SectionAfterElement, Sectio
 use Rattle.keep_edit_spec.specs.TextChanges.{TextChange, moved, moved_by}
 use Rattle.keep_edit_spec.specs.TextEnds.{ends_in_newline}
 use Rattle.keep_edit_spec.proofs.EditLaws.{append_element_lawful, append_table_lawful, place_within}
-use Rattle.keep_edit_spec.proofs.Append.AppendPlace.{append_place}
 use Rattle.keep_edit_spec.proofs.Common.BodyEnd.{end_is}
-use Rattle.keep_edit_spec.proofs.Lists.HeaderComes.{HeaderComes, after_header, element_comes, not_begun, table_comes}
+use Rattle.keep_edit_spec.proofs.Lists.HeaderComes.{HeaderComes, after_header, comes_at, element_comes, not_begun}
+use Rattle.keep_edit_spec.proofs.Lists.HeaderComes.{table_comes}
 use Rattle.keep_edit_spec.proofs.Lists.HeaderEnds.{end_headed, last_headed}
-use Rattle.keep_edit_spec.proofs.Lists.HeaderLines.{ends_again, headed, header_lines, put_is}
+use Rattle.keep_edit_spec.proofs.Lists.HeaderLines.{ends_again, headed, starts_stay}
 use Rattle.keep_edit_spec.proofs.Lists.HeaderSays.{kinds_same}
-use Rattle.keep_edit_spec.proofs.Lists.Places.{width}
 use Rattle.keep_edit_spec.proofs.Lists.SectionAgain as table
 
 module _ (profile : Profile) (limit : ℕ) (s : Document) (keys : List (List ℕ)) (c : TextChange) (content : Content)
@@ -53,7 +51,8 @@ module _ (profile : Profile) (limit : ℕ) (s : Document) (keys : List (List ℕ
 
   not_again : begins other (reading_after_lines start (map line_of s.ended)) (plain_line content) ≡ false
   not_again =
-      not_begun s keys c content h other (end_is s other end (table.ends_is profile limit s other d fine k)).stated
+      not_begun s keys c content h other
+      (inl (end_is s other end (table.ends_is profile limit s other d fine k)).stated)
 
   head_now : last_line (begins other) start (lines now) ≡ Some head
   head_now = last_headed s content h.empty is other not_again ∙ table.head_is profile limit s other d fine k
@@ -66,25 +65,21 @@ module _ (profile : Profile) (limit : ℕ) (s : Document) (keys : List (List ℕ
 
   -- ---- the place
 
-  at_end : c.at ≡ length (text s)
-  at_end =
-      ap (λ (p : Place). p.start)
-      (sym h.is ∙ ap (λ (o : Option (Changed Document)). place_of (changed_or_same s o)) (sym h.made)
-      ∙ append_place profile s fine.valid content)
-
   within : d.at + d.size ≤ length (text s)
   within = omega (arith, ap (λ (p : Place). p.end) k.is, place_within s (remove other))
 
   stays : moved_by c d.at ≡ d.at
   stays =
       ap (λ (b : Bool). cond b d.at ((d.at + length c.new) - c.size))
-      (lt-ltb d.at c.at (omega (arith, at_end, within, table.has_bytes profile limit s other d fine k)))
+      (lt-ltb d.at c.at (omega (
+        arith,
+        comes_at s keys c content h profile fine.valid,
+        within,
+        table.has_bytes profile limit s other d fine k,
+      )))
 
   begins_at : (i : ℕ) → i ≤ length s.ended → line_start now i ≡ line_start s i
-  begins_at i few =
-      ap (λ (t : Document). line_start t i) (put_is s content)
-      ∙ ap (λ (es : List Ended). length (text_of (bom_leaves s.bom)) + width es)
-      (take-append-le i s.ended (header_lines s content) few)
+  begins_at i few = starts_stay s content i few
 
   -- ---- the remove
 

@@ -2,14 +2,15 @@
 -- its line beside it.
 --
 -- The new line begins no body, so the table's header is still the last that begins its body, a line later if it comes
--- after the new line (`head_now`); and so is the end of its body (`end_now`, by BodyEnds). The line is not added at
--- that end: a body that ends there is the table's own, and the first new key would be under the table's path
--- (`not_at_end`). So the end comes as much later as the header does (`starts`, `moves_whole`). The line says nothing at
--- the table's path (OtherPaths), and the text still ends in a newline. So the remove takes these lines (SectionAgain).
+-- after the new one (`head_now`). The new one comes where a body ends or right after a keyval (`cut_here`), so the same
+-- is true of the end of the table's body (`end_now`). The line is not added at that end: there the body is the table's,
+-- and the first new key would be under the table's path (`not_at_end`). So the end comes as much later as the header
+-- does (`starts`, `moves_whole`). The line says nothing at the table's path (AddedKeyval), and the text still ends in a
+-- newline. So the remove takes these lines (SectionAgain).
 --
 -- Theorem: `section_after_insert`.
-use Rattle.std.proofs.Common.{◌≡◌, ℕ, ◌+◌, ◌≤◌, false, List, [], ◌∷◌, ◌++◌, length, take}
-use Rattle.std.proofs.Common.{drop, refl, sym, ap, ap₂, ◌∙◌, length-append, arith, Some, None, inl, inr}
+use Rattle.std.proofs.Common.{◌≡◌, ℕ, suc, ◌+◌, ◌≤◌, Bool, true, false, List, [], ◌∷◌, ◌++◌, length, map, take, drop}
+use Rattle.std.proofs.Common.{refl, sym, ap, ap₂, subst, ◌∙◌, append_assoc, length-append, arith, Some, None, inl, inr}
 use Rattle.std.specs.Prelude.{nat_lt}
 use Rattle.std.specs.Option.{option_map}
 use Rattle.std.proofs.lemmas.Bool.{cases_lt, le-ltb, lt-ltb}
@@ -19,26 +20,29 @@ use Rattle.keep_syntax.specs.Tree.{Document, Ended, Line, Name, Value, bom_leave
 use Rattle.keep_path.specs.Path.{Part, key, strip}
 use Rattle.keep_meaning.specs.Marks.{start}
 use Rattle.keep_meaning.specs.Meaning.{lines, mentions_in, reading_after_lines}
-use Rattle.keep_edit_spec.specs.AddedLines.{AddsLine, first_new}
+use Rattle.keep_edit_spec.specs.AddedLines.{first_new}
 use Rattle.keep_edit_spec.specs.ClearedLines.{line_start}
+use Rattle.keep_edit_spec.specs.DottedLines.{AddsLineTo}
 use Rattle.keep_edit_spec.specs.Edits.{edited_document, end_of, insert, name_with}
 use Rattle.keep_edit_spec.specs.Laws.{IsEditable, IsLawfulEdit}
-use Rattle.keep_edit_spec.specs.Lines.{begins, ended_text, last_line, new_line, newline_of, plain_line}
+use Rattle.keep_edit_spec.specs.Lines.{begins, ended_text, last_line, new_line, newline_of, plain_line, reading_at}
 use Rattle.keep_edit_spec.specs.Look.{holder}
 use Rattle.keep_edit_spec.specs.RemovedSections.{RemovesSection}
 use Rattle.keep_edit_spec.specs.Runs.{AreApart}
 use Rattle.keep_edit_spec.proofs.Lists.SectionKinds.{SectionAfterInsert}
 use Rattle.keep_edit_spec.specs.TextChanges.{IsBeside, TextChange, change_at, moved, moved_by}
-use Rattle.keep_edit_spec.proofs.EditLaws.{insert_lawful}
 use Rattle.keep_edit_spec.proofs.Common.BodyEnd.{end_is}
 use Rattle.keep_edit_spec.proofs.Common.Runs.{strip-append}
 use Rattle.keep_edit_spec.proofs.Common.SetDocument.{reading_of}
-use Rattle.keep_edit_spec.proofs.Insert.KeysAtEnd.{first_is}
-use Rattle.keep_edit_spec.proofs.Lists.BodyEnds.{cut_at, end_moves}
-use Rattle.keep_edit_spec.proofs.Lists.HeaderAfterInsert.{still_closed}
-use Rattle.keep_edit_spec.proofs.Lists.OtherPaths.{kinds_stay}
-use Rattle.keep_edit_spec.proofs.Lists.Places.{later_line, line_moves, width_grows}
-use Rattle.keep_edit_spec.proofs.Lists.PutsKeyval.{PutsKeyval, first_long, line_puts, lines_are}
+use Rattle.keep_edit_spec.proofs.Lists.AddedKeyval.{AddsKeyval, keys, keyval_of, kinds_stay}
+use Rattle.keep_edit_spec.proofs.Lists.BodyEnds.{IsCut, cut_at, end_moves}
+use Rattle.keep_edit_spec.proofs.Lists.DottedLine.{at_is as dotted_at}
+use Rattle.keep_edit_spec.proofs.Lists.HeaderAfterInsert.{line_lawful, still_closed}
+use Rattle.keep_edit_spec.proofs.Lists.InsertInPlace.{same_number}
+use Rattle.keep_edit_spec.proofs.Lists.LineAfterDotted.{cut_through}
+use Rattle.keep_edit_spec.proofs.Lists.NewPaths.{first_path}
+use Rattle.keep_edit_spec.proofs.Lists.Places.{at_is as line_at, later_line, line_moves}
+use Rattle.keep_edit_spec.proofs.Lists.PutsKeyval.{first_long, lines_are}
 use Rattle.keep_edit_spec.proofs.Lists.RemovedOwn.{last_without}
 use Rattle.keep_edit_spec.proofs.Lists.SectionAgain as table
 
@@ -56,15 +60,18 @@ moves_whole c d adds (inr (less, within)) apart = elim (cases_lt (d.at + d.size)
   | inr at ↦ absurd (apart (omega (arith, at, within)))
 ]
 
-module _ (profile : Profile) (limit : ℕ) (s : Document) (path : List Part) (value : Value) (c : TextChange)
+module _ (profile : Profile) (limit : ℕ) (s : Document) (path : List Part) (value : Value) (c : TextChange) (to : Bool)
     (other : List Part) (d : TextChange) (fine : IsEditable profile limit s)
-    (h : AddsLine profile limit s path value c) (k : RemovesSection profile limit s other d)
+    (adds : AddsLineTo to profile limit s path value c) (k : RemovesSection profile limit s other d)
     (apart : AreApart (first_new s path) other) where
+  h : AddsKeyval profile limit s path value c
+  h = keyval_of profile limit s path value c to fine adds
+
   abbrev now : Document
   now = edited_document s (insert path value)
 
   abbrev n : ℕ
-  n = h.number
+  n = h.n
 
   abbrev head : ℕ
   head = table.head_number profile limit s other d fine k
@@ -73,16 +80,13 @@ module _ (profile : Profile) (limit : ℕ) (s : Document) (path : List Part) (va
   end = table.end_number profile limit s other d fine k
 
   abbrev name : Name
-  name = name_with (h.text ∷ h.more)
+  name = name_with (keys profile limit s path value c h)
 
-  puts : PutsKeyval s now n name value c
-  puts = line_puts profile limit s path value c fine h
+  law : IsLawfulEdit profile limit s (insert path value)
+  law = line_lawful to profile limit s path value c fine adds
 
   fine_now : IsEditable profile limit now
-  fine_now =
-      let law : IsLawfulEdit profile limit s (insert path value) =
-      insert_lawful profile limit s path value fine h.given h.utf8 h.allowed in
-      record { valid = law.reads.valid; shallow = law.reads.shallow; obeys = law.obeys }
+  fine_now = record { valid = law.reads.valid; shallow = law.reads.shallow; obeys = law.obeys }
 
   -- ---- the numbers of the header and of the end
 
@@ -94,17 +98,28 @@ module _ (profile : Profile) (limit : ℕ) (s : Document) (path : List Part) (va
 
   head_now : last_line (begins other) start (lines now) ≡ Some (later_line n head)
   head_now =
-      ap (last_line (begins other) start) (lines_are s now n name value c puts)
+      ap (last_line (begins other) start) (lines_are s now n name value c h.puts)
       ∙ last_without (begins other) start before added (drop n (lines s))
       (reading_of (reading_after_lines start before) added name value refl) refl
       ∙ ap₂ (λ (i : ℕ) (ls : List Line). option_map (later_line i) (last_line (begins other) start ls))
-      (first_long s now n name value c puts) (take-append-drop n (lines s))
+      (first_long s now n name value c h.puts) (take-append-drop n (lines s))
       ∙ ap (option_map (later_line n)) (table.head_is profile limit s other d fine k)
+
+  -- the line comes at the end of a body, or right after a keyval
+  cut_here : (b : Bool) → AddsLineTo b profile limit s path value c → IsCut name value (lines s) n
+  cut_here true it =
+      subst (IsCut name value (lines s)) (same_number profile limit s fine (suc it.number) n it.closed h.few
+      (sym (dotted_at profile limit s path value c it) ∙ h.puts.at))
+      (cut_through name value (holder path (mentions_in s)) (lines s) it.number it.last)
+  cut_here false it =
+      subst (IsCut name value (lines s)) (same_number profile limit s fine it.number n it.closed h.few
+      (sym (line_at profile limit s path value c it) ∙ h.puts.at))
+      (cut_at name value s (holder path (mentions_in s)) it.number it.ends)
 
   end_now : end_of now other ≡ Some (later_line n end)
   end_now =
-      end_moves name value s now n other end (cut_at name value s (holder path (mentions_in s)) n h.ends)
-      (lines_are s now n name value c puts) (table.ends_is profile limit s other d fine k)
+      end_moves name value s now n other end (cut_here to adds) (lines_are s now n name value c h.puts)
+      (table.ends_is profile limit s other d fine k)
 
   -- ---- where they begin
 
@@ -112,49 +127,40 @@ module _ (profile : Profile) (limit : ℕ) (s : Document) (path : List Part) (va
       → line_start now (later_line n m) ≡ moved_by c x.at
   starts m x few at =
       let bom : List ℕ = text_of (bom_leaves s.bom) in
-      let to : List Ended = take n s.ended ++ new_line (newline_of s) (keyval name value) ∷ drop n s.ended in
-      ap (λ (t : Document). line_start t (later_line n m)) puts.is
-      ∙ sym (length-append bom (ended_text (take (later_line n m) to)))
-      ∙ line_moves profile bom s.ended fine.valid.ended n m (new_line (newline_of s) (keyval name value)) c x h.closed
-      few h.adds puts.line puts.at at
+      let put : List Ended = take n s.ended ++ new_line (newline_of s) (keyval name value) ∷ drop n s.ended in
+      ap (λ (t : Document). line_start t (later_line n m)) h.puts.is
+      ∙ sym (length-append bom (ended_text (take (later_line n m) put)))
+      ∙ line_moves profile bom s.ended fine.valid.ended n m (new_line (newline_of s) (keyval name value)) c x h.few
+      few h.puts.adds h.puts.line h.puts.at at
 
-  -- the body that ends there is not the holder's
+  -- the line's body is not the table's, since the first new key is under it
   not_at_end : n ≡ end → ⊥
   not_at_end e =
-      let body : ℕ → List Part = λ i. (reading_after_lines start (take i (lines s))).body in
-      let same : holder path (mentions_in s) ≡ other =
-      sym (end_is s (holder path (mentions_in s)) n h.ends).body ∙ ap body e
-      ∙ (end_is s other end (table.ends_is profile limit s other d fine k)).body in
-      let under : None ≡ Some (key h.text ∷ []) =
-      sym apart.1
-      ∙ ap (strip other)
-      (first_is s path h.text h.more h.new ∙ ap (λ (a : List Part). a ++ key h.text ∷ []) same)
-      ∙ strip-append other (key h.text ∷ []) in
+      let body : ℕ → List Part = λ i. (reading_at i (lines s)).body in
+      let rest : List Part = map key h.way ++ key h.inserts.text ∷ [] in
+      let new : first_new s path ≡ other ++ rest =
+      first_path profile limit s path value h.inserts ∙ ap (λ (a : List Part). a ++ key h.inserts.text ∷ []) h.holds
+      ∙ append_assoc (body n) (map key h.way) (key h.inserts.text ∷ [])
+      ∙ ap (λ (b : List Part). b ++ rest)
+      (ap body e ∙ (end_is s other end (table.ends_is profile limit s other d fine k)).body) in
+      let under : None ≡ Some rest = sym apart.1 ∙ ap (strip other) new ∙ strip-append other rest in
       absurd cc
 
   not_there : d.at + d.size ≡ c.at → ⊥
   not_there e =
-      let same : line_start s end ≡ line_start s n =
-      sym (table.ends_at profile limit s other d fine k) ∙ e ∙ puts.at in
-      let few : end ≤ length s.ended = table.few profile limit s other d fine k in
-      elim (cases_lt n end) [
-        | inl less ↦ omega (arith, same, width_grows profile end n s.ended fine.valid.ended less few)
-        | inr far ↦ elim (cases_lt end n) [
-          | inl less ↦ omega (arith, same, width_grows profile n end s.ended fine.valid.ended less h.closed)
-          | inr past ↦ not_at_end (omega (arith, far, past))
-        ]
-      ]
+      not_at_end (same_number profile limit s fine n end h.few (table.few profile limit s other d fine k)
+      (sym h.puts.at ∙ sym e ∙ table.ends_at profile limit s other d fine k))
 
   takes_still : IsBeside c d → RemovesSection profile limit now other (moved c d)
   takes_still side =
       let few : end ≤ length s.ended = table.few profile limit s other d fine k in
       table.section_again profile limit s other d fine k now c (later_line n head) (later_line n end) fine_now
-      (still_closed profile limit s path value c fine h k.closed)
-      (kinds_stay profile limit s path value c h other apart.0) head_now end_now
+      (still_closed profile limit s path value c fine law h k.closed)
+      (kinds_stay profile limit s path value c h other apart) head_now end_now
       (starts head d (omega (arith, few)) (table.starts_at profile limit s other d fine k))
       (starts end (change_at (d.at + d.size) 0 []) few (table.ends_at profile limit s other d fine k)
-      ∙ moves_whole c d h.adds side not_there)
+      ∙ moves_whole c d h.puts.adds side not_there)
 
 pub section_after_insert : SectionAfterInsert
-section_after_insert profile limit s path value c other d fine h k apart side =
-    takes_still profile limit s path value c other d fine h k apart side
+section_after_insert profile limit s path value c to other d fine adds k apart side =
+    takes_still profile limit s path value c to other d fine adds k apart side

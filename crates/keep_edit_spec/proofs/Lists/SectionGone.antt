@@ -7,10 +7,10 @@
 -- body earlier by the bytes of the lines that went (`width_beyond`).
 --
 -- Theorems: `is_now`, `lines_were`, `lines_are`: the lines; `cut`, `fact_now`, `unsaid_now`, `kinds_unsaid`: what they
--- say; `start_is`, `end_is`, `takes`, `has_bytes`, `few`, `length_was`: the lines that go; `start_before`,
--- `start_from`, `at_before`, `at_from`: where the others begin.
-use Rattle.std.proofs.Common.{◌≡◌, ℕ, zero, suc, ◌+◌, ◌-◌, ◌<◌, ◌≤◌, Bool, true, false, cond, List, [], ◌∷◌, ◌++◌}
-use Rattle.std.proofs.Common.{length, map, take, sym, ap, ◌∙◌, append_assoc, length-append, arith, None}
+-- say; `start_is`, `end_is`, `takes`, `has_bytes`, `begins_elsewhere`, `few`, `length_was`: the lines that go;
+-- `start_before`, `start_from`, `at_before`, `at_from`: where the others begin.
+use Rattle.std.proofs.Common.{◌≡◌, ◌≢◌, ℕ, zero, suc, ◌+◌, ◌-◌, ◌<◌, ◌≤◌, Bool, true, false, cond, List, [], ◌∷◌, ◌++◌}
+use Rattle.std.proofs.Common.{length, map, take, sym, ap, ◌∙◌, append_assoc, length-append, arith, None, inl, inr}
 use Rattle.std.specs.List.{list_any}
 use Rattle.std.specs.Prelude.{nat_lt}
 use Rattle.std.proofs.lemmas.Bool.{le-ltb, lt-ltb}
@@ -26,7 +26,7 @@ use Rattle.keep_edit_spec.specs.ClearedLines.{line_start}
 use Rattle.keep_edit_spec.specs.Edits.{edited_document, remove}
 use Rattle.keep_edit_spec.specs.Laws.{IsEditable}
 use Rattle.keep_edit_spec.specs.RemovedSections.{RemovesSection}
-use Rattle.keep_edit_spec.specs.TextChanges.{TextChange, moved_by}
+use Rattle.keep_edit_spec.specs.TextChanges.{IsBeside, TextChange, moved_by}
 use Rattle.keep_edit_spec.proofs.Common.Cuts.{IsCut, cut_by}
 use Rattle.keep_edit_spec.proofs.Lists.HeaderLeft as left_of
 use Rattle.keep_edit_spec.proofs.Lists.HeaderTaken as taken_of
@@ -163,6 +163,11 @@ module _ (profile : Profile) (limit : ℕ) (s : Document) (path : List Part) (c 
 
   pub has_bytes : 0 < c.size
   has_bytes = taken_of.has_bytes profile limit s path c fine taken
+
+  -- what comes beside them does not come where they began
+  pub begins_elsewhere : (d : TextChange) → IsBeside c d → c.at ≢ d.at
+  begins_elsewhere d (inl past) e = absurd (omega (arith, e, past, has_bytes))
+  begins_elsewhere d (inr before) e = absurd (omega (arith, e, before.0))
 
   pub length_was : length s.ended ≡ length now.ended + gone
   length_was =

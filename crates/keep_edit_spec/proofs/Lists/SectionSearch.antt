@@ -8,7 +8,7 @@
 --
 -- Theorems: `section_misses`: nothing is found in the table; `removed_place`; `document_without`, `nested_without`,
 -- `clear_without`, `place_without`: a change after such a remove. `bodiless_line`, `bodiless_clear`: searches that ask
--- for the body at keyvals alone.
+-- for the body at keyvals alone. `no_keyval`, `never_own`, `own_body`: lines that are not the path's own.
 use Rattle.std.proofs.Common.{◌≡◌, ℕ, zero, suc, ◌+◌, ◌<◌, Bool, true, false, List, [], ◌∷◌, ◌++◌, length, map, take}
 use Rattle.std.proofs.Common.{refl, sym, ap, ap₂, subst, ◌∙◌, length-append, arith, Option, Some, None, ◌⊎◌, inl, inr}
 use Rattle.std.specs.Prelude.{⊤}
@@ -76,13 +76,13 @@ pub bodiless_line : (act : Act) (other : List Part) → IsBodiless (in_line act 
 bodiless_line act other b r l e =
     ap (seen l) (not_in act other b l.content e ∙ sym (not_in act other r.body l.content e))
 
-never_own : (other : List Part) (r : Reading) (c : Content) → is_keyval c ≡ false → is_own other r c ≡ false
+pub never_own : (other : List Part) (r : Reading) (c : Content) → is_keyval c ≡ false → is_own other r c ≡ false
 never_own other r blank e = refl
 never_own other r (keyval name v) e = absurd cc
 never_own other r (header x k y) e = refl
 never_own other r (element x k y) e = refl
 
-no_keyval : (k : Content) → is_header k ≡ true → is_keyval k ≡ false
+pub no_keyval : (k : Content) → is_header k ≡ true → is_keyval k ≡ false
 no_keyval blank e = refl
 no_keyval (keyval name v) e = absurd cc
 no_keyval (header x k y) e = refl
@@ -350,7 +350,7 @@ module _ (profile : Profile) (limit : ℕ) (s : Document) (path : List Part) (c 
       (line_misses act other apart)
 
   -- the own line of the other path
-  own_body : (other : List Part) → strip path other ≡ None → (k : Content) → is_own other u k ≡ false
+  pub own_body : (other : List Part) → strip path other ≡ None → (k : Content) → is_own other u k ≡ false
   own_body other apart blank = refl
   own_body other apart (keyval name v) = by (same_path (path ++ step 0 (Some name)) other) refl
     where

@@ -73,9 +73,9 @@ module _ (profile : Profile) (t : List ℕ) (is_text : IsKeyText profile t) (two
   -- the line with the key
   line_second : (r r' : Reading) (l : Line) (x : Changed Line) → IsLineRead t path other r r' l x
       → Stays x (in_line two other r l) (in_line two other r' x.to)
-  line_second r r' l x (by_key was now same) =
-      stays_as x None None (in_line two other r l) (in_line two other r' x.to) (hidden_line r l was)
-      (hidden_line r' x.to now) refl
+  line_second r r' l x (by_key h) =
+      stays_as x None None (in_line two other r l) (in_line two other r' x.to) (hidden_line r l h.was)
+      (hidden_line r' x.to h.now) refl
   line_second r r' l x (in_braces same is) =
       subst (λ (q : Reading). Stays x (in_line two other r l) (in_line two other q x.to)) (sym same)
       (subst (λ (o : Option (Changed Line)). EachStays o (in_line two other r) l) is

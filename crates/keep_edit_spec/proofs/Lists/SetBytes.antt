@@ -15,7 +15,8 @@ use Rattle.keep_path.specs.Path.{Part}
 use Rattle.keep_edit_spec.specs.Changed.{put}
 use Rattle.keep_edit_spec.specs.Edits.{set}
 use Rattle.keep_edit_spec.specs.Laws.{IsEditable}
-use Rattle.keep_edit_spec.specs.RunLists.{AreAtOnce, IsRunSetAgain, MadeEdit, changes_of, document_after, seen_of}
+use Rattle.keep_edit_spec.specs.RunLists.{AreAtOnce, IsRunSetAgain, MadeEdit, changes_of, document_after, lines_of}
+use Rattle.keep_edit_spec.specs.RunLists.{seen_of}
 use Rattle.keep_edit_spec.specs.Runs.{IsRun}
 use Rattle.keep_edit_spec.specs.SetValues.{SetsValue}
 use Rattle.keep_edit_spec.specs.TextChanges.{IsBeside, TextChange, change_at, moved_by_all, moved_past, place_of_change}
@@ -54,7 +55,7 @@ pub set_bytes : (profile : Profile) (limit : ℕ) (s : Document) (ms : List Made
     → (r : IsRunSetAgain profile limit s ms path more d)
     → take (length r.c.new) (drop (moved_by_all (changes_of r.rest) d.at) (text (document_after s ms))) ≡ r.c.new
 set_bytes profile limit s ms path more d fine h makes r =
-    let run : IsRun profile limit s (seen_of s ms) (changes_of ms) (document_after s ms) =
+    let run : IsRun profile limit s (seen_of s ms) (changes_of ms) (lines_of s ms) (document_after s ms) =
     run_is_known profile limit s ms fine h in
     let rest : List TextChange = changes_of r.rest in
     let first : d.at + d.size ≤ length (text s) = within_text profile limit s (set path more) d fine makes in

@@ -1,11 +1,13 @@
--- What a set leaves of a document: what is said of paths that do not begin with its own, and where bodies end.
+-- What a set leaves of a document: what is said of paths that do not begin with its own, where bodies end, and the keys
+-- of all lines.
 --
 -- A set replaces the run of mentions at and under its path (`document_set`), so of any other path the same is said. It
 -- changes the value of one line alone (`one_line_set`), which is a keyval as before: so the lengths of bodies and the
--- lines that begin them are the same (`length_same`, `end_same`, `begun_same`).
+-- lines that begin them are the same (`length_same`, `end_same`, `begun_same`), and through each path the same lines
+-- lead (`led_same`).
 --
--- Theorems: `set_kinds`, `set_ends`, `set_begins`.
-use Rattle.std.proofs.Common.{◌≡◌, ℕ, List, [], ◌∷◌, ◌++◌, sym, ap, ap₂, subst, ◌∙◌, Option, Some, None}
+-- Theorems: `set_kinds`, `set_ends`, `set_begins`, `set_led`.
+use Rattle.std.proofs.Common.{◌≡◌, ℕ, Bool, List, [], ◌∷◌, ◌++◌, refl, sym, ap, ap₂, subst, ◌∙◌, Option, Some, None}
 use Rattle.keep_syntax.specs.Tree.{Name, Value, Content, keyval, Line, Document}
 use Rattle.keep_path.specs.Path.{Part, strip}
 use Rattle.keep_meaning.specs.Marks.{Mention, MentionKind, Reading, start}
@@ -13,11 +15,12 @@ use Rattle.keep_meaning.specs.Meaning.{after_line, body_fact, entries_mentions, 
 use Rattle.keep_meaning.specs.Nodes.{kinds_at}
 use Rattle.keep_edit_spec.specs.Changed.{Changed}
 use Rattle.keep_edit_spec.specs.Edits.{change, end_of, set}
-use Rattle.keep_edit_spec.specs.Lines.{begins, body_length, last_line}
+use Rattle.keep_edit_spec.specs.Lines.{begins, body_length, last_line, leads_dotted, plain_line}
 use Rattle.keep_edit_spec.proofs.Common.Runs.{AllOf, IsUnder, Rules, kinds_at-append, kinds_at-under}
 use Rattle.keep_edit_spec.proofs.Common.SetDocument.{LinesSet, document_set, one_line_set, under_run}
 use Rattle.keep_edit_spec.proofs.Common.SetLaw.{EachTo, IsSet, run, tag_of}
 use Rattle.keep_edit_spec.proofs.Lists.BodyEnds.{end_cons, end_in, end_or, length_after}
+use Rattle.keep_edit_spec.proofs.Lists.LedAlike.{AreLedAlike, same_lines}
 use Rattle.keep_edit_spec.proofs.Lists.RemovedOwn.{last_or}
 
 -- ---- what is said of other paths
@@ -92,6 +95,22 @@ module _ (name : Name) (v w : Value) (old now : Line) (was : old.content ≡ key
           last_or (begins a r x) (last_line (begins a) (after_line r x) post)
   begun_same a r (x ∷ pre) post = ap (last_or (begins a r x)) (begun_same a (after_line r x) pre post)
 
+  led_same : (a : List Part) (r : Reading) (pre post : List Line)
+      → AreLedAlike a r r (pre ++ old ∷ post) (pre ++ now ∷ post)
+  led_same a r [] post = (
+    record { leads = ap leads is ∙ sym (ap leads was); body = λ e. refl },
+    subst (λ (x : Reading). AreLedAlike a (after_line r old) x post post) (ap after was ∙ sym (ap after is))
+        (same_lines a (after_line r old) post),
+  )
+    where
+      leads : Content → Bool
+      leads c = leads_dotted a r (plain_line c)
+
+      after : Content → Reading
+      after c = after_line r (plain_line c)
+  led_same a r (x ∷ pre) post =
+      (record { leads = refl; body = λ e. refl }, led_same a (after_line r x) pre post)
+
 module _ (s : Document) (path : List Part) (new : Value) (x : Changed Document)
     (made : change s (set path new) ≡ Some x) where
   one_line : LinesSet start path new (lines s) (lines x.to)
@@ -113,3 +132,12 @@ module _ (s : Document) (path : List Part) (new : Value) (x : Changed Document)
       ∙ sym (begun_same h.content.name h.content.old h.content.now h.old h.now h.content.was h.content.is a start h.pre
       h.post)
       ∙ sym (ap (last_line (begins a) start) h.was)
+
+  -- which lines lead through the path, and from which bodies
+  pub set_led : (a : List Part) → AreLedAlike a start start (lines s) (lines x.to)
+  set_led a =
+      let h : LinesSet start path new (lines s) (lines x.to) = one_line in
+      let led : AreLedAlike a start start (h.pre ++ h.old ∷ h.post) (h.pre ++ h.now ∷ h.post) =
+      led_same h.content.name h.content.old h.content.now h.old h.now h.content.was h.content.is a start h.pre h.post in
+      subst (λ (ls : List Line). AreLedAlike a start start (lines s) ls) (sym h.is)
+      (subst (λ (ls : List Line). AreLedAlike a start start ls (h.pre ++ h.now ∷ h.post)) (sym h.was) led)

@@ -30,8 +30,7 @@ use Rattle.keep_edit_spec.specs.TextChanges.{place_of_change}
 use Rattle.keep_edit_spec.proofs.Common.Marks.{rules_of_document}
 use Rattle.keep_edit_spec.proofs.Lists.ClearStays.{clears_now}
 use Rattle.keep_edit_spec.proofs.Lists.LineStarts.{LinesBegin, line_moves}
-use Rattle.keep_edit_spec.proofs.Lists.OtherPaths.{no_item}
-use Rattle.keep_edit_spec.proofs.Lists.Places.{at_is, line_is, place_is}
+use Rattle.keep_edit_spec.proofs.Lists.Places.{at_is, item_none, line_is, place_is}
 use Rattle.keep_edit_spec.proofs.Lists.RemovedOwn.{own_allowed}
 use Rattle.keep_edit_spec.proofs.Lists.RemovedPlaces.{at_is as line_at, end_is as line_end, mine}
 use Rattle.keep_edit_spec.proofs.Lists.RemovedPlaces.{place_is as line_place}
@@ -80,7 +79,8 @@ module _ (profile : Profile) (limit : ℕ) (s : Document) (x : Changed Document)
           closed = closed;
           newline = k.newline;
           adds = k.adds;
-          is = place_is x.to path value k.text k.more n (no_item profile limit s path value d now k) new ends closed
+          is = place_is x.to path value k.text k.more n (item_none path (holder path ms) k.text k.more k.new now) new
+              ends closed
               ∙ ap (λ (w : Written). put_in from (line w)) newline
               ∙ ap (put_in from) (sym (line_is profile limit s path value d k))
               ∙ ap (λ (i : ℕ). put_in i d.new) at;

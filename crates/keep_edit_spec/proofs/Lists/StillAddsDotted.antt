@@ -1,7 +1,7 @@
 -- An insert that adds a line to a table which dotted keys make adds the same one after another such insert, of another
 -- first new key, added its line; lines that come to one place are of one table.
 --
--- The document says of the second path what it said (DottedSaid), so the insert is not refused, and its holder and its
+-- The document says of the second path what it said (SaidOnWay), so the insert is not refused, and its holder and its
 -- first new key are the same. The first insert puts its line in right after line i, and the second one's last line is
 -- line j. The new line leads through the second holder only if j is i or later (DottedLeads), and does if j is i, since
 -- then both lines come to one place. So the last line is now j, or a line later from i on (OneLineMore): the same line
@@ -29,11 +29,12 @@ use Rattle.keep_edit_spec.proofs.Lists.DottedLeads as leads
 use Rattle.keep_edit_spec.proofs.Lists.DottedLeads.{own_leads, past_before}
 use Rattle.keep_edit_spec.proofs.Lists.DottedLine as line
 use Rattle.keep_edit_spec.proofs.Lists.DottedLine.{at_is, lines_now, puts}
-use Rattle.keep_edit_spec.proofs.Lists.DottedSaid.{holder_stays, refusal_stays}
+use Rattle.keep_edit_spec.proofs.Lists.LineOnWay.{AddsOnWay, dotted_on_way}
 use Rattle.keep_edit_spec.proofs.Lists.NewPaths.{InsertsKeys, dotted_keys, first_path, goes}
 use Rattle.keep_edit_spec.proofs.Lists.OneLineMore.{last_still}
 use Rattle.keep_edit_spec.proofs.Lists.Places.{later_line, width}
 use Rattle.keep_edit_spec.proofs.Lists.PutsKeyval.{PutsKeyval, first_long}
+use Rattle.keep_edit_spec.proofs.Lists.SaidOnWay.{holder_stays, refusal_stays}
 
 module _ (profile : Profile) (limit : ℕ) (s : Document) (path : List Part) (value : Value) (c : TextChange)
     (other : List Part) (more : Value) (d : TextChange) (fine : IsEditable profile limit s)
@@ -76,6 +77,9 @@ module _ (profile : Profile) (limit : ℕ) (s : Document) (path : List Part) (va
   abbrev its : InsertsKeys profile limit s other more
   its = dotted_keys profile limit s other more d k
 
+  abbrev way : AddsOnWay profile limit s path value
+  way = dotted_on_way profile limit s path value c h
+
   put : PutsKeyval s now n name value c
   put = puts profile limit s path value c h fine
 
@@ -103,5 +107,5 @@ module _ (profile : Profile) (limit : ℕ) (s : Document) (path : List Part) (va
   pub still_adds_dotted : StillAdds true profile limit s now other more (moved c d)
   still_adds_dotted =
       dotted_still profile limit s now n name value c put fine other more d k j (later_suc h.number k.number)
-      (holder_stays profile limit s path value c h other more its order.other)
-      (refusal_stays profile limit s path value c h other more its order.other) last_now
+      (holder_stays profile limit s path value way other more its order.other)
+      (refusal_stays profile limit s path value way other more its order.other) last_now

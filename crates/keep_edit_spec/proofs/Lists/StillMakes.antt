@@ -4,22 +4,31 @@
 -- writes has bytes (GivenBytes). Others see the edit as before: an insert as one of the same first new key.
 --
 -- Theorem: `still_makes`.
-use Rattle.std.proofs.Common.{◌≡◌, ◌≢◌, ℕ, List, refl, sym, ap, ◌∙◌, arith, inl, inr, ◌+◌, true, false}
+use Rattle.std.proofs.Common.{◌≡◌, ◌≢◌, ℕ, ◌+◌, Bool, true, false, not, List, refl, sym, ap, subst₂, ◌∙◌, arith}
+use Rattle.std.proofs.Common.{inl, inr}
 use Rattle.keep_types.specs.declared.leaf.Profile.{Profile}
 use Rattle.keep_syntax.specs.Tree.{Document, Value}
-use Rattle.keep_path.specs.Path.{Part}
-use Rattle.keep_edit_spec.specs.AddedLines.{AddsLineStill, first_new}
+use Rattle.keep_path.specs.Path.{Part, beside}
+use Rattle.keep_edit_spec.specs.AddedLines.{AddsLine, AddsLineStill, first_new}
 use Rattle.keep_edit_spec.specs.ClearedLines.{ClearsLine}
+use Rattle.keep_edit_spec.specs.DottedLines.{AddsDotted, AddsLineTo, IsAfter, StillAdds, added_at}
+use Rattle.keep_edit_spec.specs.DottedLines.{into_dotted}
 use Rattle.keep_edit_spec.specs.Edits.{Edit, append_element, append_table, edited_document, insert, place, remove}
 use Rattle.keep_edit_spec.specs.Edits.{rename, set}
 use Rattle.keep_edit_spec.specs.Laws.{IsEditable}
 use Rattle.keep_edit_spec.specs.RemovedLines.{RemovesLine}
 use Rattle.keep_edit_spec.specs.RemovedSections.{RemovesSection}
 use Rattle.keep_edit_spec.specs.Runs.{AreApart, IsStillPlaced, LeavesAlone, MakesChange, StillMakesChange, ComesInPlace}
-use Rattle.keep_edit_spec.specs.Runs.{is_insert, seen}
+use Rattle.keep_edit_spec.specs.Runs.{IsSeenStill, ends_body, seen}
 use Rattle.keep_edit_spec.specs.TextChanges.{IsBeside, TextChange, moved}
 use Rattle.keep_edit_spec.proofs.Lists.ApartPaths.{apart_renamed, renamed_apart}
 use Rattle.keep_edit_spec.proofs.Lists.ClearAfterRename.{clear_after_rename}
+use Rattle.keep_edit_spec.proofs.Lists.DottedAfterClear.{dotted_after_clear}
+use Rattle.keep_edit_spec.proofs.Lists.DottedAfterHeader.{dotted_after_element, dotted_after_table}
+use Rattle.keep_edit_spec.proofs.Lists.DottedAfterRemove.{dotted_after_remove}
+use Rattle.keep_edit_spec.proofs.Lists.DottedAfterRename.{dotted_after_rename}
+use Rattle.keep_edit_spec.proofs.Lists.DottedAfterSection.{dotted_after_section}
+use Rattle.keep_edit_spec.proofs.Lists.DottedAfterSet.{dotted_after_set}
 use Rattle.keep_edit_spec.proofs.Lists.HeaderAfterClear.{element_after_clear, table_after_clear}
 use Rattle.keep_edit_spec.proofs.Lists.InsertAfterClear.{insert_after_clear}
 use Rattle.keep_edit_spec.proofs.Lists.InsertAfterRemove.{insert_after_remove}
@@ -59,7 +68,7 @@ use Rattle.keep_edit_spec.proofs.Lists.SectionAfterRemove.{section_after_remove}
 use Rattle.keep_edit_spec.proofs.Lists.SectionAfterRename.{section_after_rename}
 use Rattle.keep_edit_spec.proofs.Lists.SectionAfterSet.{section_after_set}
 use Rattle.keep_edit_spec.proofs.Lists.SetAfterSection.{set_after_section}
-use Rattle.keep_edit_spec.proofs.Lists.StillAdds.{still_adds}
+use Rattle.keep_edit_spec.proofs.Lists.StillAddsLineTo.{still_adds_line_to}
 use Rattle.keep_edit_spec.proofs.Lists.StillAppends.{still_appends_element, still_appends_table}
 use Rattle.keep_edit_spec.proofs.Lists.StillRemoves.{clear_after_remove, still_removes}
 use Rattle.keep_edit_spec.proofs.Lists.StillRemovesHeader.{still_removes_table}
@@ -76,7 +85,7 @@ elsewhere : (s : Document) (c : TextChange) (f : Edit) (d : TextChange) → (Com
 elsewhere s c f d none (inl far) = far
 elsewhere s c f d none (inr here) = absurd (none here)
 
-no_header : (s : Document) (c : TextChange) (f : Edit) (d : TextChange) → is_insert f ≡ false
+no_header : (s : Document) (c : TextChange) (f : Edit) (d : TextChange) → ends_body s f ≡ false
     → (c.at + c.size ≢ d.at) ⊎ ComesInPlace s c f d → c.at + c.size ≢ d.at
 no_header s c f d no_line =
     elsewhere s c f d (λ here. (let both : true ≡ false = sym here.line ∙ no_line in absurd cc))
@@ -104,11 +113,46 @@ remove_after profile limit s now path c d takes clears goes (inr (inr k)) = inr 
 
 -- in another document, too, and seen as before
 abbrev MakesStill : Profile → ℕ → Document → Document → Edit → TextChange → Type 0
-MakesStill profile limit s now e c = MakesChange profile limit now e c × (seen now e ≡ seen s e)
+MakesStill profile limit s now e c = MakesChange profile limit now e c × IsSeenStill s now e
 
-adds_still : (profile : Profile) (limit : ℕ) (s now : Document) (path : List Part) (value : Value) (c : TextChange)
-    → AddsLineStill profile limit s now path value c → MakesStill profile limit s now (insert path value) c
-adds_still profile limit s now path value c h = (h.0, ap (λ (p : List Part). insert p value) h.1)
+-- whether dotted keys make the table of the line tells which of the two it is
+pub dotted_is : (dotted : Bool) (profile : Profile) (limit : ℕ) (s : Document) (path : List Part) (value : Value)
+    (c : TextChange) → AddsLineTo dotted profile limit s path value c → into_dotted s path ≡ dotted
+dotted_is true profile limit s path value c h = rw (into_dotted, h.bare) refl
+dotted_is false profile limit s path value c h = rw (into_dotted, h.ends) refl
+
+adds_still : (dotted : Bool) (profile : Profile) (limit : ℕ) (s now : Document) (path : List Part) (value : Value)
+    (c d : TextChange) → AddsLineTo dotted profile limit s path value c
+    → StillAdds dotted profile limit s now path value d → MakesStill profile limit s now (insert path value) d
+adds_still dotted profile limit s now path value c d was h = (
+  (dotted, h.0),
+  (
+    h.1,
+    dotted_is dotted profile limit now path value d h.0 ∙ sym (dotted_is dotted profile limit s path value c was),
+  ),
+)
+
+-- after an edit of another kind: a line of a table that dotted keys make comes in the place of none
+line_after : (dotted : Bool) (profile : Profile) (limit : ℕ) (s now : Document) (c : TextChange) (path : List Part)
+    (value : Value) (d : TextChange) → AddsLineTo dotted profile limit s path value d
+    → (c.at + c.size ≢ d.at) ⊎ ComesInPlace s c (insert path value) d
+    → (AddsLine profile limit s path value d → (c.at + c.size ≢ d.at) ⊎ ComesInPlace s c (insert path value) d
+    → AddsLineStill profile limit s now path value (moved c d))
+    → (AddsDotted profile limit s path value d → c.at + c.size ≢ d.at
+    → StillAdds true profile limit s now path value (moved c d))
+    → MakesStill profile limit s now (insert path value) (moved c d)
+line_after false profile limit s now c path value d k place line to_table =
+    adds_still false profile limit s now path value d (moved c d) k (line k place)
+line_after true profile limit s now c path value d k place line to_table =
+    adds_still true profile limit s now path value d (moved c d) k
+    (to_table k (elsewhere s c (insert path value) d in_place place))
+  where
+    in_place : ComesInPlace s c (insert path value) d → ⊥
+    in_place here =
+        let none : not (into_dotted s path) ≡ true = here.line in
+        let no : not true ≡ true =
+        ap not (sym (dotted_is true profile limit s path value d k)) ∙ none in
+        absurd cc
 
 swapped : (path other : List Part) → AreApart path other → AreApart other path
 swapped path other apart = (apart.1, apart.0)
@@ -118,13 +162,14 @@ after_taken : (profile : Profile) (limit : ℕ) (s : Document) (path : List Part
     (d : TextChange) → IsEditable profile limit s → RemovesLine profile limit s path c → MakesChange profile limit s f d
     → LeavesAlone (remove path) (seen s f) → IsBeside c d → IsStillPlaced s (remove path) c f d
     → MakesStill profile limit s (edited_document s (remove path)) f (moved c d)
-after_taken profile limit s path c (insert other more) d fine h k alone beside placed =
-    adds_still profile limit s (edited_document s (remove path)) other more (moved c d)
-    (elim ((placed refl).1 refl) [
-      | inl far ↦ insert_after_remove profile limit s path c other more d fine h k alone beside (placed refl).0 far
-      | inr here ↦
-          insert_in_place profile limit s path c other more d fine h k alone (placed refl).0 here.next here.said
+after_taken profile limit s path c (insert other more) d fine h (dotted, k) alone beside placed =
+    let newline = (placed.0 refl).0 in
+    line_after dotted profile limit s (edited_document s (remove path)) c other more d k ((placed.0 refl).1 refl)
+    (λ x place. elim place [
+      | inl far ↦ insert_after_remove profile limit s path c other more d fine h x alone beside newline far
+      | inr here ↦ insert_in_place profile limit s path c other more d fine h x alone newline here.next here.said
     ])
+    (λ x far. dotted_after_remove profile limit s path c other more d fine h x alone beside newline far)
 after_taken profile limit s path c (remove other) d fine h k alone beside placed =
     let differs : path ≢ other = other_path profile limit s path c other d fine (inl h) k beside in (
       remove_after profile limit s (edited_document s (remove path)) other c d
@@ -132,24 +177,24 @@ after_taken profile limit s path c (remove other) d fine h k alone beside placed
           (λ x. clear_after_remove profile limit s path c other d fine h x differs beside)
           (λ x. section_after_remove profile limit s path c other d fine h x
           (line_apart profile limit s path c other d fine h x (inl beside)) beside) k,
-      refl,
+      tt,
     )
 after_taken profile limit s path c (set other more) d fine h k alone beside placed =
-    (set_after_remove profile limit s path c other more d fine h k alone beside, refl)
+    (set_after_remove profile limit s path c other more d fine h k alone beside, tt)
 after_taken profile limit s path c (rename other more) d fine h k alone beside placed = (
   rename_after_remove profile limit s path c other more d fine h k alone.0
       (apart_renamed path other more alone.0 alone.1) beside,
-  refl,
+  tt,
 )
 after_taken profile limit s path c (append_table more) d fine h k alone beside placed = (
-  table_after_remove profile limit s path c more d fine h k (placed refl).0
-      (no_header s c (append_table more) d refl ((placed refl).1 refl)),
-  refl,
+  table_after_remove profile limit s path c more d fine h k (placed.0 refl).0
+      (no_header s c (append_table more) d refl ((placed.0 refl).1 refl)),
+  tt,
 )
 after_taken profile limit s path c (append_element more) d fine h k alone beside placed = (
-  element_after_remove profile limit s path c more d fine h k (placed refl).0
-      (no_header s c (append_element more) d refl ((placed refl).1 refl)),
-  refl,
+  element_after_remove profile limit s path c more d fine h k (placed.0 refl).0
+      (no_header s c (append_element more) d refl ((placed.0 refl).1 refl)),
+  tt,
 )
 
 -- after one that left it with its comment
@@ -157,11 +202,12 @@ after_cleared : (profile : Profile) (limit : ℕ) (s : Document) (path : List Pa
     (d : TextChange) → IsEditable profile limit s → ClearsLine profile limit s path c → MakesChange profile limit s f d
     → LeavesAlone (remove path) (seen s f) → IsBeside c d → IsStillPlaced s (remove path) c f d
     → MakesStill profile limit s (edited_document s (remove path)) f (moved c d)
-after_cleared profile limit s path c (insert other more) d fine h k alone beside placed =
-    adds_still profile limit s (edited_document s (remove path)) other more (moved c d)
-    (insert_after_clear profile limit s path c other more d fine h k alone beside (placed refl).0
-    (elsewhere s c (insert other more) d (λ here. clear_gives profile limit s path c fine h here.takes)
-    ((placed refl).1 refl)))
+after_cleared profile limit s path c (insert other more) d fine h (dotted, k) alone beside placed =
+    let newline = (placed.0 refl).0 in
+    line_after dotted profile limit s (edited_document s (remove path)) c other more d k ((placed.0 refl).1 refl)
+    (λ x place. insert_after_clear profile limit s path c other more d fine h x alone beside newline
+    (elsewhere s c (insert other more) d (λ here. clear_gives profile limit s path c fine h here.takes) place))
+    (λ x far. dotted_after_clear profile limit s path c other more d fine h x alone beside newline far)
 after_cleared profile limit s path c (remove other) d fine h k alone beside placed =
     let differs : path ≢ other = other_path profile limit s path c other d fine (inr (inl h)) k beside in (
       remove_after profile limit s (edited_document s (remove path)) other c d
@@ -169,24 +215,24 @@ after_cleared profile limit s path c (remove other) d fine h k alone beside plac
           (λ x. clear_after_clear profile limit s path c other d fine h x differs beside)
           (λ x. section_after_clear profile limit s path c other d fine h x
           (cleared_apart profile limit s path c other d fine h x (inl beside)) beside) k,
-      refl,
+      tt,
     )
 after_cleared profile limit s path c (set other more) d fine h k alone beside placed =
-    (set_after_clear profile limit s path c other more d fine h k alone beside, refl)
+    (set_after_clear profile limit s path c other more d fine h k alone beside, tt)
 after_cleared profile limit s path c (rename other more) d fine h k alone beside placed = (
   rename_after_clear profile limit s path c other more d fine h k alone.0
       (apart_renamed path other more alone.0 alone.1) beside,
-  refl,
+  tt,
 )
 after_cleared profile limit s path c (append_table more) d fine h k alone beside placed = (
-  table_after_clear profile limit s path c more d fine h k (placed refl).0
-      (no_header s c (append_table more) d refl ((placed refl).1 refl)),
-  refl,
+  table_after_clear profile limit s path c more d fine h k (placed.0 refl).0
+      (no_header s c (append_table more) d refl ((placed.0 refl).1 refl)),
+  tt,
 )
 after_cleared profile limit s path c (append_element more) d fine h k alone beside placed = (
-  element_after_clear profile limit s path c more d fine h k (placed refl).0
-      (no_header s c (append_element more) d refl ((placed refl).1 refl)),
-  refl,
+  element_after_clear profile limit s path c more d fine h k (placed.0 refl).0
+      (no_header s c (append_element more) d refl ((placed.0 refl).1 refl)),
+  tt,
 )
 
 -- after one that took a table with its header
@@ -195,9 +241,11 @@ after_section : (profile : Profile) (limit : ℕ) (s : Document) (path : List Pa
     → MakesChange profile limit s f d
     → LeavesAlone (remove path) (seen s f) → IsBeside c d → IsStillPlaced s (remove path) c f d
     → MakesStill profile limit s (edited_document s (remove path)) f (moved c d)
-after_section profile limit s path c (insert other more) d fine h k alone beside placed =
-    adds_still profile limit s (edited_document s (remove path)) other more (moved c d)
-    (insert_after_section profile limit s path c other more d fine h k alone beside (placed refl).0)
+after_section profile limit s path c (insert other more) d fine h (dotted, k) alone beside placed =
+    let newline = (placed.0 refl).0 in
+    line_after dotted profile limit s (edited_document s (remove path)) c other more d k ((placed.0 refl).1 refl)
+    (λ x place. insert_after_section profile limit s path c other more d fine h x alone beside newline)
+    (λ x far. dotted_after_section profile limit s path c other more d fine h x alone beside newline far)
 after_section profile limit s path c (remove other) d fine h k alone beside placed =
     let differs : path ≢ other = other_path profile limit s path c other d fine (inr (inr h)) k beside in (
       remove_after profile limit s (edited_document s (remove path)) other c d
@@ -206,89 +254,98 @@ after_section profile limit s path c (remove other) d fine h k alone beside plac
           (λ x. clear_after_section profile limit s path c other d fine h x
           (swapped other path (cleared_apart profile limit s other d path c fine x h (inr beside))) beside)
           (λ x. still_removes_table profile limit s path c fine other d differs h x) k,
-      refl,
+      tt,
     )
 after_section profile limit s path c (set other more) d fine h k alone beside placed =
-    (set_after_section profile limit s path c other more d fine h k alone beside, refl)
+    (set_after_section profile limit s path c other more d fine h k alone beside, tt)
 after_section profile limit s path c (rename other more) d fine h k alone beside placed = (
   rename_after_section profile limit s path c other more d fine h k alone.0
       (apart_renamed path other more alone.0 alone.1) beside,
-  refl,
+  tt,
 )
 after_section profile limit s path c (append_table more) d fine h k alone beside placed = (
-  table_after_section profile limit s path c more d fine h k (placed refl).0
-      (no_header s c (append_table more) d refl ((placed refl).1 refl)),
-  refl,
+  table_after_section profile limit s path c more d fine h k (placed.0 refl).0
+      (no_header s c (append_table more) d refl ((placed.0 refl).1 refl)),
+  tt,
 )
 after_section profile limit s path c (append_element more) d fine h k alone beside placed = (
-  element_after_section profile limit s path c more d fine h k (placed refl).0
-      (no_header s c (append_element more) d refl ((placed refl).1 refl)),
-  refl,
+  element_after_section profile limit s path c more d fine h k (placed.0 refl).0
+      (no_header s c (append_element more) d refl ((placed.0 refl).1 refl)),
+  tt,
 )
 
 pub still_makes : StillMakesChange
-still_makes profile limit s (insert path value) c (insert other more) d fine h k alone beside placed =
-    adds_still profile limit s (edited_document s (insert path value)) other more (moved c d)
-    (still_adds profile limit s path value c other more d fine h k alone)
-still_makes profile limit s (insert path value) c (remove other) d fine h k alone beside placed = (
+still_makes profile limit s (insert path value) c (insert other more) d fine (to, h) (dotted, k) alone beside placed =
+    adds_still dotted profile limit s (edited_document s (insert path value)) other more d (moved c d) k
+    (still_adds_line_to profile limit s path value c to other more d dotted fine h k (record {
+      other = alone;
+      table = subst₂
+          (λ (a b : Bool). IsAfter (added_at s path c a) (added_at s other d b))
+          (dotted_is to profile limit s path value c h) (dotted_is dotted profile limit s other more d k) placed.1;
+    }))
+still_makes profile limit s (insert path value) c (remove other) d fine (to, h) k alone beside placed = (
   remove_after profile limit s (edited_document s (insert path value)) other c d
-      (λ x. remove_after_insert profile limit s path value c other d fine h x alone beside)
-      (λ x. clear_after_insert profile limit s path value c other d fine h x alone beside)
-      (λ x. section_after_insert profile limit s path value c other d fine h x alone beside) k,
-  refl,
+      (λ x. remove_after_insert profile limit s path value c to other d fine h x alone beside)
+      (λ x. clear_after_insert profile limit s path value c to other d fine h x alone beside)
+      (λ x. section_after_insert profile limit s path value c to other d fine h x alone beside) k,
+  tt,
 )
-still_makes profile limit s (insert path value) c (set other more) d fine h k alone beside placed =
-    (set_after_insert profile limit s path value c other more d fine h k alone beside, refl)
-still_makes profile limit s (insert path value) c (rename other more) d fine h k alone beside placed = (
-  rename_after_insert profile limit s path value c other more d fine h k alone.0
+still_makes profile limit s (insert path value) c (set other more) d fine (to, h) k alone beside placed =
+    (set_after_insert profile limit s path value c to other more d fine h k alone beside, tt)
+still_makes profile limit s (insert path value) c (rename other more) d fine (to, h) k alone beside placed = (
+  rename_after_insert profile limit s path value c to other more d fine h k alone.0
       (apart_renamed (first_new s path) other more alone.0 alone.1) beside,
-  refl,
+  tt,
 )
-still_makes profile limit s (insert path value) c (append_table more) d fine h k alone beside placed =
-    (table_after_insert profile limit s path value c more d fine h k alone (placed refl).0, refl)
-still_makes profile limit s (insert path value) c (append_element more) d fine h k alone beside placed =
-    (element_after_insert profile limit s path value c more d fine h k alone (placed refl).0, refl)
+still_makes profile limit s (insert path value) c (append_table more) d fine (to, h) k alone beside placed =
+    (table_after_insert profile limit s path value c to more d fine h k alone (placed.0 refl).0, tt)
+still_makes profile limit s (insert path value) c (append_element more) d fine (to, h) k alone beside placed =
+    (element_after_insert profile limit s path value c to more d fine h k alone (placed.0 refl).0, tt)
 still_makes profile limit s (remove path) c f d fine (inl h) k alone beside placed =
     after_taken profile limit s path c f d fine h k alone beside placed
 still_makes profile limit s (remove path) c f d fine (inr (inl h)) k alone beside placed =
     after_cleared profile limit s path c f d fine h k alone beside placed
 still_makes profile limit s (remove path) c f d fine (inr (inr h)) k alone beside placed =
     after_section profile limit s path c f d fine h k alone beside placed
-still_makes profile limit s (set path value) c (insert other more) d fine h k alone beside placed =
-    adds_still profile limit s (edited_document s (set path value)) other more (moved c d)
-    (insert_after_set profile limit s path value c other more d fine h k alone beside (placed refl).0
-    (elsewhere s c (insert other more) d (λ here. set_gives profile limit s path value c fine h here.takes)
-    ((placed refl).1 refl)))
+still_makes profile limit s (set path value) c (insert other more) d fine h (dotted, k) alone beside placed =
+    let newline = (placed.0 refl).0 in
+    line_after dotted profile limit s (edited_document s (set path value)) c other more d k ((placed.0 refl).1 refl)
+    (λ x place. insert_after_set profile limit s path value c other more d fine h x alone beside newline
+    (elsewhere s c (insert other more) d (λ here. set_gives profile limit s path value c fine h here.takes) place))
+    (λ x far. dotted_after_set profile limit s path value c other more d fine h x alone beside newline far)
 still_makes profile limit s (set path value) c (remove other) d fine h k alone beside placed = (
   remove_after profile limit s (edited_document s (set path value)) other c d
       (λ x. remove_after_set profile limit s path value c other d fine h x alone beside)
       (λ x. clear_after_set profile limit s path value c other d fine h x alone beside)
       (λ x. section_after_set profile limit s path value c other d fine h x alone beside) k,
-  refl,
+  tt,
 )
 still_makes profile limit s (set path value) c (set other more) d fine h k alone beside placed =
-    (still_sets profile limit s path value c other more d fine h k beside, refl)
+    (still_sets profile limit s path value c other more d fine h k beside, tt)
 still_makes profile limit s (set path value) c (rename other more) d fine h k alone beside placed = (
   rename_after_set profile limit s path value c other more d fine h k alone.0
       (apart_renamed path other more alone.0 alone.1) beside,
-  refl,
+  tt,
 )
 still_makes profile limit s (set path value) c (append_table more) d fine h k alone beside placed = (
-  table_after_set profile limit s path value c more d fine h k alone (placed refl).0
-      (no_header s c (append_table more) d refl ((placed refl).1 refl)),
-  refl,
+  table_after_set profile limit s path value c more d fine h k alone (placed.0 refl).0
+      (no_header s c (append_table more) d refl ((placed.0 refl).1 refl)),
+  tt,
 )
 still_makes profile limit s (set path value) c (append_element more) d fine h k alone beside placed = (
-  element_after_set profile limit s path value c more d fine h k alone (placed refl).0
-      (no_header s c (append_element more) d refl ((placed refl).1 refl)),
-  refl,
+  element_after_set profile limit s path value c more d fine h k alone (placed.0 refl).0
+      (no_header s c (append_element more) d refl ((placed.0 refl).1 refl)),
+  tt,
 )
-still_makes profile limit s (rename path name) c (insert other more) d fine h k alone beside placed =
-    adds_still profile limit s (edited_document s (rename path name)) other more (moved c d)
-    (insert_after_rename profile limit s path name c other more d fine h k alone.0
-    (renamed_apart path name (first_new s other) alone.0 alone.1) beside (placed refl).0
-    (elsewhere s c (insert other more) d (λ here. rename_gives profile limit s path name c fine h here.takes)
-    ((placed refl).1 refl)))
+still_makes profile limit s (rename path name) c (insert other more) d fine h (dotted, k) alone side placed =
+    let newline = (placed.0 refl).0 in
+    let renamed : AreApart (beside path name) (first_new s other) =
+    renamed_apart path name (first_new s other) alone.0 alone.1 in
+    line_after dotted profile limit s (edited_document s (rename path name)) c other more d k
+    ((placed.0 refl).1 refl)
+    (λ x place. insert_after_rename profile limit s path name c other more d fine h x alone.0 renamed side newline
+    (elsewhere s c (insert other more) d (λ here. rename_gives profile limit s path name c fine h here.takes) place))
+    (λ x far. dotted_after_rename profile limit s path name c other more d fine h x alone.0 renamed side newline far)
 still_makes profile limit s (rename path name) c (remove other) d fine h k alone beside placed = (
   remove_after profile limit s (edited_document s (rename path name)) other c d
       (λ x. remove_after_rename profile limit s path name c other d fine h x alone.0
@@ -297,62 +354,70 @@ still_makes profile limit s (rename path name) c (remove other) d fine h k alone
       (renamed_apart path name other alone.0 alone.1) beside)
       (λ x. section_after_rename profile limit s path name c other d fine h x alone.0
       (renamed_apart path name other alone.0 alone.1) beside) k,
-  refl,
+  tt,
 )
 still_makes profile limit s (rename path name) c (set other more) d fine h k alone beside placed = (
   set_after_rename profile limit s path name c other more d fine h k alone.0
       (renamed_apart path name other alone.0 alone.1) beside,
-  refl,
+  tt,
 )
 still_makes profile limit s (rename path name) c (rename other more) d fine h k alone beside placed =
-    (still_renames profile limit s path name c other more d fine h k alone beside, refl)
+    (still_renames profile limit s path name c other more d fine h k alone beside, tt)
 still_makes profile limit s (rename path name) c (append_table more) d fine h k alone beside placed = (
-  table_after_rename profile limit s path name c more d fine h k alone.0 alone.1 (placed refl).0
-      (no_header s c (append_table more) d refl ((placed refl).1 refl)),
-  refl,
+  table_after_rename profile limit s path name c more d fine h k alone.0 alone.1 (placed.0 refl).0
+      (no_header s c (append_table more) d refl ((placed.0 refl).1 refl)),
+  tt,
 )
 still_makes profile limit s (rename path name) c (append_element more) d fine h k alone beside placed = (
-  element_after_rename profile limit s path name c more d fine h k alone.0 alone.1 (placed refl).0
-      (no_header s c (append_element more) d refl ((placed refl).1 refl)),
-  refl,
+  element_after_rename profile limit s path name c more d fine h k alone.0 alone.1 (placed.0 refl).0
+      (no_header s c (append_element more) d refl ((placed.0 refl).1 refl)),
+  tt,
 )
-still_makes profile limit s (append_table keys) c (insert other more) d fine h k alone beside placed =
-    adds_still profile limit s (edited_document s (append_table keys)) other more (moved c d)
-    (insert_after_table profile limit s keys c other more d fine h k alone
-    (λ e. elsewhere s c (insert other more) d (λ here. omega (arith, here.some, h.adds)) ((placed refl).1 refl)
-    (omega (arith, e, h.adds))) (placed refl).0)
+still_makes profile limit s (append_table keys) c (insert other more) d fine h (dotted, k) alone beside placed =
+    let newline = (placed.0 refl).0 in
+    line_after dotted profile limit s (edited_document s (append_table keys)) c other more d k
+    ((placed.0 refl).1 refl)
+    (λ x place. insert_after_table profile limit s keys c other more d fine h x alone
+    (λ e. elsewhere s c (insert other more) d (λ here. omega (arith, here.some, h.adds)) place
+    (omega (arith, e, h.adds))) newline)
+    (λ x far. dotted_after_table profile limit s keys c other more d fine h x alone
+    (λ e. far (omega (arith, e, h.adds))) newline)
 still_makes profile limit s (append_table keys) c (remove other) d fine h k alone beside placed = (
   remove_after profile limit s (edited_document s (append_table keys)) other c d
       (λ x. remove_after_table profile limit s keys c other d fine h x)
       (λ x. clear_after_table profile limit s keys c other d fine h x)
       (λ x. section_after_table profile limit s keys c other d fine h x alone) k,
-  refl,
+  tt,
 )
 still_makes profile limit s (append_table keys) c (set other more) d fine h k alone beside placed =
-    (set_after_table profile limit s keys c other more d fine h k alone, refl)
+    (set_after_table profile limit s keys c other more d fine h k alone, tt)
 still_makes profile limit s (append_table keys) c (rename other more) d fine h k alone beside placed =
-    (rename_after_table profile limit s keys c other more d fine h k alone.0 alone.1, refl)
+    (rename_after_table profile limit s keys c other more d fine h k alone.0 alone.1, tt)
 still_makes profile limit s (append_table keys) c (append_table more) d fine h k alone beside placed =
-    (still_appends_table profile limit s keys c more d fine h k alone, refl)
+    (still_appends_table profile limit s keys c more d fine h k alone, tt)
 still_makes profile limit s (append_table keys) c (append_element more) d fine h k alone beside placed =
-    (element_after_table profile limit s keys c more d fine h k alone, refl)
-still_makes profile limit s (append_element keys) c (insert other more) d fine h k alone beside placed =
-    adds_still profile limit s (edited_document s (append_element keys)) other more (moved c d)
-    (insert_after_element profile limit s keys c other more d fine h k alone
-    (λ e. elsewhere s c (insert other more) d (λ here. omega (arith, here.some, h.adds)) ((placed refl).1 refl)
-    (omega (arith, e, h.adds))) (placed refl).0)
+    (element_after_table profile limit s keys c more d fine h k alone, tt)
+still_makes profile limit s (append_element keys) c (insert other more) d fine h (dotted, k) alone beside placed =
+    let newline = (placed.0 refl).0 in
+    line_after dotted profile limit s (edited_document s (append_element keys)) c other more d k
+    ((placed.0 refl).1 refl)
+    (λ x place. insert_after_element profile limit s keys c other more d fine h x alone
+    (λ e. elsewhere s c (insert other more) d (λ here. omega (arith, here.some, h.adds)) place
+    (omega (arith, e, h.adds))) newline)
+    (λ x far. dotted_after_element profile limit s keys c other more d fine h x alone
+    (λ e. far (omega (arith, e, h.adds))) newline)
 still_makes profile limit s (append_element keys) c (remove other) d fine h k alone beside placed = (
   remove_after profile limit s (edited_document s (append_element keys)) other c d
       (λ x. remove_after_element profile limit s keys c other d fine h x)
       (λ x. clear_after_element profile limit s keys c other d fine h x)
       (λ x. section_after_element profile limit s keys c other d fine h x alone) k,
-  refl,
+  tt,
 )
 still_makes profile limit s (append_element keys) c (set other more) d fine h k alone beside placed =
-    (set_after_element profile limit s keys c other more d fine h k alone, refl)
+    (set_after_element profile limit s keys c other more d fine h k alone, tt)
 still_makes profile limit s (append_element keys) c (rename other more) d fine h k alone beside placed =
-    (rename_after_element profile limit s keys c other more d fine h k alone.0 alone.1, refl)
+    (rename_after_element profile limit s keys c other more d fine h k alone.0 alone.1, tt)
 still_makes profile limit s (append_element keys) c (append_table more) d fine h k alone beside placed =
-    (table_after_element profile limit s keys c more d fine h k alone, refl)
+    (table_after_element profile limit s keys c more d fine h k alone, tt)
 still_makes profile limit s (append_element keys) c (append_element more) d fine h k alone beside placed =
-    (still_appends_element profile limit s keys c more d fine h k alone, refl)
+    (still_appends_element profile limit s keys c more d fine h k alone, tt)

@@ -6,8 +6,8 @@
 -- with it is the text with the others, changed at the place to which the others move it, and changes keep their order
 -- when they are moved. Each is by induction on the changes.
 --
--- Theorems: `follow_with`, `text_with_one`, `moved_with`, `moved_next`, `beside_past`, `end_apart`,
--- `end_apart_let`, `begins_apart`, `all_with`, `one_of_all`, `rest_of_all`, `none_with`, `length_with`; `gone_room`,
+-- Theorems: `follow_with`, `text_with_one`, `moved_with`, `moved_next`, `beside_past`, `end_apart`, `end_apart_let`,
+-- `begins_apart`, `begins_at_one`, `all_with`, `one_of_all`, `rest_of_all`, `none_with`, `length_with`; `gone_room`,
 -- `past_later`.
 use Rattle.std.proofs.Common.{◌≡◌, ◌≢◌, ℕ, ◌+◌, ◌-◌, ◌<◌, ◌≤◌, Bool, true, false, cond, List, [], ◌∷◌, ◌++◌, length}
 use Rattle.std.proofs.Common.{take, drop, get_or, suc, All, refl, sym, ap, ap₂, ◌∙◌, append_assoc, arith, length-drop}
@@ -435,6 +435,17 @@ begins_apart cs d e h left right differs same = elim (cases_lt d.at e.at) [
   | inr up ↦ elim (cases_lt e.at d.at) [
     | inl less ↦ omega (arith, same, past_less cs e d less h right left)
     | inr down ↦ differs (omega (arith, up, down))
+  ]
+]
+
+-- So where they begin at one place then, they did before.
+pub begins_at_one : (cs : List TextChange) (d e : TextChange) → Follow 0 cs → All (λ c. IsBeside c d) cs
+    → All (λ c. IsBeside c e) cs → moved_by_all cs d.at ≡ moved_by_all cs e.at → d.at ≡ e.at
+begins_at_one cs d e h left right same = elim (cases_lt d.at e.at) [
+  | inl less ↦ absurd (begins_apart cs d e h left right (λ is. omega (arith, less, is)) same)
+  | inr up ↦ elim (cases_lt e.at d.at) [
+    | inl less ↦ absurd (begins_apart cs d e h left right (λ is. omega (arith, less, is)) same)
+    | inr down ↦ omega (arith, up, down)
   ]
 ]
 

@@ -1,10 +1,11 @@
 -- What is shown of two edits of two kinds: the second makes its change after the first made its own beside it.
-use Rattle.std.specs.Prelude.{◌≡◌, ◌≢◌, ℕ, ◌+◌, List, map}
+use Rattle.std.specs.Prelude.{◌≡◌, ◌≢◌, ℕ, Bool, ◌+◌, List, map}
 use Rattle.keep_types.specs.declared.leaf.Profile.{Profile}
 use Rattle.keep_syntax.specs.Tree.{Document, Value, text}
 use Rattle.keep_path.specs.Path.{Part, beside, key}
 use Rattle.keep_edit_spec.specs.AddedLines.{AddsLine, AddsLineStill, first_new}
 use Rattle.keep_edit_spec.specs.AppendedHeaders.{AppendsElement, AppendsTable}
+use Rattle.keep_edit_spec.specs.DottedLines.{AddsLineTo}
 use Rattle.keep_edit_spec.specs.Edits.{append_element, append_table, edited_document, insert, remove, rename, set}
 use Rattle.keep_edit_spec.specs.Laws.{IsEditable}
 use Rattle.keep_edit_spec.specs.Lines.{newline_of}
@@ -78,24 +79,24 @@ RenameAfterRemove =
 abbrev pub SetAfterInsert : Type 0
 SetAfterInsert =
     (profile : Profile) (limit : ℕ) (s : Document) (path : List Part) (value : Value) (c : TextChange)
-    (other : List Part) (more : Value) (d : TextChange)
-    → IsEditable profile limit s → AddsLine profile limit s path value c → SetsValue profile limit s other more d
+    (to : Bool) (other : List Part) (more : Value) (d : TextChange)
+    → IsEditable profile limit s → AddsLineTo to profile limit s path value c → SetsValue profile limit s other more d
     → AreApart (first_new s path) other → IsBeside c d
     → SetsValue profile limit (edited_document s (insert path value)) other more (moved c d)
 
 abbrev pub RemoveAfterInsert : Type 0
 RemoveAfterInsert =
     (profile : Profile) (limit : ℕ) (s : Document) (path : List Part) (value : Value) (c : TextChange)
-    (other : List Part) (d : TextChange)
-    → IsEditable profile limit s → AddsLine profile limit s path value c → RemovesLine profile limit s other d
+    (to : Bool) (other : List Part) (d : TextChange)
+    → IsEditable profile limit s → AddsLineTo to profile limit s path value c → RemovesLine profile limit s other d
     → AreApart (first_new s path) other → IsBeside c d
     → RemovesLine profile limit (edited_document s (insert path value)) other (moved c d)
 
 abbrev pub RenameAfterInsert : Type 0
 RenameAfterInsert =
     (profile : Profile) (limit : ℕ) (s : Document) (path : List Part) (value : Value) (c : TextChange)
-    (other : List Part) (text : List ℕ) (d : TextChange)
-    → IsEditable profile limit s → AddsLine profile limit s path value c → RenamesKey profile limit s other text d
+    (to : Bool) (other : List Part) (text : List ℕ) (d : TextChange)
+    → IsEditable profile limit s → AddsLineTo to profile limit s path value c → RenamesKey profile limit s other text d
     → AreApart (first_new s path) other → AreApart (first_new s path) (beside other text) → IsBeside c d
     → RenamesKey profile limit (edited_document s (insert path value)) other text (moved c d)
 
@@ -209,16 +210,16 @@ ElementAfterRemove =
 abbrev pub TableAfterInsert : Type 0
 TableAfterInsert =
     (profile : Profile) (limit : ℕ) (s : Document) (path : List Part) (value : Value) (c : TextChange)
-    (more : List (List ℕ)) (d : TextChange)
-    → IsEditable profile limit s → AddsLine profile limit s path value c → AppendsTable profile limit s more d
+    (to : Bool) (more : List (List ℕ)) (d : TextChange)
+    → IsEditable profile limit s → AddsLineTo to profile limit s path value c → AppendsTable profile limit s more d
     → PassesBy more (first_new s path) → newline_of (edited_document s (insert path value)) ≡ newline_of s
     → AppendsTable profile limit (edited_document s (insert path value)) more (moved c d)
 
 abbrev pub ElementAfterInsert : Type 0
 ElementAfterInsert =
     (profile : Profile) (limit : ℕ) (s : Document) (path : List Part) (value : Value) (c : TextChange)
-    (more : List (List ℕ)) (d : TextChange)
-    → IsEditable profile limit s → AddsLine profile limit s path value c → AppendsElement profile limit s more d
+    (to : Bool) (more : List (List ℕ)) (d : TextChange)
+    → IsEditable profile limit s → AddsLineTo to profile limit s path value c → AppendsElement profile limit s more d
     → PassesBy more (first_new s path) → newline_of (edited_document s (insert path value)) ≡ newline_of s
     → AppendsElement profile limit (edited_document s (insert path value)) more (moved c d)
 

@@ -5,87 +5,57 @@
 -- comes right after the keys (`place_after`). It is not refused: the path has the value that was inserted, and what
 -- encloses it is as before (`encloses`), so another value there is as deep as if it was inserted (`allowed_after`).
 --
--- Theorems: `set_after`; `line_text_is`: the bytes of the line; `same_keys`: its keys; `has_then`, `no_value`: that the
--- path has a value then, and had none; `lawful`.
-use Rattle.std.proofs.Common.{◌≡◌, ℕ, zero, suc, ◌+◌, ◌≤◌, Bool, true, false, cond, not, ◌&&◌, ◌||◌, List, [], ◌∷◌}
+-- Theorems: `set_after`; `has_then`, `no_value`: the path of any insert of new keys has a value then, and had none.
+use Rattle.std.proofs.Common.{◌≡◌, ℕ, zero, suc, ◌+◌, ◌≤◌, Bool, true, false, not, ◌&&◌, List, [], ◌∷◌}
 use Rattle.std.proofs.Common.{◌++◌, length, map, take, drop, refl, sym, ap, ap₂, subst, ◌∙◌, append_assoc}
 use Rattle.std.proofs.Common.{length-append, arith, Option, Some, None}
-use Rattle.std.specs.List.{filter_map, flat_map, list_any}
+use Rattle.std.specs.List.{flat_map, list_any}
 use Rattle.std.proofs.lemmas.Bool.{ltb-false, not-false}
 use Rattle.std.proofs.lemmas.List.{append-nil}
 use Rattle.keep_types.specs.declared.leaf.Profile.{Profile}
 use Rattle.keep_types.specs.declared.leaf.Profile.TheVariants.{Wide}
-use Rattle.keep_syntax.specs.Tree.{Value, Name, Line, Ended, Document, bom_leaves, ended_leaves, keyval, name_leaves}
-use Rattle.keep_syntax.specs.Tree.{text_of, value_depth, value_leaves, value_text}
+use Rattle.keep_syntax.specs.Tree.{Value, Line, Ended, Document, bom_leaves, ended_leaves, keyval, text_of, value_depth}
+use Rattle.keep_syntax.specs.Tree.{value_text}
 use Rattle.keep_syntax.specs.Numbered as syntax
 use Rattle.keep_syntax.specs.Profiles.{is_allowed_in}
-use Rattle.keep_path.specs.Path.{Part, key, same_path, strip}
-use Rattle.keep_meaning.specs.Fact.{Fact}
-use Rattle.keep_meaning.specs.Marks.{Mention, MentionKind, Reading, fact_of, start}
+use Rattle.keep_path.specs.Path.{Part, key, strip}
+use Rattle.keep_meaning.specs.Marks.{Mention, Reading, start}
 use Rattle.keep_meaning.specs.Meaning.{after_line, line_of, mentions_in, mentions_of_value, reading_after_lines, step}
-use Rattle.keep_meaning.specs.Nodes.{fact_at, first_of, has, is_begun, is_define, is_dotted, is_node, is_root}
+use Rattle.keep_meaning.specs.Nodes.{is_node}
 use Rattle.keep_edit_spec.specs.declared.fault.EditFault.TheVariants as fault
-use Rattle.keep_edit_spec.specs.AddedLines.{AddsLine, first_new}
+use Rattle.keep_edit_spec.specs.AddedLines.{first_new}
 use Rattle.keep_edit_spec.specs.Changed.{Changed, framed_change, or_else, place_of, within}
 use Rattle.keep_edit_spec.specs.Edits.{changed_or_same, edited_document, insert, name_with, nested, place, set}
 use Rattle.keep_edit_spec.specs.Laws.{IsEditable, IsLawfulEdit}
-use Rattle.keep_edit_spec.specs.Lines.{Page, ended_text, in_content, in_document, in_line, in_lines, newline_of}
-use Rattle.keep_edit_spec.specs.Lines.{new_line, page_text, with_page}
-use Rattle.keep_edit_spec.specs.Look.{enclosing, holder, is_bracket_at, is_index, is_table, keys_in}
+use Rattle.keep_edit_spec.specs.Lines.{Page, ended_text, in_content, in_document, in_line, in_lines, page_text}
+use Rattle.keep_edit_spec.specs.Lines.{with_page}
+use Rattle.keep_edit_spec.specs.Look.{enclosing, holder, is_bracket_at, is_index, is_table, item_number}
 use Rattle.keep_edit_spec.specs.Refusals.{first_that_holds, has_value, is_too_deep, refusal, refusal_by}
+use Rattle.keep_edit_spec.specs.Runs.{MakesChange}
 use Rattle.keep_edit_spec.specs.SetValues.{SetsValue}
 use Rattle.keep_edit_spec.specs.TextChanges.{TextChange, change_at, place_of_change}
-use Rattle.keep_edit_spec.specs.Trees.{a_table, fact_from, from, given, has_fact, is_through_alone, source}
+use Rattle.keep_edit_spec.specs.Trees.{fact_from, given, source}
 use Rattle.keep_edit_spec.specs.Values.{in_value, replacement}
-use Rattle.keep_edit_spec.proofs.EditLaws.{insert_lawful}
 use Rattle.keep_edit_spec.proofs.Common.DoneAtValue.{EachOf, value_fact-body}
 use Rattle.keep_edit_spec.proofs.Common.EntryDepths.{bracket_of, count_same}
 use Rattle.keep_edit_spec.proofs.Common.FoundValue.{IsFoundIn, Valid_document, found_nested}
-use Rattle.keep_edit_spec.proofs.Common.Runs.{AllOf, IsDisjoint, kinds_at-disjoint, strip-append}
+use Rattle.keep_edit_spec.proofs.Common.Runs.{AllOf, IsDisjoint, strip-append}
 use Rattle.keep_edit_spec.proofs.Common.Texts.{text_of-append}
 use Rattle.keep_edit_spec.proofs.Common.ValueThere.{alone_of_has}
 use Rattle.keep_edit_spec.proofs.Insert.KeysAtEnd.{path_goes_on}
-use Rattle.keep_edit_spec.proofs.Insert.NewPath.{drop_prefix_parts, keys_of_map}
-use Rattle.keep_edit_spec.proofs.Lists.AddedLine as added
+use Rattle.keep_edit_spec.proofs.Lists.AddedKeys.{keys_text}
+use Rattle.keep_edit_spec.proofs.Lists.AddedKeyval as line
+use Rattle.keep_edit_spec.proofs.Lists.AddedKeyval.{AddsKeyval}
+use Rattle.keep_edit_spec.proofs.Lists.BracketsStay.{brackets_stay}
+use Rattle.keep_edit_spec.proofs.Lists.MadeChanges.{IsAdded, added, change_lawful}
+use Rattle.keep_edit_spec.proofs.Lists.NewHolder.{nothing_under, path_new}
+use Rattle.keep_edit_spec.proofs.Lists.NewPaths.{InsertsKeys, first_path, unsaid}
 use Rattle.keep_edit_spec.proofs.Lists.OneValue.{at_end}
-use Rattle.keep_edit_spec.proofs.Lists.OtherPaths.{no_item, none_there}
-use Rattle.keep_edit_spec.proofs.Lists.Places.{at_is, edited_is, line_is}
+use Rattle.keep_edit_spec.proofs.Lists.Places.{item_none}
 use Rattle.keep_edit_spec.proofs.Lists.SetAllowed.{node_alone, unrefused, value_of}
 use Rattle.keep_edit_spec.proofs.Lists.SomeBytes.{value_has_bytes}
 use Rattle.keep_edit_spec.proofs.Rename.RenamedParts.{strip_self}
 use Rattle.keep_edit_spec.proofs.Rename.RenamedPath.{short_disjoint}
-
--- ---- the line's bytes
-
--- keys as they are written in a new line, with the sign after them
-abbrev pub keys_text : List (List ℕ) → List ℕ
-keys_text keys = text_of (name_leaves (name_with keys))
-
--- Two paths that are the same end in the same keys, if these begin at one step.
-pub same_keys : (path a b : List Part) (ks ls : List (List ℕ)) → path ≡ a ++ map key ks → path ≡ b ++ map key ls
-    → length a ≡ length b → ks ≡ ls
-same_keys path a b ks ls one other long =
-    sym (keys_after a ks one) ∙ ap (λ (n : ℕ). keys_in (drop n path)) long ∙ keys_after b ls other
-  where
-    keys_after : (p : List Part) (js : List (List ℕ)) → path ≡ p ++ map key js → keys_in (drop (length p) path) ≡ js
-    keys_after p js is =
-        ap (λ (l : List Part). keys_in (drop (length p) l)) is ∙ ap keys_in (drop_prefix_parts p (map key js))
-        ∙ keys_of_map js
-
-pub line_text_is : (profile : Profile) (limit : ℕ) (s : Document) (path : List Part) (value : Value) (c : TextChange)
-    (h : AddsLine profile limit s path value c)
-    → c.new ≡ keys_text (h.text ∷ h.more) ++ (value_text value ++ (newline_of s).text)
-line_text_is profile limit s path value c h =
-    let name : Name = name_with (h.text ∷ h.more) in
-    let newline : List ℕ = (newline_of s).text in
-    line_is profile limit s path value c h
-    ∙ text_of-append ((name_leaves name ++ value_leaves value) ++ []) (newline_of s ∷ [])
-    ∙ ap (λ (t : List ℕ). t ++ (newline ++ []))
-    (text_of-append (name_leaves name ++ value_leaves value) []
-    ∙ append-nil (text_of (name_leaves name ++ value_leaves value))
-    ∙ text_of-append (name_leaves name) (value_leaves value))
-    ∙ ap (λ (t : List ℕ). (keys_text (h.text ∷ h.more) ++ value_text value) ++ t) (append-nil newline)
-    ∙ append_assoc (keys_text (h.text ∷ h.more)) (value_text value) newline
 
 -- ---- in lines where nothing was found
 
@@ -181,25 +151,38 @@ last_two false false false true e h = absurd cc
 last_two false false false false true h = absurd cc
 last_two false false false false false h = (refl, refl)
 
--- ---- a table that comes where headers went through
+-- ---- the value of an insert of new keys
 
-no_fact : (same root begins dotted fact : Bool)
-    → (same && (not root && not (begins || (dotted || fact)))) ≡ true → fact ≡ false
-no_fact same root begins dotted false e = refl
-no_fact false root begins dotted true e = absurd cc
-no_fact true true begins dotted true e = absurd cc
-no_fact true false true dotted true e = absurd cc
-no_fact true false false true true e = absurd cc
-no_fact true false false false true e = absurd cc
+module _ (profile : Profile) (limit : ℕ) (s : Document) (path : List Part) (value : Value)
+    (h : InsertsKeys profile limit s path value) where
+  no_item : item_number path (mentions_in s) ≡ None
+  no_item = item_none path (holder path (mentions_in s)) h.text h.more h.new (mentions_in s)
 
-bracket_stays : (ms new : List Mention) (q : List Part) (b : Bool) → (b ≡ true → has_fact q ms ≡ false)
-    → bracket_of (fact_from ms new (cond b a_table (from q))) ≡ is_bracket_at ms q
-bracket_stays ms new q false none = refl
-bracket_stays ms new q true none = sym (by (fact_at q ms) (none refl))
-  where
-    by : (o : Option Fact) → elim o [ None ↦ false | Some f ↦ true ] ≡ false → bracket_of o ≡ false
-    by None e = refl
-    by (Some f) e = absurd cc
+  -- the document says nothing under the path of the first new key
+  none_there : AllOf (IsDisjoint (first_new s path)) (mentions_in s)
+  none_there =
+      subst (λ (p : List Part). AllOf (IsDisjoint p) (mentions_in s)) (sym (first_path profile limit s path value h))
+      (nothing_under s path (holder path (mentions_in s)) h.text h.more h.new (unsaid profile limit s path value h))
+
+  -- the path is none of a node
+  pub no_value : has_value path (mentions_in s) ≡ false
+  no_value = by (has_value path (mentions_in s)) refl
+    where
+      by : (b : Bool) → has_value path (mentions_in s) ≡ b → b ≡ false
+      by false e = refl
+      by true e =
+          let new : is_node path (mentions_in s) ≡ false =
+          path_new s path (holder path (mentions_in s)) h.text h.more h.new (unsaid profile limit s path value h) in
+          let node : is_node path (mentions_in s) ≡ true =
+          node_alone path (mentions_in s) (alone_of_has path (mentions_in s) e) in
+          absurd cc
+
+  pub has_then : IsLawfulEdit profile limit s (insert path value)
+      → has_value path (mentions_in (edited_document s (insert path value))) ≡ true
+  has_then lawful =
+      let ms : List Mention = mentions_in s in
+      let own : source ms (insert path value) path ≡ given [] = rw (no_item, strip_self path, source) refl in
+      ap value_of (lawful.tree path ∙ ap (fact_from ms (mentions_of_value value)) own) ∙ value_fact-body value.body
 
 -- ---- after an insert that adds a line
 
@@ -208,7 +191,8 @@ all_there P [] r x h = h.0
 all_there P (y ∷ l) r x h = all_there P l r x h.1
 
 module _ (profile : Profile) (limit : ℕ) (s : Document) (path : List Part) (value : Value) (c : TextChange)
-    (fine : IsEditable profile limit s) (h : AddsLine profile limit s path value c) where
+    (h : AddsKeyval profile limit s path value c) (fine : IsEditable profile limit s)
+    (makes : MakesChange profile limit s (insert path value) c) where
   abbrev ms : List Mention
   ms = mentions_in s
 
@@ -218,52 +202,40 @@ module _ (profile : Profile) (limit : ℕ) (s : Document) (path : List Part) (va
   abbrev first : List Part
   first = first_new s path
 
-  goes_on : strip first path ≡ Some (map key h.more)
-  goes_on = ap (strip first) (path_goes_on s path h.text h.more h.new) ∙ strip-append first (map key h.more)
+  goes_on : strip first path ≡ Some (map key h.inserts.more)
+  goes_on =
+      ap (strip first) (path_goes_on s path h.inserts.text h.inserts.more h.inserts.new)
+      ∙ strip-append first (map key h.inserts.more)
 
   -- ---- the facts
 
-  pub no_value : has_value path ms ≡ false
-  no_value =
-      ap (λ (kinds : List MentionKind). value_of (first_of (filter_map fact_of kinds)))
-      (kinds_at-disjoint first path (map key h.more) ms (none_there profile limit s path value c h) goes_on)
-
-  pub lawful : IsLawfulEdit profile limit s (insert path value)
-  lawful = insert_lawful profile limit s path value fine h.given h.utf8 h.allowed
-
-  pub has_then : has_value path (mentions_in now) ≡ true
-  has_then =
-      let own : source ms (insert path value) path ≡ given [] =
-      rw (no_item profile limit s path value c ms h, strip_self path, source) refl in
-      ap value_of (lawful.tree path ∙ ap (fact_from ms (mentions_of_value value)) own) ∙ value_fact-body value.body
+  lawful : IsLawfulEdit profile limit s (insert path value)
+  lawful = change_lawful profile limit s (insert path value) c fine makes
 
   encloses : (q : List Part) (k : Part) (qs : List Part) → path ≡ q ++ k ∷ qs
       → is_bracket_at (mentions_in now) q ≡ is_bracket_at ms q
   encloses q k qs is =
       let clear : strip path q ≡ None =
       short_disjoint path q (omega (arith, ap length is, length-append q (k ∷ qs))) in
-      let same : Bool = same_path q (holder path ms) in
-      let own : source ms (insert path value) q ≡ cond (same && is_through_alone q ms) a_table (from q) =
-      rw (no_item profile limit s path value c ms h, clear, source) refl in
-      ap bracket_of (lawful.tree q ∙ ap (fact_from ms (mentions_of_value value)) own)
-      ∙ bracket_stays ms (mentions_of_value value) q (same && is_through_alone q ms)
-      (no_fact same (is_root q) (has is_define q ms || has is_begun q ms) (has is_dotted q ms) (has_fact q ms))
+      ap bracket_of (lawful.tree q)
+      ∙ brackets_stay ms path value q (no_item profile limit s path value h.inserts) clear
 
   allowed_after : (more : Value) → refusal profile limit s (insert path more) ≡ None
       → refusal profile limit now (set path more) ≡ None
   allowed_after more allowed =
+      let valued : has_value path (mentions_in now) ≡ true = has_then profile limit s path value h.inserts lawful in
       let a : List Part = holder path ms in
       let (shallow, suits) =
       last_two (not (is_node path ms) && list_any is_index (drop (length a) path)) (is_node path ms)
       (not (is_table a ms)) (is_too_deep limit path more ms) (not (is_allowed_in profile more))
-      (rw (no_item profile limit s path value c ms h, refusal_by) at allowed) in
+      (rw (no_item profile limit s path value h.inserts, refusal_by) at allowed) in
       let few : enclosing path ms + value_depth more ≤ limit =
       ltb-false limit (enclosing path ms + value_depth more) shallow in
       let same : enclosing path (mentions_in now) ≡ enclosing path ms =
       count_same (is_bracket_at (mentions_in now)) (is_bracket_at ms) path encloses in
       unrefused profile limit path more (mentions_in now) (record {
-        node = node_alone path (mentions_in now) (alone_of_has path (mentions_in now) has_then);
-        valued = has_then;
+        node = node_alone path (mentions_in now) (alone_of_has path (mentions_in now) valued);
+        valued = valued;
         shallow = omega (arith, few, same);
         suits = not-false (is_allowed_in profile more) suits;
       })
@@ -282,8 +254,8 @@ module _ (profile : Profile) (limit : ℕ) (s : Document) (path : List Part) (va
       k.place ∙ ap (λ (q : List Part). k.mention.path ++ q) e ∙ append-nil k.mention.path in
       let apart : strip first k.mention.path ≡ None =
       all_there (IsDisjoint first) k.earlier k.later k.mention
-      (subst (AllOf (IsDisjoint first)) k.mentioned (none_there profile limit s path value c h)) in
-      let both : Some (map key h.more) ≡ None = sym goes_on ∙ ap (strip first) own ∙ apart in
+      (subst (AllOf (IsDisjoint first)) k.mentioned (none_there profile limit s path value h.inserts)) in
+      let both : Some (map key h.inserts.more) ≡ None = sym goes_on ∙ ap (strip first) own ∙ apart in
       absurd cc
 
   none_by : (more : Value) (o : Option (Changed Document)) → EachOf (Found more) o → o ≡ None
@@ -293,31 +265,24 @@ module _ (profile : Profile) (limit : ℕ) (s : Document) (path : List Part) (va
   none_found : (more : Value) → nested (replacement more) path s ≡ None
   none_found more = none_by more (nested (replacement more) path s) (found_nested (replacement more) path s)
 
-  abbrev name : Name
-  name = name_with (h.text ∷ h.more)
+  abbrev keys : List (List ℕ)
+  keys = line.keys profile limit s path value c h
 
-  abbrev keys : List ℕ
-  keys = keys_text (h.text ∷ h.more)
+  abbrev written : List ℕ
+  written = keys_text keys
 
   abbrev x : Ended
-  x = new_line (newline_of s) (keyval name value)
+  x = line.x profile limit s path value c h
 
   abbrev r : Reading
-  r = reading_after_lines start (map line_of (take h.number s.ended))
-
-  own_path : r.body ++ step 0 (Some name) ≡ path
-  own_path =
-      let its = added.its profile limit s path value c h in
-      let same : its.name ≡ name =
-      (let both : keyval name value ≡ keyval its.name its.held = its.was in cc) in
-      ap (λ (n : Name). r.body ++ step 0 (Some n)) (sym same) ∙ its.place
+  r = line.r profile limit s path value c h
 
   -- what the set makes of the line
   abbrev made : Value → Changed Line
   made more =
       record {
-        to = record { before = []; content = keyval name more; after = []; comment = None };
-        before = keys ++ [];
+        to = record { before = []; content = keyval (name_with keys) more; after = []; comment = None };
+        before = written ++ [];
         old = value_text value;
         new = value_text more;
         after = [];
@@ -325,62 +290,64 @@ module _ (profile : Profile) (limit : ℕ) (s : Document) (path : List Part) (va
 
   line_made : (more : Value) → in_line (replacement more) path r x.line ≡ Some (made more)
   line_made more =
-      let own : strip (r.body ++ step 0 (Some name)) path ≡ Some [] =
-      ap (λ (p : List Part). strip p path) own_path ∙ strip_self path in
-      let content : in_content (replacement more) r.body path (keyval name value)
-      ≡ within (keyval name) keys [] (in_value (replacement more) [] value) =
+      let own : strip (r.body ++ step 0 (Some (name_with keys))) path ≡ Some [] =
+      ap (λ (p : List Part). strip p path) (line.own_path profile limit s path value c h) ∙ strip_self path in
+      let content : in_content (replacement more) r.body path (keyval (name_with keys) value)
+      ≡ within (keyval (name_with keys)) written [] (in_value (replacement more) [] value) =
       rw (own, in_content) refl in
       ap (within (λ c. record x.line { content = c }) [] [])
-      (content ∙ ap (within (keyval name) keys []) (at_end (replacement more) value))
+      (content ∙ ap (within (keyval (name_with keys)) written []) (at_end (replacement more) value))
 
   there : (more : Value)
-      → IsThere (in_lines (in_line (replacement more) path) start (take h.number s.ended ++ x ∷ drop h.number s.ended)
-      s.last) (ended_text (take h.number s.ended) ++ (keys ++ [])) (value_text value) (value_text more)
+      → IsThere (in_lines (in_line (replacement more) path) start (take h.n s.ended ++ x ∷ drop h.n s.ended)
+      s.last) (ended_text (take h.n s.ended) ++ (written ++ [])) (value_text value) (value_text more)
   there more =
-      lines_there (in_line (replacement more) path) x (made more) s.last start h.number s.ended h.closed
+      lines_there (in_line (replacement more) path) x (made more) s.last start h.n s.ended h.few
       (within_none (with_page s) (text_of (bom_leaves s.bom)) []
       (in_lines (in_line (replacement more) path) start s.ended s.last) (none_found more))
       (line_made more)
 
   place_after : (more : Value) → place now (set path more) ≡ place_of_change
-      (change_at (c.at + length keys) (length (value_text value)) (value_text more))
+      (change_at (c.at + length written) (length (value_text value)) (value_text more))
   place_after more =
       let bom : List ℕ = text_of (bom_leaves s.bom) in
-      let earlier : List ℕ = ended_text (take h.number s.ended) in
+      let earlier : List ℕ = ended_text (take h.n s.ended) in
       let found = there more in
-      let at : length (bom ++ found.next.before) ≡ c.at + length keys =
+      let at : length (bom ++ found.next.before) ≡ c.at + length written =
       omega (
         arith,
         length-append bom found.next.before,
         ap length found.left,
-        length-append earlier (keys ++ []),
-        length-append keys [],
-        at_is profile limit s path value c h,
+        length-append earlier (written ++ []),
+        length-append written [],
+        h.puts.at,
       ) in
-      ap (λ (d : Document). place d (set path more)) (edited_is profile limit s path value c h)
+      ap (λ (d : Document). place d (set path more)) h.puts.is
       ∙ ap (λ (o : Option (Changed Page)).
       place_of (changed_or_same (record {
         bom = s.bom;
-        ended = take h.number s.ended ++ x ∷ drop h.number s.ended;
+        ended = take h.n s.ended ++ x ∷ drop h.n s.ended;
         last = s.last;
       }) (in_document (record {
         bom = s.bom;
-        ended = take h.number s.ended ++ x ∷ drop h.number s.ended;
+        ended = take h.n s.ended ++ x ∷ drop h.n s.ended;
         last = s.last;
       }) o))) found.is
       ∙ ap₂ (λ (z : ℕ) (t : List ℕ). record { start = z; end = z + length found.next.old; new = t }) at found.comes
       ∙ ap (λ (t : List ℕ). record {
-        start = c.at + length keys;
-        end = c.at + length keys + length t;
+        start = c.at + length written;
+        end = c.at + length written + length t;
         new = value_text more;
       }) found.gone
 
-  pub set_after : (more : Value) (d : TextChange) → AddsLine profile limit s path more d
+  pub set_after : (more : Value) (d : TextChange) → MakesChange profile limit s (insert path more) d
       → SetsValue profile limit now path more
-      (change_at (c.at + length keys) (length (value_text value)) (value_text more))
-  set_after more d k = record {
-    given = k.given;
-    allowed = allowed_after more k.allowed;
-    some = value_has_bytes Wide value h.given.valid;
-    is = place_after more;
-  }
+      (change_at (c.at + length written) (length (value_text value)) (value_text more))
+  set_after more d makes_more =
+      let new : IsAdded profile limit s path more d = added profile limit s path more d makes_more in
+      record {
+        given = new.given;
+        allowed = allowed_after more new.allowed;
+        some = value_has_bytes Wide value (added profile limit s path value c makes).given.valid;
+        is = place_after more;
+      }

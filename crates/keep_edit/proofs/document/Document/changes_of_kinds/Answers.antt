@@ -32,7 +32,8 @@ loop-number-init c =
     let first = c.args.first in
     let now = c.args.self.now in
     let (no_outlines, none) = c.new-so_far.ensures in (
-      subst₂ (λ os cs. AreMadeTo edits first first now os cs) (sym no_outlines) (sym none) (no_changes edits first now),
+      subst₂ (λ os cs. AreMadeTo edits first first now os cs c.new-lines.result.tables) (sym no_outlines) (sym none)
+          (no_changes edits first now c.new-lines.result.tables),
       subst (All (IsSeen c.new-paths.result)) (sym no_outlines) (All-nil (IsSeen c.new-paths.result)),
       λ yes. absurd cc,
       λ yes. subst (All (λ d. IsPlain d.new)) (sym none) (All-nil (λ (d : TextChange). IsPlain d.new)),
@@ -41,74 +42,84 @@ loop-number-init c =
 
 pub returns-clause-made : goal.returns-clause-made
 returns-clause-made c =
-    all_made c.args.edits.now c.args.first c.args.self.now _ _ c.loop-number.invariant.0 c.up_to-2.ensures.0
+    all_made c.args.edits.now c.args.first c.args.self.now _ _ _ c.loop-number.invariant.0 c.up_to-2.ensures.0
     (c.up_to-2.ensures.1 ∙ omega (arith, c.loop-number-test.false, c.loop-number.auto.number-end))
 
 pub returns-then-has_long_path_among_all-clause-made :
     goal.returns-then-has_long_path_among_all-clause-made
 returns-then-has_long_path_among_all-clause-made c =
-    all_made c.args.edits.now c.args.first c.args.self.now _ _ c.loop-number.invariant.0
+    all_made c.args.edits.now c.args.first c.args.self.now _ _ _ c.loop-number.invariant.0
     c.up_to-then-has_long_path_among_all.ensures.0 c.up_to-then-has_long_path_among_all.ensures.1
 
 pub returns-in_default-change_in_run-clause-made :
     goal.returns-in_default-change_in_run-clause-made
 returns-in_default-change_in_run-clause-made c =
-    all_made c.args.edits.now c.args.first c.args.self.now _ _ c.loop-number.invariant.0
+    all_made c.args.edits.now c.args.first c.args.self.now _ _ _ c.loop-number.invariant.0
     c.up_to-in_default-change_in_run.ensures.0 c.up_to-in_default-change_in_run.ensures.1
 
 pub returns-then-not-is_text_plain-clause-made : goal.returns-then-not-is_text_plain-clause-made
 returns-then-not-is_text_plain-clause-made c =
-    all_made c.args.edits.now c.args.first c.args.self.now _ _ c.loop-number.invariant.0
+    all_made c.args.edits.now c.args.first c.args.self.now _ _ _ c.loop-number.invariant.0
     c.up_to-then-not-is_text_plain.ensures.0 c.up_to-then-not-is_text_plain.ensures.1
+
+pub returns-then-not-keep_line-clause-made : goal.returns-then-not-keep_line-clause-made
+returns-then-not-keep_line-clause-made c =
+    all_made c.args.edits.now c.args.first c.args.self.now _ _ _ c.loop-number.invariant.0
+    c.up_to-then-not-keep_line.ensures.0 c.up_to-then-not-keep_line.ensures.1
 
 pub returns-then-not-add-clause-made : goal.returns-then-not-add-clause-made
 returns-then-not-add-clause-made c =
-    all_made c.args.edits.now c.args.first c.args.self.now _ _ c.loop-number.invariant.0
+    all_made c.args.edits.now c.args.first c.args.self.now _ _ _ c.loop-number.invariant.0
     (c.up_to-then-not-add.ensures.0 ∙ c.if-not-add.ensures.refused refl) c.up_to-then-not-add.ensures.1
 
 pub returns-clause-within : goal.returns-clause-within
 returns-clause-within c =
-    all_within c.args.edits.now c.args.first c.args.self.now _ _ c.loop-number.invariant.0
+    all_within c.args.edits.now c.args.first c.args.self.now _ _ _ c.loop-number.invariant.0
     c.up_to-2.ensures.0
 
 pub returns-then-has_long_path_among_all-clause-within : goal.returns-then-has_long_path_among_all-clause-within
 returns-then-has_long_path_among_all-clause-within c =
-    all_within c.args.edits.now c.args.first c.args.self.now _ _ c.loop-number.invariant.0
+    all_within c.args.edits.now c.args.first c.args.self.now _ _ _ c.loop-number.invariant.0
     c.up_to-then-has_long_path_among_all.ensures.0
 
 pub returns-in_default-change_in_run-clause-within : goal.returns-in_default-change_in_run-clause-within
 returns-in_default-change_in_run-clause-within c =
-    all_within c.args.edits.now c.args.first c.args.self.now _ _ c.loop-number.invariant.0
+    all_within c.args.edits.now c.args.first c.args.self.now _ _ _ c.loop-number.invariant.0
     c.up_to-in_default-change_in_run.ensures.0
 
 pub returns-then-not-is_text_plain-clause-within : goal.returns-then-not-is_text_plain-clause-within
 returns-then-not-is_text_plain-clause-within c =
-    all_within c.args.edits.now c.args.first c.args.self.now _ _ c.loop-number.invariant.0
+    all_within c.args.edits.now c.args.first c.args.self.now _ _ _ c.loop-number.invariant.0
     c.up_to-then-not-is_text_plain.ensures.0
+
+pub returns-then-not-keep_line-clause-within : goal.returns-then-not-keep_line-clause-within
+returns-then-not-keep_line-clause-within c =
+    all_within c.args.edits.now c.args.first c.args.self.now _ _ _ c.loop-number.invariant.0
+    c.up_to-then-not-keep_line.ensures.0
 
 pub returns-then-not-add-clause-within : goal.returns-then-not-add-clause-within
 returns-then-not-add-clause-within c =
-    all_within c.args.edits.now c.args.first c.args.self.now _ _ c.loop-number.invariant.0
+    all_within c.args.edits.now c.args.first c.args.self.now _ _ _ c.loop-number.invariant.0
     (c.up_to-then-not-add.ensures.0 ∙ c.if-not-add.ensures.refused refl)
 
 pub returns-then-not-allow_again-clause-made : goal.returns-then-not-allow_again-clause-made
 returns-then-not-allow_again-clause-made c =
-    all_made c.args.edits.now c.args.first c.args.self.now _ _ c.loop-number.invariant.0 c.up_to.ensures.0
+    all_made c.args.edits.now c.args.first c.args.self.now _ _ _ c.loop-number.invariant.0 c.up_to.ensures.0
     c.up_to.ensures.1
 
 pub returns-then-not-allow_again-clause-within : goal.returns-then-not-allow_again-clause-within
 returns-then-not-allow_again-clause-within c =
-    all_within c.args.edits.now c.args.first c.args.self.now _ _ c.loop-number.invariant.0 c.up_to.ensures.0
+    all_within c.args.edits.now c.args.first c.args.self.now _ _ _ c.loop-number.invariant.0 c.up_to.ensures.0
 
 pub returns-then-not-put_again-clause-made : goal.returns-then-not-put_again-clause-made
 returns-then-not-put_again-clause-made c =
-    all_made c.args.edits.now c.args.first c.args.self.now _ _ c.loop-number.invariant.0
+    all_made c.args.edits.now c.args.first c.args.self.now _ _ _ c.loop-number.invariant.0
     (c.up_to-then-not-put_again.ensures.0 ∙ c.if-not-put_again.ensures.refused refl)
     c.up_to-then-not-put_again.ensures.1
 
 pub returns-then-not-put_again-clause-within : goal.returns-then-not-put_again-clause-within
 returns-then-not-put_again-clause-within c =
-    all_within c.args.edits.now c.args.first c.args.self.now _ _ c.loop-number.invariant.0
+    all_within c.args.edits.now c.args.first c.args.self.now _ _ _ c.loop-number.invariant.0
     (c.up_to-then-not-put_again.ensures.0 ∙ c.if-not-put_again.ensures.refused refl)
 
 pub loop-number-preserved-in-Some : goal.loop-number-preserved-in-Some
@@ -129,9 +140,10 @@ loop-number-preserved-in-Some c =
     let one : suc number ≡ number + 1 = omega arith in
     let put = c.put_again.ensures.changes c.if-not-put_again.false in
     let pushed = c.put_again.ensures.outlines c.if-not-put_again.false in (
-      subst₂ (λ (n : ℕ) (os : List Outline). AreMadeTo edits first n now os new) one (sym pushed)
-          (made_once_more edits first number now outlines changes new x x a seen_then so_far low
-          (sym c.index-edits-number.is) c.in-Some.ensures.again
+      subst₂ (λ (n : ℕ) (os : List Outline). AreMadeTo edits first n now os new c.loop-number.lines.tables) one
+          (sym pushed)
+          (made_once_more edits first number now outlines changes new c.loop-number.lines.tables x x a seen_then so_far
+          low (sym c.index-edits-number.is) c.in-Some.ensures.again
           (c.allow_again.ensures.allowed c.if-not-allow_again.false) seen put),
       subst (All seen_now) (sym pushed)
           (All-append seen_now outlines (outlines_of a)
@@ -154,7 +166,10 @@ loop-number-preserved c =
     let o = c.of-outline.result in
     let outlines = c.loop-number.so_far.outlines.items in
     let changes = c.loop-number.so_far.changes in
-    let change = c.in-Some-change_in_run.change in
+    let made = c.in-Some-change_in_run.made in
+    let change = made.change in
+    let tables = c.loop-number.lines.tables in
+    let next = c.keep_line.new.self.tables in
     let (so_far, seen, was_text, were_plain, plans) = c.loop-number.invariant in
     let low : number < length edits = omega (arith, c.loop-number-test.true, c.min-end.ensures) in
     let one : suc number ≡ number + 1 = omega arith in
@@ -202,12 +217,14 @@ loop-number-preserved c =
     let (beside, with_it) = c.add-in-loop-number.ensures.changes c.if-not-add.false in
     let pushed = c.add-in-loop-number.ensures.outlines c.if-not-add.false in (
       subst (λ (n : ℕ). AreMadeTo edits first n now c.add-in-loop-number.new.self.outlines.items
-          c.add-in-loop-number.new.self.changes) one
-          (subst₂ (λ (os : List Outline) (cs : List TextChange). AreMadeTo edits first (suc number) now os cs)
+          c.add-in-loop-number.new.self.changes next) one
+          (subst₂ (λ (os : List Outline) (cs : List TextChange). AreMadeTo edits first (suc number) now os cs next)
           (sym pushed) (sym with_it)
-          (more_changes edits first number now outlines changes x x o change so_far low (sym c.index-edits-number.is)
-          (subst (λ a. MakesInRunHere now x a change) (sym c.of-outline.ensures) c.in-Some-change_in_run.ensures.made)
-          alone beside placed)),
+          (more_changes edits first number now outlines changes tables next x x o change made.is_dotted so_far low
+          (sym c.index-edits-number.is)
+          (subst (λ a. MakesInRunHere now x a change made.is_dotted) (sym c.of-outline.ensures)
+          c.in-Some-change_in_run.ensures.made)
+          alone beside placed (c.keep_line.ensures c.if-not-keep_line.false))),
       subst (All (IsSeen c.add.new.self)) (sym pushed)
           (more_seen (IsSeen c.loop-number.paths) (IsSeen c.add.new.self) outlines o
           c.add.ensures.others here seen),
