@@ -46,7 +46,7 @@ class Run:
         self.text = document_of(self.random, lambda it: not self.ran([b"check"], it).returncode)
         self.entries = [tuple(it.rsplit(b"\t", 1)) for it in self.ran([b"list"], self.text).stdout.split(b"\n")[:-1]]
         kinds = (self.inserts, self.items, self.removes, self.sections, self.sets, self.renames, self.tables, self.elements)
-        kinds += (self.gone_elements, self.gone_below, self.dotted)
+        kinds += (self.gone_elements, self.gone_below, self.dotted, self.brought)
         kinds += (self.parts,) + 3 * (self.all_kinds,)
         self.edits = self.random.choice(kinds)()
 
@@ -128,6 +128,42 @@ class Run:
                 table = random.choice(given).rpartition(b".")[0]
             given.append(self.new_path(table, number, several))
             edits.append(edit_of(b"insert", given[-1], value_of(random)))
+        return edits
+
+    def with_implicit(self):
+        """New tables at the end of the text into which headers go, and which none defines: their paths. A few are below others, or
+        in elements of an array of tables; now and then a header defines one after all."""
+        random, paths, more = self.random, [], b""
+        for number in range(self.many):
+            holder = random.choice((b"", b"", b"", b"imp", b"imps"))
+            name, below = b"i_%d" % number, random.choice((b"sub", b"sub", b"sub.deep"))
+            more += b"[[imps]]\n" * (holder == b"imps" and random.random() < 0.3)
+            table = b".".join(filter(None, (holder, name)))
+            more += random.choice(GAPS) + b"[%s.%s]\n%s = %s\n" % (table, below, random.choice(KEYS), value_of(random))
+            more += b"[%s]\n" % table * (random.random() < 0.01)
+            count = more.count(b"[[imps]]\n") or 1
+            paths.append(b"imps[%d].%s" % (count - 1, name) if holder == b"imps" else table)
+            paths += [paths[-1] + b".sub"] * (below == b"sub.deep" and random.random() < 0.5)
+        more = (b"" if b"[[imps]]" not in more or more.index(b"[[imps]]") < more.index(b"imps.") else b"[[imps]]\n") + more
+        text = self.text + (b"" if self.text.endswith(b"\n") or not self.text else b"\n") + more
+        text = text if random.random() < 0.9 else text.rstrip(b"\n")
+        if self.ran([b"check"], text).returncode:
+            return []
+        self.text = text
+        return paths
+
+    def brought(self):
+        """New keys of tables that no header defines, each of which brings the header, mostly one of each; in half of the lists some
+        are of several keys. Now and then a table comes again, or something else is between."""
+        random, paths, several = self.random, self.with_implicit(), self.random.choice((0, 0.3))
+        if not paths:
+            return self.inserts()
+        random.shuffle(paths)
+        edits = []
+        for number in range(self.many):
+            table = paths[number % len(paths)] if random.random() < 0.995 else random.choice(paths)
+            table = table if random.random() < 0.995 else random.choice([b"", *(path for path, _ in self.entries)])
+            edits.append(edit_of(b"insert", self.new_path(table, number, several), value_of(random)))
         return edits
 
     def items(self):

@@ -23,6 +23,7 @@ mod RenameAgainSteps
 mod InsertAgainSteps
 mod AgainSteps
 mod ItemSteps
+mod BroughtSteps
 mod GoneLaws
 mod GoneFound
 mod SectionSteps

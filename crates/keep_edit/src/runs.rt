@@ -192,7 +192,7 @@ impl Document {
 
     /// The same beyond the edit with number `end`, which ends those of one kind: as far as they remove tables and
     /// elements with their headers, if that one removes an element; or as far as they are of several kinds. Where none
-    /// comes before it, as far as they remove them. None where they are not tried.
+    /// comes before it, as far as they do so, or are inserts that bring headers. None where they are not tried.
     fn others_by(&self, edits: &[Edit], first: usize, end: usize) -> Option<Run>
         requires { first < length edits.now }
         ensures few { IfSome result (λ run. (first ≤ run.end) × (run.end ≤ length edits.now)) }
@@ -201,7 +201,10 @@ impl Document {
     {
         let next = edits.get(end);
         if end == first || self.removes_element(next) {
-            let changes = self.sections_by(edits, first);
+            let changes = match &edits[first] {
+                Edit::Insert(_, _) => self.headers_by(edits, first),
+                _ => self.sections_by(edits, first),
+            };
             return Some(Run {
                 end: first + changes.len(),
                 changes,

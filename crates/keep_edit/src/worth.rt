@@ -58,11 +58,15 @@ impl Document {
             .is_some()
     }
 
-    /// Whether the steps of a path that are there lead to a table that dotted keys make.
+    /// Whether the steps of a path that are there lead to a table that no header defines: dotted keys make it, or
+    /// headers go through it.
     fn lacks_header(&self, path: &Path) -> bool {
         let steps = self.as_ref().reach(path).steps;
         match self.index.find_first(path, steps) {
-            Some(id) => matches!(self.index.node(id).origin, Origin::Dotted(_)),
+            Some(id) => matches!(
+                self.index.node(id).origin,
+                Origin::Dotted(_) | Origin::Through(_)
+            ),
             None => false,
         }
     }

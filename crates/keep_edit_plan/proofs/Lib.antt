@@ -38,6 +38,7 @@ pub mod LastLineLaws
 pub mod LineChangeLaws
 pub mod AddedLineLaws
 pub mod AddedDottedLaws
+pub mod BroughtHeaderLaws
 pub mod ItemTexts
 pub mod AddedItemLaws
 pub mod LineValueLaws

@@ -19,6 +19,7 @@ ghost use Rattle.keep_edit_plan.specs.Holding.{IsHolder};
 ghost use Rattle.keep_edit_plan.specs.Inserting.{IsInsertionOf, IsPutIn, last_keyval_among};
 
 mod added;
+mod brought_header;
 mod change;
 mod dotted_line;
 mod keys;

@@ -171,3 +171,10 @@ pub mod RenamedLeads
 pub mod LineOnWay
 pub mod SaidOnWay
 pub mod AddedKeys
+pub mod LinesAfterBody
+pub mod BroughtLines
+pub mod BroughtWay
+pub mod BroughtSaid
+pub mod BroughtAllowed
+pub mod StillBringsHeader
+pub mod BroughtRunLaws

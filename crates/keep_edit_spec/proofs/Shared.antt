@@ -101,6 +101,8 @@ pub use Rattle.keep_edit_spec.proofs.Lists.SetBytes.{set_bytes}
 pub use Rattle.keep_edit_spec.proofs.Lists.SetTwice.{sets_again}
 pub use Rattle.keep_edit_spec.proofs.Lists.HeaderTaken.{element_ends}
 pub use Rattle.keep_edit_spec.proofs.Lists.HeaderRunLaws.{first_with, header_run_goes_on, none_is_header_run}
+pub use Rattle.keep_edit_spec.proofs.Insert.KeysAtEnd.{first_is}
+pub use Rattle.keep_edit_spec.proofs.Lists.BroughtRunLaws.{brought_run_goes_on, none_is_brought_run}
 pub use Rattle.keep_edit_spec.proofs.Lists.PathsBefore.{apart_before, element_before, no_number_before, stays_below}
 pub use Rattle.keep_edit_spec.proofs.Lists.MoreItems.{keys_same, prefixes_alike}
 pub use Rattle.keep_edit_spec.proofs.Lists.NextItem.{not_before, not_empty}

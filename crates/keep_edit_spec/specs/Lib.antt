@@ -32,3 +32,4 @@ pub mod EntryChanges
 pub mod RenameLists
 pub mod InsertLists
 pub mod DottedLines
+pub mod BroughtHeaders

@@ -3,6 +3,7 @@ ghost use Rattle.keep_edit_spec.specs.AddedItems as items;
 ghost use Rattle.keep_edit_spec.specs.AddedLines as added;
 ghost use Rattle.keep_edit_spec.specs.AppendedHeaders as appended;
 ghost use Rattle.keep_edit_spec.specs.AppendedStatements as headers;
+ghost use Rattle.keep_edit_spec.specs.BroughtHeaders as brought;
 ghost use Rattle.keep_edit_spec.specs.EntryChanges as parts;
 ghost use Rattle.keep_edit_spec.specs.EntryEdits as entries;
 ghost use Rattle.keep_edit_spec.specs.InsertLists as inserts;
@@ -170,6 +171,14 @@ pub fn removes_take_headers()
     ensures still { taken.StillRemovesHeader }
     ensures none { taken.NoneIsHeaderRun }
     ensures run { taken.HeaderRunGoesOn }
+{}
+
+/// An insert that brings the header of its table, into which headers go, brings the same after another such insert, of
+/// another table and to another place, brought its own. So a run of them is known by the document before it.
+pub fn inserts_bring_headers()
+    ensures still { brought.StillBringsHeader }
+    ensures none { brought.NoneIsBroughtRun }
+    ensures run { brought.BroughtRunGoesOn }
 {}
 
 /// An insert or a `remove` of an item makes what the `set` of its array makes, and one of a key in an inline table what

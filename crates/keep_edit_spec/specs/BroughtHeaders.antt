@@ -1,0 +1,103 @@
+-- Inserts of a list that bring the headers of their tables: each is known by the first document alone, as long as the
+-- tables of all are others, and come to other places.
+use Rattle.std.specs.Prelude.{◌≡◌, ◌≢◌, ℕ, ◌≤◌, List, [], ◌∷◌, ◌++◌, length, map, All, Some, None, IsUtf8}
+use Rattle.std.specs.List.{AllByRecursion}
+use Rattle.keep_types.specs.declared.leaf.Profile.{Profile}
+use Rattle.keep_types.specs.declared.leaf.Profile.TheVariants.{Wide}
+use Rattle.keep_syntax.specs.Tree as tree
+use Rattle.keep_syntax.specs.Tree.{Value, Document}
+use Rattle.keep_path.specs.Path.{Part, key}
+use Rattle.keep_meaning.specs.Marks.{start}
+use Rattle.keep_meaning.specs.Meaning.{lines, mentions_in}
+use Rattle.keep_edit_spec.specs.Edits.{edited_document, end_of, insert, place}
+use Rattle.keep_edit_spec.specs.Insertion.{put_in}
+use Rattle.keep_edit_spec.specs.Laws.{IsEditable, IsGivenValue}
+use Rattle.keep_edit_spec.specs.Lines.{body_end, last_line, leads_dotted, leads_through}
+use Rattle.keep_edit_spec.specs.Look.{holder, keys_in}
+use Rattle.keep_edit_spec.specs.Refusals.{refusal}
+use Rattle.keep_edit_spec.specs.TextChanges.{Follow, TextChange, moved, moved_past, place_of_change, text_with}
+use Rattle.keep_edit_spec.specs.TextChanges.{with_change}
+
+-- An insert of one key or of several, which is not refused, into a table that is there because headers go through it:
+-- none defines it, and no dotted keys make it. It brings the table's header, after the body of the last header that
+-- goes through the table; the line before is ended by a newline.
+pub record BringsHeader (profile : Profile) (limit : ℕ) (s : Document) (path : List Part) (value : Value)
+    (c : TextChange) : Type 0 where
+  pub utf8 : AllByRecursion IsUtf8 (keys_in path)
+  pub given : IsGivenValue Wide value
+  pub allowed : refusal profile limit s (insert path value) ≡ None
+  pub text : List ℕ
+  pub more : List (List ℕ)
+  pub new : path ≡ holder path (mentions_in s) ++ map key (text ∷ more)
+  pub bare : end_of s (holder path (mentions_in s)) ≡ None
+  pub no_dots : last_line (leads_dotted (holder path (mentions_in s))) start (lines s) ≡ None
+  pub number : ℕ
+  pub last : last_line (leads_through (holder path (mentions_in s))) start (lines s) ≡ Some number
+  pub closed : body_end number (lines s) ≤ length s.ended
+  pub adds : c.size ≡ 0
+  pub is : place s (insert path value) ≡ put_in c.at c.new
+
+-- It brings the same header in another document, too, where its table is the same.
+abbrev pub StillBrings : Profile → ℕ → Document → Document → List Part → Value → TextChange → Type 0
+StillBrings profile limit s now path value c =
+    BringsHeader profile limit now path value c × (holder path (mentions_in now) ≡ holder path (mentions_in s))
+
+-- ---- two inserts
+
+-- a table whose header comes, and the byte at which it does
+pub record BroughtAt : Type 0 where
+  pub table : List Part
+  pub at : ℕ
+
+abbrev pub brought_at : Document → List Part → TextChange → BroughtAt
+brought_at s path c = record { table = holder path (mentions_in s); at = c.at }
+
+-- The tables are others, and come to other places.
+pub record AreOthers (l m : BroughtAt) : Type 0 where
+  pub table : l.table ≢ m.table
+  pub at : l.at ≢ m.at
+
+-- An insert that brings a header brings the same after another such insert brought its own, of another table to another
+-- place.
+abbrev pub StillBringsHeader : Type 0
+StillBringsHeader =
+    (profile : Profile) (limit : ℕ) (s : Document) (path : List Part) (value : Value) (c : TextChange)
+    (other : List Part) (more : Value) (d : TextChange)
+    → IsEditable profile limit s → BringsHeader profile limit s path value c
+    → BringsHeader profile limit s other more d
+    → AreOthers (brought_at s path c) (brought_at s other d)
+    → StillBrings profile limit s (edited_document s (insert path value)) other more (moved c d)
+
+-- ---- a run of inserts
+
+-- The document after such headers came, each at its place of the first document: one of another table, at another
+-- place, comes still.
+pub record IsBroughtRun (profile : Profile) (limit : ℕ) (s : Document) (brought : List BroughtAt)
+    (changes : List TextChange) (now : Document) : Type 0 where
+  pub editable : IsEditable profile limit now
+  pub none_taken : All (λ d. d.size ≡ 0) changes
+  pub follow : Follow 0 changes
+  pub text : tree.text now ≡ text_with 0 (tree.text s) changes
+  pub later : (path : List Part) (value : Value) (c : TextChange) → BringsHeader profile limit s path value c
+      → All (λ l. AreOthers l (brought_at s path c)) brought
+      → StillBrings profile limit s now path value (moved_past changes c)
+
+-- one header more: its insert is not refused, and the run is longer
+pub record IsBroughtRunLonger (profile : Profile) (limit : ℕ) (s : Document) (brought : List BroughtAt)
+    (changes : List TextChange) (now : Document) (path : List Part) (value : Value) (c : TextChange) : Type 0 where
+  pub allowed : refusal profile limit now (insert path value) ≡ None
+  pub is : place now (insert path value) ≡ place_of_change (moved_past changes c)
+  pub run : IsBroughtRun profile limit s (brought ++ brought_at s path c ∷ []) (with_change changes c)
+      (edited_document now (insert path value))
+
+abbrev pub NoneIsBroughtRun : Type 0
+NoneIsBroughtRun = (profile : Profile) (limit : ℕ) (s : Document) → IsEditable profile limit s
+    → IsBroughtRun profile limit s [] [] s
+
+abbrev pub BroughtRunGoesOn : Type 0
+BroughtRunGoesOn =
+    (profile : Profile) (limit : ℕ) (s : Document) (brought : List BroughtAt) (changes : List TextChange)
+    (now : Document) (path : List Part) (value : Value) (c : TextChange)
+    → IsBroughtRun profile limit s brought changes now → BringsHeader profile limit s path value c
+    → All (λ l. AreOthers l (brought_at s path c)) brought
+    → IsBroughtRunLonger profile limit s brought changes now path value c
