@@ -413,12 +413,17 @@ class Run:
     def all_kinds(self):
         """Edits of all kinds in turn, nearly all of paths apart; now and then some newlines have a carriage return. In half of the
         lists tables go with their headers between the others, and some of the inserts are into tables that go later. In half of them
-        there are tables that dotted keys make: new keys come into them, and keys of theirs are changed and go."""
+        there are tables that dotted keys make: new keys come into them, and keys of theirs are changed and go. In half of them there
+        are tables into which headers go: new keys of them bring their headers, and some of the tables below them go."""
         random, paths = self.random, self.with_lines() + self.some_of()
+        bare = self.with_implicit() if random.random() < 0.5 else []
+        random.shuffle(bare)
+        below = [path + b".sub" for path in bare if random.random() < 0.2]
         nests = [path for nest in (self.with_dotted() if random.random() < 0.5 else []) for path in nest]
         paths += [path + b".k" for path in random.sample(nests, len(nests) // 2)]
         holders = self.with_holders() if random.random() < 0.5 else []
         left = self.with_tables() if random.random() < 0.5 else []
+        left += below if random.random() < 0.5 else []
         random.shuffle(paths)
         new = lambda path, number: b".".join([*path.split(b".")[:-1], random.choice(KEYS) + b"_more_%d" % number])
         if random.random() < 0.2:
@@ -435,12 +440,17 @@ class Run:
             elif nests and kind == b"insert" and random.random() < 0.6:
                 are_set.append(self.new_path(random.choice(nests), number, 0.2))
                 edits.append(edit_of(kind, are_set[-1], value_of(random)))
+            elif bare and kind == b"insert" and random.random() < 0.6:
+                table = bare.pop() if random.random() < 0.97 else random.choice(bare)
+                are_set.append(self.new_path(table, number, 0.2))
+                edits.append(edit_of(kind, are_set[-1], value_of(random)))
             elif left and kind == b"insert" and random.random() < 0.5:
                 edits.append(edit_of(kind, random.choice(left) + b".more_%d" % number, value_of(random)))
             elif are_set and random.random() < 0.2:
                 edits.append(edit_of(b"set", random.choice(are_set), value_of(random)))
             elif kind == b"table":
-                edits.append(edit_of(kind, b"tables_%d" % number))
+                holder = bare[-1] + b"." if bare and b"[" not in bare[-1] and random.random() < 0.1 else b""
+                edits.append(edit_of(kind, holder + b"tables_%d" % number))
             elif kind == b"element":
                 edits.append(edit_of(kind, b"elements_%d" % (number if random.random() < 0.9 else number // 2)))
             elif kind == b"rename":

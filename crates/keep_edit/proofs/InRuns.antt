@@ -15,10 +15,11 @@ use Rattle.keep_types.specs.declared.syntax.Span.{Span}
 use Rattle.keep_syntax.specs.Tree.{Document, Value, text}
 use Rattle.keep_syntax.proofs.Shared.{one_value}
 use Rattle.keep_path.specs.Path.{Part, without_last}
-use Rattle.keep_edit_spec.specs.DottedLines.{AddsLineTo}
 use Rattle.keep_edit_spec.specs.Edits as law
 use Rattle.keep_edit_spec.specs.EntryEdits.{IsOfEntry, MakesSet}
-use Rattle.keep_edit_spec.proofs.Shared.{dotted_is, without_last-snoc}
+use Rattle.keep_edit_spec.specs.InsertKinds.{AddsAs}
+use Rattle.keep_edit_spec.specs.declared.line_kind.LineKind.{LineKind}
+use Rattle.keep_edit_spec.proofs.Shared.{kind_is, without_last-snoc}
 use Rattle.keep_edit_plan.specs.Headers.{key_texts}
 use Rattle.keep_edit_plan.proofs.Shared.{editable}
 use Rattle.keep_edit_spec.specs.Runs as runs
@@ -31,7 +32,7 @@ use Rattle.keep_edit_plan.specs.declared.text_edit.TextEdit.{TextEdit}
 use Rattle.keep_edit.specs.Answers.{IsSpanOf}
 use Rattle.keep_edit.specs.Lists.{IsEdit}
 use Rattle.keep_edit.specs.Reading.{IsAcceptedValue, IsTextOfTree, IsTextOfValue, ProfiledText, limit}
-use Rattle.keep_edit.specs.Runs.{IsOfTable, IsSeenAs, IsSetBy, MakesInRunHere, MakesItselfHere, SetsAgainHere}
+use Rattle.keep_edit.specs.Runs.{IsOfKind, IsSeenAs, IsSetBy, MakesInRunHere, MakesItselfHere, SetsAgainHere}
 use Rattle.keep_edit.specs.Runs.{SetsHolderHere, no_value, outline}
 use Rattle.keep_edit.specs.Runs.{plain}
 use Rattle.keep_edit.specs.ValueAfter.{MakesValue}
@@ -86,8 +87,8 @@ module _ (s : Document) (holder : List Part) where
 
 -- what an edit makes by itself is what it makes in a run, if it is not seen as the set of a value
 pub by_itself : (now : ProfiledText) (x : Edit) (how : SeenAs) (r : Option RunEdit) → (how ≡ Entry → ⊥)
-    → IsSeenAs now x how → IfSome r (λ m. MakesItselfHere now x m.change m.is_dotted)
-    → IfSome r (λ m. MakesInRunHere now x (outline x how) m.change m.is_dotted)
+    → IsSeenAs now x how → IfSome r (λ m. MakesItselfHere now x m.change m.line)
+    → IfSome r (λ m. MakesInRunHere now x (outline x how) m.change m.line)
 by_itself now x how None other seen h = tt
 by_itself now x how (Some m) other seen h = record {
   edit = h.edit;
@@ -98,25 +99,27 @@ by_itself now x how (Some m) other seen h = record {
   within = h.within;
 }
 
--- an insert that adds such a line
-pub line_in_run : (now : ProfiledText) (x : Edit) (path : List Part) (given : List ℕ) (t : TextEdit) (dotted : Bool)
+-- an insert that adds a line of that kind
+pub line_in_run : (now : ProfiledText) (x : Edit) (path : List Part) (given : List ℕ) (t : TextEdit) (kind : LineKind)
     → x ≡ edit.Insert path given
     → ((s : Document) → IsTextOfTree now s → (v : Value) → IsTextOfValue given v
-    → AddsLineTo dotted now.profile limit s path v (change_of t))
-    → IsSpanOf now.text t.place → IsAcceptedValue Wide given → MakesItselfHere now x t dotted
-line_in_run now x path given t dotted is adds within (v, value) = record {
+    → AddsAs kind now.profile limit s path v (change_of t))
+    → IsSpanOf now.text t.place → IsAcceptedValue Wide given → MakesItselfHere now x t (Some kind)
+line_in_run now x path given t kind is adds within (v, value) = record {
   edit = law.insert path v;
   is = subst (λ (y : Edit). IsEdit y (law.insert path v)) (sym is) (v, value, refl);
   makes = λ s read.
-      let line : AddsLineTo dotted now.profile limit s path v (change_of t) = adds s read v value in
-      ((dotted, line), dotted_is dotted now.profile limit s path v (change_of t) line);
+      let line : AddsAs kind now.profile limit s path v (change_of t) = adds s read v value in (
+        (kind, line),
+        ap (λ (a : LineKind). Some a) (sym (kind_is kind now.profile limit s path v (change_of t) line)),
+      );
   within = within;
 }
 
 -- an edit that is no insert
 pub other_in_run : (now : ProfiledText) (x : Edit) (t : TextEdit)
     → ((path : List Part) (given : List ℕ) → x ≡ edit.Insert path given → ⊥) → MakesChangeHere now x t
-    → MakesItselfHere now x t false
+    → MakesItselfHere now x t None
 other_in_run now x t none h = record {
   edit = h.edit;
   is = h.is;
@@ -125,16 +128,16 @@ other_in_run now x t none h = record {
 }
   where
     of_none : (s : Document) (y : Edit) (e : law.Edit)
-        → ((path : List Part) (given : List ℕ) → y ≡ edit.Insert path given → ⊥) → IsEdit y e → IsOfTable s e false
+        → ((path : List Part) (given : List ℕ) → y ≡ edit.Insert path given → ⊥) → IsEdit y e → IsOfKind s e None
     of_none s (edit.Insert p w) e never is = absurd (never p w refl)
-    of_none s (edit.Set p w) e never (v, given, is) = subst (λ (f : law.Edit). IsOfTable s f false) (sym is) tt
-    of_none s (edit.Remove p) e never is = subst (λ (f : law.Edit). IsOfTable s f false) (sym is) tt
-    of_none s (edit.Rename p w) e never is = subst (λ (f : law.Edit). IsOfTable s f false) (sym is) tt
-    of_none s (edit.Table ks) e never is = subst (λ (f : law.Edit). IsOfTable s f false) (sym is) tt
-    of_none s (edit.Element ks) e never is = subst (λ (f : law.Edit). IsOfTable s f false) (sym is) tt
+    of_none s (edit.Set p w) e never (v, given, is) = subst (λ (f : law.Edit). IsOfKind s f None) (sym is) tt
+    of_none s (edit.Remove p) e never is = subst (λ (f : law.Edit). IsOfKind s f None) (sym is) tt
+    of_none s (edit.Rename p w) e never is = subst (λ (f : law.Edit). IsOfKind s f None) (sym is) tt
+    of_none s (edit.Table ks) e never is = subst (λ (f : law.Edit). IsOfKind s f None) (sym is) tt
+    of_none s (edit.Element ks) e never is = subst (λ (f : law.Edit). IsOfKind s f None) (sym is) tt
 
 pub by_set : (now : ProfiledText) (x : Edit) (r : Option TextEdit) → IfSome r (MakesSetHere now x)
-    → IfSome r (λ t. MakesInRunHere now x (outline x Entry) t false)
+    → IfSome r (λ t. MakesInRunHere now x (outline x Entry) t None)
 by_set now x None h = tt
 by_set now x (Some t) h = record {
   edit = h.edit;
@@ -160,7 +163,7 @@ has_path x path (inr is) e h =
 pub by_places : (now : ProfiledText) (x : Edit) (path : List Part) (place : Span) (was new : List ℕ)
     (r : Option TextEdit) → HasPath x path → slice_range now.text place.start place.end ≡ was
     → MakesValue now.profile was x new → IfSome r (SetsHolderHere now path new) → IfSome r (λ t. t.place ≡ place)
-    → IfSome r (λ t. MakesInRunHere now x (outline x Entry) t false)
+    → IfSome r (λ t. MakesInRunHere now x (outline x Entry) t None)
 by_places now x path place was new None has given made by same = tt
 by_places now x path place was new (Some t) has given made by same =
     let (v, text_is, is_set) = by.sets.is in

@@ -7,9 +7,8 @@
 -- its value, so the outlines stay.
 --
 -- Theorems: `each_instead`: what holds of each change holds with one where another was; `line_here`, `inserted_again`.
-use Rattle.std.proofs.Common.{◌≡◌, ◌<◌, ◌∷◌, ◌++◌, [], ℕ, suc, List, take, length, get_or, string_bytes, refl, sym, ap}
-use Rattle.std.proofs.Common.{subst}
-use Rattle.std.proofs.Common.{◌∙◌, All, Bool, IsUtf8, inl, inr, None, false, true}
+use Rattle.std.proofs.Common.{◌≡◌, ◌≢◌, ◌<◌, ◌∷◌, ◌++◌, [], ℕ, suc, List, take, length, get_or, string_bytes, refl, sym}
+use Rattle.std.proofs.Common.{ap, subst, ◌∙◌, All, Bool, IsUtf8, inl, inr, None, false, true}
 use Rattle.std.specs.Prelude.{◌⊎◌, IsTrue}
 use Rattle.std.proofs.lemmas.Str.{IsUtf8-string_bytes}
 use Rattle.keep_types.specs.declared.leaf.Profile.TheVariants.{Wide}
@@ -18,6 +17,9 @@ use Rattle.keep_path.specs.Path.{Part}
 use Rattle.keep_edit_spec.specs.AddedLines.{first_new}
 use Rattle.keep_edit_spec.specs.Changed.{put}
 use Rattle.keep_edit_spec.specs.DottedLines.{AddsLineTo}
+use Rattle.keep_edit_spec.specs.InsertKinds.{AddsAs}
+use Rattle.keep_edit_spec.specs.declared.line_kind.LineKind.{LineKind}
+use Rattle.keep_edit_spec.specs.declared.line_kind.LineKind.TheVariants.{LastInBody, OfDotted, WithHeader}
 use Rattle.keep_edit_spec.specs.Edits as law
 use Rattle.keep_edit_spec.specs.Edits.{edited_document, place}
 use Rattle.keep_edit_spec.specs.InsertLists.{IsRunInsertedAgain}
@@ -37,10 +39,11 @@ use Rattle.keep_edit_plan.specs.declared.edit.Edit.TheVariants as edit
 use Rattle.keep_edit_plan.specs.declared.text_edit.TextEdit.{TextEdit}
 use Rattle.keep_edit.specs.Again.{InsertsAgainHere}
 use Rattle.keep_edit.specs.Answers.{IsSpanOf}
-use Rattle.keep_edit.specs.AddedLines.{IsKnownAt, Tables}
+use Rattle.keep_edit.specs.AddedLines.{IsKnownAt}
 use Rattle.keep_edit.specs.Lists.{AreMade, IsEdit}
 use Rattle.keep_edit.specs.Reading.{IsAcceptedValue, IsTextOfTree, IsTextOfValue, ProfiledText, limit}
 use Rattle.keep_edit.specs.Runs.{IsRunTo, changed_text, outlined}
+use Rattle.keep_edit.specs.declared.added_lines.AddedLines.{AddedLines}
 use Rattle.keep_edit.specs.declared.outline.Outline.{Outline}
 use Rattle.keep_edit.proofs.MadeMore.{more_made}
 use Rattle.keep_edit.proofs.RunSteps.{AreMadeTo, run_so_far, text_utf8, tree_of_run}
@@ -88,8 +91,8 @@ abbrev pub IsAlike : List Outline → TextEdit → Type 0
 IsAlike outlines t = IsPlain (string_bytes t.new) ⊎ All (λ y. runs.is_insert (outlined y) ≡ true) outlines
 
 module _ (s : Document) (edits : List Edit) (n : ℕ) (old now : ProfiledText) (before : Document)
-    (outlines : List Outline) (changes new : List TextChange) (tables : Tables) (read : IsTextOfTree now before)
-    (h : IsRunTo s edits n old now before outlines changes tables) (d x : Edit) (lt : n < length edits)
+    (outlines : List Outline) (changes new : List TextChange) (adds : AddedLines) (read : IsTextOfTree now before)
+    (h : IsRunTo s edits n old now before outlines changes adds) (d x : Edit) (lt : n < length edits)
     (here : get_or edits n d ≡ x) (was t : TextEdit) (again : InsertsAgainHere now x was t)
     (alike : IsAlike outlines t) (replaced : HasInstead changes (change_of was) (change_of t) new)
     (utf8 : All (λ b. IsUtf8 b.new) new) (within : All (IsChangeIn now.text) new) where
@@ -111,7 +114,7 @@ module _ (s : Document) (edits : List Edit) (n : ℕ) (old now : ProfiledText) (
   ms = r.others
 
   so_far : IsRun now.profile limit before (seen_of before h.ms) changes (lines_of before h.ms) h.made.tree
-  so_far = run_so_far s edits n old now before outlines changes tables read h
+  so_far = run_so_far s edits n old now before outlines changes adds read h
 
   goes_on : IsRun now.profile limit before (seen_of before ms) (changes_of ms) (lines_of before ms)
       (document_after before ms)
@@ -190,15 +193,15 @@ module _ (s : Document) (edits : List Edit) (n : ℕ) (old now : ProfiledText) (
       r.exchanged.earlier (subst (IsRenameIn q) r.exchanged.all there))
 
   -- the line is at its place, and of its table
-  lines_known : All (IsKnownAt tables) (lines_of before ms)
+  lines_known : All (IsKnownAt adds) (lines_of before ms)
   lines_known =
-      subst (All (IsKnownAt tables))
+      subst (All (IsKnownAt adds))
       (ap (lines_of before) r.exchanged.all
       ∙ lines_more before again.path r.value again.more (change_of was) (change_of t) r.at r.exchanged.later
       r.exchanged.earlier
       ∙ ap (lines_of before) (sym r.exchanged.other)) h.lines
 
-  pub made_again : IsRunTo s edits (suc n) old now before outlines new tables
+  pub made_again : IsRunTo s edits (suc n) old now before outlines new adds
   made_again = record {
     made = all_made;
     ms = ms;
@@ -218,34 +221,46 @@ module _ (s : Document) (edits : List Edit) (n : ℕ) (old now : ProfiledText) (
 
 -- ---- as the code goes
 
--- a line with a value of this text comes by that change
-abbrev pub AddsAt : ProfiledText → List Part → List ℕ → TextEdit → Bool → Type 0
-AddsAt now path given t dotted =
+-- a line of that kind with a value of this text comes by that change
+abbrev pub AddsAt : ProfiledText → List Part → List ℕ → TextEdit → LineKind → Type 0
+AddsAt now path given t kind =
     (s : Document) → IsTextOfTree now s → (v : Value) → IsTextOfValue given v
-    → AddsLineTo dotted now.profile limit s path v (change_of t)
+    → AddsAs kind now.profile limit s path v (change_of t)
 
--- the line with the value that was given before, and that with the value that is set
+-- the line with the value that was given before, and that with the value that is set; neither brings a header
 pub line_here : (now : ProfiledText) (x : Edit) (path : List Part) (given value : List ℕ) (was t : TextEdit)
-    (dotted : Bool) → x ≡ edit.Set path value → AddsAt now path given was dotted → IsAcceptedValue Wide given
-    → AddsAt now path value t dotted → IsAcceptedValue Wide value → IsSpanOf now.text t.place
+    (kind : LineKind) → kind ≢ WithHeader → x ≡ edit.Set path value → AddsAt now path given was kind
+    → IsAcceptedValue Wide given → AddsAt now path value t kind → IsAcceptedValue Wide value → IsSpanOf now.text t.place
     → InsertsAgainHere now x was t
-line_here now x path given value was t dotted is added (v, given_is) adds (w, value_is) within = record {
+line_here now x path given value was t LastInBody other is added (v, given_is) adds (w, value_is) within = record {
   path = path;
   value = v;
   more = w;
-  dotted = dotted;
+  dotted = false;
   is = subst (λ (y : Edit). IsEdit y (law.set path w)) (sym is) (w, value_is, refl);
   added = λ s read. added s read v given_is;
   adds = λ s read. adds s read w value_is;
   within = within;
 }
+line_here now x path given value was t OfDotted other is added (v, given_is) adds (w, value_is) within = record {
+  path = path;
+  value = v;
+  more = w;
+  dotted = true;
+  is = subst (λ (y : Edit). IsEdit y (law.set path w)) (sym is) (w, value_is, refl);
+  added = λ s read. added s read v given_is;
+  adds = λ s read. adds s read w value_is;
+  within = within;
+}
+line_here now x path given value was t WithHeader other is added (v, given_is) adds (w, value_is) within =
+    absurd (other refl)
 
 pub inserted_again : (edits : List Edit) (first end : ℕ) (now : ProfiledText) (outlines : List Outline)
-    (changes new : List TextChange) (tables : Tables) (d x : Edit) (was t : TextEdit)
-    → AreMadeTo edits first end now outlines changes tables → end < length edits → get_or edits end d ≡ x
+    (changes new : List TextChange) (adds : AddedLines) (d x : Edit) (was t : TextEdit)
+    → AreMadeTo edits first end now outlines changes adds → end < length edits → get_or edits end d ≡ x
     → InsertsAgainHere now x was t → IsAlike outlines t → HasInstead changes (change_of was) (change_of t) new
-    → AreMadeTo edits first (suc end) now outlines new tables
-inserted_again edits first end now outlines changes new tables d x was t so_far lt here again alike replaced =
+    → AreMadeTo edits first (suc end) now outlines new adds
+inserted_again edits first end now outlines changes new adds d x was t so_far lt here again alike replaced =
     let utf8 =
     each_instead (λ b. IsUtf8 b.new) changes new (change_of was) (change_of t) replaced so_far.utf8
     (IsUtf8-string_bytes t.new) in
@@ -253,7 +268,7 @@ inserted_again edits first end now outlines changes new tables d x was t so_far 
     each_instead (IsChangeIn now.text) changes new (change_of was) (change_of t) replaced so_far.within
     (change_in now.text t again.within) in
     record {
-      made = λ s old h. made_again s edits end old now h.tree outlines changes new tables h.read (so_far.made s old
+      made = λ s old h. made_again s edits end old now h.tree outlines changes new adds h.read (so_far.made s old
           h) d x lt here was t again alike replaced utf8 within;
       within = within;
       utf8 = utf8;

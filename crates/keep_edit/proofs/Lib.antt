@@ -16,6 +16,7 @@ mod KeysOnPath
 mod SeenLaws
 mod SeenPathLaws
 mod KindLaws
+mod LineLaws
 mod InRuns
 mod RunSteps
 mod SetAgainSteps
@@ -23,7 +24,6 @@ mod RenameAgainSteps
 mod InsertAgainSteps
 mod AgainSteps
 mod ItemSteps
-mod BroughtSteps
 mod GoneLaws
 mod GoneFound
 mod SectionSteps

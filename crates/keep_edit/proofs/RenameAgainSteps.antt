@@ -34,19 +34,20 @@ use Rattle.keep_edit_plan.proofs.Shared.{change_in, editable}
 use Rattle.keep_edit_plan.specs.TextEdits.{IsChangeIn, IsReplaced, change_of}
 use Rattle.keep_edit_plan.specs.declared.edit.Edit.{Edit}
 use Rattle.keep_edit_plan.specs.declared.text_edit.TextEdit.{TextEdit}
-use Rattle.keep_edit.specs.AddedLines.{IsKnownAt, Tables}
+use Rattle.keep_edit.specs.AddedLines.{IsKnownAt}
 use Rattle.keep_edit.specs.Lists.{AreMade, IsEdit}
 use Rattle.keep_edit.specs.Reading.{limit, IsTextOfTree, ProfiledText}
 use Rattle.keep_edit.specs.Runs.{Allows, AllowsRename, IsRenamedBy, IsRunTo, IsSetBy, RenamesAgainHere, changed_text}
 use Rattle.keep_edit.specs.Runs.{no_value, outlined, plain}
+use Rattle.keep_edit.specs.declared.added_lines.AddedLines.{AddedLines}
 use Rattle.keep_edit.specs.declared.outline.Outline.{Outline}
 use Rattle.keep_edit.proofs.MadeMore.{more_made}
 use Rattle.keep_edit.proofs.RunSteps.{AreMadeTo, one_or_more, parts, plain_alone, run_so_far, text_utf8, tree_of_run}
 use Rattle.keep_edit.proofs.SetAgainSteps.{each_replaced, rename_by_one, set_by_one}
 
 module _ (s : Document) (edits : List Edit) (n : ℕ) (old now : ProfiledText) (before : Document)
-    (outlines : List Outline) (changes new : List TextChange) (tables : Tables) (read : IsTextOfTree now before)
-    (h : IsRunTo s edits n old now before outlines changes tables) (d x : Edit) (lt : n < length edits)
+    (outlines : List Outline) (changes new : List TextChange) (adds : AddedLines) (read : IsTextOfTree now before)
+    (h : IsRunTo s edits n old now before outlines changes adds) (d x : Edit) (lt : n < length edits)
     (here : get_or edits n d ≡ x) (o : Outline) (t : TextEdit)
     (again : RenamesAgainHere now x outlines changes o t) (allow : All (λ y. Allows y o) outlines)
     (replaced : IsReplaced changes (change_of t) new) (utf8 : All (λ b. IsUtf8 b.new) new)
@@ -72,7 +73,7 @@ module _ (s : Document) (edits : List Edit) (n : ℕ) (old now : ProfiledText) (
   ms = made e c ∷ r.rest
 
   so_far : IsRun now.profile limit before (seen_of before h.ms) changes (lines_of before h.ms) h.made.tree
-  so_far = run_so_far s edits n old now before outlines changes tables read h
+  so_far = run_so_far s edits n old now before outlines changes adds read h
 
   goes_on : IsRun now.profile limit before (seen_of before ms) (changes_of ms) (lines_of before ms)
       (document_after before ms)
@@ -174,14 +175,14 @@ module _ (s : Document) (edits : List Edit) (n : ℕ) (old now : ProfiledText) (
   ]
 
   -- a rename adds no line
-  lines_known : All (IsKnownAt tables) (lines_of before ms)
+  lines_known : All (IsKnownAt adds) (lines_of before ms)
   lines_known =
-      subst (All (IsKnownAt tables))
+      subst (All (IsKnownAt adds))
       (ap (lines_of before) r.one.all
       ∙ lines_apart before (made (law.rename again.path r.text) r.c) r.one.later r.one.earlier (λ lines. refl)
       ∙ ap (lines_of before) (sym r.one.others)) h.lines
 
-  pub made_again : IsRunTo s edits (suc n) old now before (outlines ++ o ∷ []) new tables
+  pub made_again : IsRunTo s edits (suc n) old now before (outlines ++ o ∷ []) new adds
   made_again = record {
     made = all_made;
     ms = ms;
@@ -216,17 +217,17 @@ module _ (s : Document) (edits : List Edit) (n : ℕ) (old now : ProfiledText) (
 -- ---- as the code goes
 
 pub renamed_again : (edits : List Edit) (first end : ℕ) (now : ProfiledText) (outlines : List Outline)
-    (changes new : List TextChange) (tables : Tables) (d x : Edit) (o : Outline) (t : TextEdit)
-    → AreMadeTo edits first end now outlines changes tables → end < length edits → get_or edits end d ≡ x
+    (changes new : List TextChange) (adds : AddedLines) (d x : Edit) (o : Outline) (t : TextEdit)
+    → AreMadeTo edits first end now outlines changes adds → end < length edits → get_or edits end d ≡ x
     → RenamesAgainHere now x outlines changes o t → All (λ y. Allows y o) outlines
-    → IsReplaced changes (change_of t) new → AreMadeTo edits first (suc end) now (outlines ++ o ∷ []) new tables
-renamed_again edits first end now outlines changes new tables d x o t so_far lt here again allow replaced =
+    → IsReplaced changes (change_of t) new → AreMadeTo edits first (suc end) now (outlines ++ o ∷ []) new adds
+renamed_again edits first end now outlines changes new adds d x o t so_far lt here again allow replaced =
     let c : TextChange = change_of t in
     let utf8 = each_replaced (λ b. IsUtf8 b.new) changes new c replaced so_far.utf8 (IsUtf8-string_bytes t.new) in
     let within =
     each_replaced (IsChangeIn now.text) changes new c replaced so_far.within (change_in now.text t again.within) in
     record {
-      made = λ s old h. made_again s edits end old now h.tree outlines changes new tables h.read (so_far.made s old
+      made = λ s old h. made_again s edits end old now h.tree outlines changes new adds h.read (so_far.made s old
           h) d x lt here o t again allow replaced utf8 within;
       within = within;
       utf8 = utf8;

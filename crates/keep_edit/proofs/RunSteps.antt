@@ -10,8 +10,8 @@
 -- the edits so far; `unadded`, `added`: what is added to a list.
 use Rattle.std.proofs.Common.{◌≡◌, ◌≢◌, ◌<◌, ◌≤◌, ◌+◌, ◌∷◌, ◌++◌, [], ℕ, zero, suc, List, length, take, drop}
 use Rattle.std.proofs.Common.{get_or, refl, sym, ap, subst, subst₂, ◌∙◌, arith, All, IsUtf8, IsCharBoundary, inl, inr}
-use Rattle.std.specs.Prelude.{◌⊎◌, Any, Bool, Err, IfOk, IsTrue, None, Ok, OnErr, Result, false, if◌then◌else◌}
-use Rattle.std.specs.Prelude.{true}
+use Rattle.std.specs.Prelude.{◌⊎◌, Any, Bool, Err, IfOk, IsTrue, None, Ok, OnErr, Option, Result, Some, false}
+use Rattle.std.specs.Prelude.{if◌then◌else◌, true}
 use Rattle.std.specs.Bool.{Decides}
 use Rattle.std.proofs.lemmas.List.Folds.{list_any_none}
 use Rattle.std.specs.Result.{result_unwrap_or}
@@ -25,10 +25,10 @@ use Rattle.keep_syntax.specs.Tree.{Document, Value, text}
 use Rattle.keep_path.specs.Path.{Part}
 use Rattle.keep_edit_spec.specs.AddedLines.{first_new}
 use Rattle.keep_edit_spec.specs.Changed.{put}
-use Rattle.keep_edit_spec.specs.DottedLines.{AddedAt, IsAfter, added_at, into_dotted}
 use Rattle.keep_edit_spec.specs.Edits as law
 use Rattle.keep_edit_spec.specs.Edits.{edited_document, place}
 use Rattle.keep_edit_spec.specs.EntryEdits.{IsRunLongerByEntry, MakesSet}
+use Rattle.keep_edit_spec.specs.InsertKinds.{Added, IsAfterLine, added_as, kind_of}
 use Rattle.keep_edit_spec.specs.Laws.{IsLawfulEdit}
 use Rattle.keep_edit_spec.specs.Refusals.{refusal}
 use Rattle.keep_edit_spec.specs.RenameLists.{AllowsKey, IsRenameIn}
@@ -36,20 +36,23 @@ use Rattle.keep_edit_spec.specs.Runs as runs
 use Rattle.keep_edit_spec.specs.RunLists.{AreAtOnce, IsSetIn, MadeEdit, changes_of, document_after, lines_of}
 use Rattle.keep_edit_spec.specs.RunLists.{seen_of}
 use Rattle.keep_edit_spec.specs.Runs.{ArePlain, IsBeforeHeaders, IsInOrder, IsPlainBefore, IsRun, IsRunLonger}
-use Rattle.keep_edit_spec.specs.Runs.{KeepsPlace, LetsCome, MakesChange, with_line}
+use Rattle.keep_edit_spec.specs.Runs.{KeepsPlace, LetsCome, LetsTable, MakesChange, PassesTable, with_line}
 use Rattle.keep_edit_spec.specs.TextChanges.{Follow, IsBeside, TextChange, moved_past, text_with, with_change}
+use Rattle.keep_edit_spec.specs.declared.line_kind.LineKind.{LineKind}
+use Rattle.keep_edit_spec.specs.declared.line_kind.LineKind.TheVariants.{LastInBody, OfDotted, WithHeader}
 use Rattle.keep_edit_spec.proofs.Shared.{all_with, change_lawful, change_put, run_goes_on}
 use Rattle.keep_edit_spec.proofs.Shared.{run_goes_on_by_entry, run_is_known}
 use Rattle.keep_edit_plan.proofs.Shared.{change_in, editable, one_tree}
 use Rattle.keep_edit_plan.specs.TextEdits.{IsChangeIn, change_of}
 use Rattle.keep_edit_plan.specs.declared.edit.Edit.{Edit}
 use Rattle.keep_edit_plan.specs.declared.text_edit.TextEdit.{TextEdit}
-use Rattle.keep_edit.specs.AddedLines.{IsKnownAt, Tables}
+use Rattle.keep_edit.specs.AddedLines.{IsKnownAt}
 use Rattle.keep_edit.specs.Lists.{IsEdit, AreMade}
 use Rattle.keep_edit.specs.Reading.{limit, IsTextOfTree, ProfiledText}
-use Rattle.keep_edit.specs.Runs.{IsLineKept, IsOfTable, IsRunTo, LeavesAlone, MakeChanges, MakesInRun}
-use Rattle.keep_edit.specs.Runs.{IsRenamedBy, IsSetBy, MakesInRunHere, changed_text, line_of, no_value, outlined}
+use Rattle.keep_edit.specs.Runs.{IsKnownThen, IsLineKept, IsOfKind, IsRunTo, LeavesAlone, MakeChanges, MakesInRun}
+use Rattle.keep_edit.specs.Runs.{IsRenamedBy, IsSetBy, MakesInRunHere, changed_text, no_value, outlined}
 use Rattle.keep_edit.specs.Runs.{plain}
+use Rattle.keep_edit.specs.declared.added_lines.AddedLines.{AddedLines}
 use Rattle.keep_edit.specs.declared.outline.Outline.{Outline}
 use Rattle.keep_edit.proofs.MadeMore.{more_made}
 
@@ -133,6 +136,15 @@ pub record IsPlaced (outlines : List Outline) (bytes : List ℕ) (changes : List
   pub header : runs.is_header (outlined x) ≡ true
       → All (λ y. runs.is_header (outlined y) ≡ true) outlines ⊎ IsPlainBefore bytes changes at
 
+-- Where an edit that adds a line comes after no header that is appended, none of those edits appends one.
+abbrev pub IsBare : List Outline → Outline → Bool → Type 0
+IsBare outlines x appended =
+    runs.is_insert (outlined x) ≡ true → appended ≡ false → All (λ y. runs.is_header (outlined y) ≡ false) outlines
+
+each : {P : law.Edit → Type 0} (es : List law.Edit) → ((e : law.Edit) → P e) → All P es
+each {P} [] holds = All-nil P
+each {P} (e ∷ es) holds = All-cons P e es (holds e) (each es holds)
+
 -- ---- the text is in UTF-8
 
 boundary_before : (bytes : List ℕ) (from at : ℕ) → from ≤ at → at ≤ length bytes → IsCharBoundary bytes from
@@ -163,8 +175,8 @@ text_utf8 bytes cs utf8 = text_utf8_from 0 bytes cs utf8 (IsCharBoundary-start b
 -- ---- the document after a run
 
 module _ (s : Document) (edits : List Edit) (n : ℕ) (old now : ProfiledText) (before : Document)
-    (outlines : List Outline) (changes : List TextChange) (tables : Tables) (read : IsTextOfTree now before)
-    (h : IsRunTo s edits n old now before outlines changes tables) where
+    (outlines : List Outline) (changes : List TextChange) (adds : AddedLines) (read : IsTextOfTree now before)
+    (h : IsRunTo s edits n old now before outlines changes adds) where
   pub run_so_far : IsRun now.profile limit before (seen_of before h.ms) changes (lines_of before h.ms) h.made.tree
   run_so_far =
       subst (IsRun now.profile limit before (seen_of before h.ms) changes (lines_of before h.ms)) h.tree_is
@@ -243,31 +255,31 @@ rename_seen s (law.append_element ks) path name is = absurd cc
 
 -- one edit more, which others see so: another edit, which makes this change, makes of the first document what it makes
 record IsLonger (profile : Profile) (s : Document) (es : List law.Edit) (changes : List TextChange)
-    (lines : List AddedAt) (now : Document) (e a : law.Edit) (c : TextChange) (dotted : Bool) : Type 0 where
+    (lines : List Added) (now : Document) (e a : law.Edit) (c : TextChange) (line : Option LineKind) : Type 0 where
   edit : law.Edit
   seen_is : runs.seen s edit ≡ a
   makes : MakesChange profile limit s edit c
-  of : IsOfTable s edit dotted
+  of : IsOfKind s edit line
   keeps : KeepsPlace s es changes lines edit c
   allowed : refusal profile limit now e ≡ None
   lawful : IsLawfulEdit profile limit now e
   run : IsRun profile limit s (a ∷ es) (with_change changes c) (with_line s edit c lines) (edited_document now e)
 
-module _ (profile : Profile) (s : Document) (es : List law.Edit) (changes : List TextChange) (lines : List AddedAt)
-    (now : Document) (e a : law.Edit) (c : TextChange) (dotted : Bool)
+module _ (profile : Profile) (s : Document) (es : List law.Edit) (changes : List TextChange) (lines : List Added)
+    (now : Document) (e a : law.Edit) (c : TextChange) (line : Option LineKind)
     (r : IsRun profile limit s es changes lines now) (alone : All (λ f. runs.LeavesAlone f a) es)
     (beside : All (λ d. IsBeside d c) changes) where
   abbrev Longer : Type 0
-  Longer = IsLonger profile s es changes lines now e a c dotted
+  Longer = IsLonger profile s es changes lines now e a c line
 
-  longer_by_itself : a ≡ runs.seen s e → MakesChange profile limit s e c → IsOfTable s e dotted
+  longer_by_itself : a ≡ runs.seen s e → MakesChange profile limit s e c → IsOfKind s e line
       → KeepsPlace s es changes lines e c → Longer
   longer_by_itself is makes of placed =
       let others : All (λ f. runs.LeavesAlone f (runs.seen s e)) es =
       subst (λ (b : law.Edit). All (λ f. runs.LeavesAlone f b) es) is alone in
       let longer : IsRunLonger profile limit s es changes lines now e c =
       run_goes_on profile limit s es changes lines now e c r makes others beside placed in
-      subst (λ (b : law.Edit). IsLonger profile s es changes lines now e b c dotted) (sym is) (record {
+      subst (λ (b : law.Edit). IsLonger profile s es changes lines now e b c line) (sym is) (record {
         edit = e;
         seen_is = refl;
         makes = makes;
@@ -285,7 +297,7 @@ module _ (profile : Profile) (s : Document) (es : List law.Edit) (changes : List
       let longer : IsRunLongerByEntry profile limit s es changes lines now e holder value c =
       run_goes_on_by_entry profile limit s es changes lines now e holder value c r h
       (subst (λ (g : law.Edit). All (λ f. runs.LeavesAlone f g) es) is alone) beside in
-      subst (λ (g : law.Edit). IsLonger profile s es changes lines now e g c dotted) (sym is)
+      subst (λ (g : law.Edit). IsLonger profile s es changes lines now e g c line) (sym is)
       (record {
         edit = law.set holder value;
         seen_is = refl;
@@ -297,19 +309,20 @@ module _ (profile : Profile) (s : Document) (es : List law.Edit) (changes : List
         run = longer.run;
       })
 
-  goes_on_by : (a ≡ runs.seen s e → IsOfTable s e dotted → KeepsPlace s es changes lines e c)
-      → MakesInRun profile s e a c dotted → Longer
+  goes_on_by : (a ≡ runs.seen s e → IsOfKind s e line → KeepsPlace s es changes lines e c)
+      → MakesInRun profile s e a c line → Longer
   goes_on_by placed (inl (is, h, of)) = longer_by_itself is h of (placed is of)
   goes_on_by placed (inr (holder, value, is, h)) = longer_by_set holder value is h
 
 module _ (s : Document) (edits : List Edit) (n : ℕ) (old now : ProfiledText) (before : Document)
-    (outlines : List Outline) (changes : List TextChange) (tables next_tables : Tables)
-    (read : IsTextOfTree now before) (h : IsRunTo s edits n old now before outlines changes tables) (d x : Edit)
+    (outlines : List Outline) (changes : List TextChange) (adds next_adds : AddedLines)
+    (read : IsTextOfTree now before) (h : IsRunTo s edits n old now before outlines changes adds) (d x : Edit)
     (lt : n < length edits) (here : get_or edits n d ≡ x) (o : Outline) (e a : law.Edit) (given : IsEdit x e)
-    (plain_is : plain a ≡ outlined o) (c : TextChange) (dotted : Bool)
-    (makes : MakesInRun now.profile before e a c dotted) (others_alone : All (λ y. LeavesAlone y o) outlines)
-    (beside : All (λ b. IsBeside b c) changes) (placed : IsPlaced outlines now.text changes o c.at)
-    (kept : IsLineKept tables changes o c.at dotted next_tables)
+    (plain_is : plain a ≡ outlined o) (c : TextChange) (line : Option LineKind)
+    (makes : MakesInRun now.profile before e a c line) (others_alone : All (λ y. LeavesAlone y o) outlines)
+    (beside : All (λ b. IsBeside b c) changes) (placed : IsPlaced outlines now.text changes o c.at) (appended : Bool)
+    (bare : IsBare outlines o appended)
+    (kept : IsLineKept adds changes o c.at line appended next_adds)
     (utf8 : All (λ b. IsUtf8 b.new) (with_change changes c))
     (within : All (IsChangeIn now.text) (with_change changes c)) where
   abbrev t : Document
@@ -318,11 +331,11 @@ module _ (s : Document) (edits : List Edit) (n : ℕ) (old now : ProfiledText) (
   abbrev es : List law.Edit
   es = seen_of before h.ms
 
-  abbrev lines : List AddedAt
+  abbrev lines : List Added
   lines = lines_of before h.ms
 
   so_far : IsRun now.profile limit before es changes lines t
-  so_far = run_so_far s edits n old now before outlines changes tables read h
+  so_far = run_so_far s edits n old now before outlines changes adds read h
 
   others : All (λ f. runs.LeavesAlone f a) es
   others =
@@ -333,24 +346,61 @@ module _ (s : Document) (edits : List Edit) (n : ℕ) (old now : ProfiledText) (
   plain_before = subst (λ (bytes : List ℕ). IsPlainBefore bytes changes c.at) read.reads.spelled
 
   -- the line of an insert, as the code knows it
-  line_is : (p : List Part) (v : Value) → a ≡ runs.seen before (law.insert p v) → into_dotted before p ≡ dotted
-      → added_at before p c (into_dotted before p) ≡ line_of (first_new before p) c.at dotted
-  line_is p v is of = ap (line_of (first_new before p) c.at) of
+  abbrev line_then : List Part → Added
+  line_then p = added_as before p c
 
   outlined_is : (p : List Part) (v : Value) → a ≡ runs.seen before (law.insert p v)
       → outlined o ≡ law.insert (first_new before p) no_value
   outlined_is p v is = sym plain_is ∙ ap plain is
 
-  order : (p : List Part) (v : Value) → a ≡ runs.seen before (law.insert p v) → into_dotted before p ≡ dotted
-      → IsInOrder lines changes (added_at before p c (into_dotted before p))
-  order p v is of =
-      subst (IsInOrder lines changes) (sym (line_is p v is of)) (record {
-        after = All-weaker (IsKnownAt tables) (λ l. IsAfter l (line_of (first_new before p) c.at dotted))
-            (kept.after (first_new before p) (outlined_is p v is)) lines h.lines;
-        stays = kept.stays;
-      })
+  known_then : (p : List Part) (v : Value) → a ≡ runs.seen before (law.insert p v) → line ≡ Some (kind_of before p)
+      → IsKnownThen adds changes (line_then p) appended next_adds
+  known_then p v is of = kept.own (first_new before p) (kind_of before p) (outlined_is p v is) of
 
-  keeps : a ≡ runs.seen before e → IsOfTable before e dotted → KeepsPlace before es changes lines e c
+  -- headers pass by the table of a line that brings none, and none are appended before one that does
+  passed : (p : List Part) (v : Value) → a ≡ runs.seen before (law.insert p v) → line ≡ Some (kind_of before p)
+      → All (LetsTable (line_then p)) es
+  passed p v is of = by (kind_of before p) refl
+    where
+      none_with : (kind_of before p ≡ WithHeader → ⊥) → (f : law.Edit) → LetsTable (line_then p) f
+      none_with other (law.append_table ks) = λ headed. absurd (other headed)
+      none_with other (law.append_element ks) = λ headed. absurd (other headed)
+      none_with other (law.insert q w) = tt
+      none_with other (law.remove q) = tt
+      none_with other (law.set q w) = tt
+      none_with other (law.rename q name) = tt
+
+      no_header : (f : law.Edit) → runs.is_header f ≡ false → LetsTable (line_then p) f
+      no_header (law.append_table ks) none = absurd cc
+      no_header (law.append_element ks) none = absurd cc
+      no_header (law.insert q w) none = tt
+      no_header (law.remove q) none = tt
+      no_header (law.set q w) none = tt
+      no_header (law.rename q name) none = tt
+
+      by : (kind : LineKind) → kind_of before p ≡ kind → All (LetsTable (line_then p)) es
+      by WithHeader kind =
+          All-weaker (λ f. runs.is_header f ≡ false) (LetsTable (line_then p)) no_header es
+          (h.headless (bare (ap runs.is_insert (outlined_is p v is)) ((known_then p v is of).headless kind)))
+      by LastInBody kind =
+          each es (none_with (λ headed. (let both : LastInBody ≡ WithHeader = sym kind ∙ headed in cc)))
+      by OfDotted kind =
+          each es (none_with (λ headed. (let both : OfDotted ≡ WithHeader = sym kind ∙ headed in cc)))
+
+  order : (p : List Part) (v : Value) → a ≡ runs.seen before (law.insert p v) → line ≡ Some (kind_of before p)
+      → IsInOrder es changes lines (line_then p)
+  order p v is of = record {
+    after = All-weaker (IsKnownAt adds) (λ l. IsAfterLine l (line_then p)) (known_then p v is of).after lines h.lines;
+    stays = (known_then p v is of).stays;
+    passed = passed p v is of;
+  }
+
+  -- a header that is appended passes by all tables of lines with headers, as there are none
+  passes : (ks : List (List ℕ)) → runs.is_header (outlined o) ≡ true → All (PassesTable ks) lines
+  passes ks head =
+      All-weaker (IsKnownAt adds) (PassesTable ks) (λ l known is. absurd (kept.header head l known is)) lines h.lines
+
+  keeps : a ≡ runs.seen before e → IsOfKind before e line → KeepsPlace before es changes lines e c
   keeps is of =
       by e is of (ap runs.is_insert (sym plain_is) ∙ plain_insert a) (ap runs.is_header (sym plain_is) ∙ plain_header a)
     where
@@ -377,7 +427,7 @@ module _ (s : Document) (edits : List Edit) (n : ℕ) (old now : ProfiledText) (
       all_headers (inl all) = inl (h.headers all)
       all_headers (inr plain) = inr (plain_before plain)
 
-      by : (f : law.Edit) → a ≡ runs.seen before f → IsOfTable before f dotted
+      by : (f : law.Edit) → a ≡ runs.seen before f → IsOfKind before f line
           → runs.is_insert (outlined o) ≡ runs.is_insert a → runs.is_header (outlined o) ≡ runs.is_header a
           → KeepsPlace before es changes lines f c
       by (law.insert p v) same of insert header =
@@ -386,12 +436,14 @@ module _ (s : Document) (edits : List Edit) (n : ℕ) (old now : ProfiledText) (
       by (law.set p v) same of insert header = tt
       by (law.rename p name) same of insert header = tt
       by (law.append_table ks) same of insert header =
-          all_headers (placed.header (header ∙ ap runs.is_header same))
+          let head : runs.is_header (outlined o) ≡ true = header ∙ ap runs.is_header same in
+          (passes ks head, all_headers (placed.header head))
       by (law.append_element ks) same of insert header =
-          all_headers (placed.header (header ∙ ap runs.is_header same))
+          let head : runs.is_header (outlined o) ≡ true = header ∙ ap runs.is_header same in
+          (passes ks head, all_headers (placed.header head))
 
-  longer : IsLonger now.profile before es changes lines t e a c dotted
-  longer = goes_on_by now.profile before es changes lines t e a c dotted so_far others beside keeps makes
+  longer : IsLonger now.profile before es changes lines t e a c line
+  longer = goes_on_by now.profile before es changes lines t e a c line so_far others beside keeps makes
 
   abbrev next : List ℕ
   next = text_with 0 now.text (with_change changes c)
@@ -432,18 +484,16 @@ module _ (s : Document) (edits : List Edit) (n : ℕ) (old now : ProfiledText) (
   )
 
   -- its line is known too, if it adds one
-  lines_known : All (IsKnownAt next_tables) (lines_of before ms)
+  lines_known : All (IsKnownAt next_adds) (lines_of before ms)
   lines_known = by longer.edit longer.seen_is longer.of
     where
-      others_known : All (IsKnownAt next_tables) lines
-      others_known = All-weaker (IsKnownAt tables) (IsKnownAt next_tables) kept.others lines h.lines
+      others_known : All (IsKnownAt next_adds) lines
+      others_known = All-weaker (IsKnownAt adds) (IsKnownAt next_adds) kept.others lines h.lines
 
-      by : (f : law.Edit) → runs.seen before f ≡ a → IsOfTable before f dotted
-          → All (IsKnownAt next_tables) (with_line before f c lines)
+      by : (f : law.Edit) → runs.seen before f ≡ a → IsOfKind before f line
+          → All (IsKnownAt next_adds) (with_line before f c lines)
       by (law.insert p v) same of =
-          All-cons (IsKnownAt next_tables) (added_at before p c (into_dotted before p)) lines
-          (subst (IsKnownAt next_tables) (sym (line_is p v (sym same) of))
-          (kept.here (first_new before p) (outlined_is p v (sym same)))) others_known
+          All-cons (IsKnownAt next_adds) (line_then p) lines (known_then p v (sym same) of).here others_known
       by (law.set p v) same of = others_known
       by (law.rename p name) same of = others_known
       by (law.remove p) same of = others_known
@@ -466,7 +516,7 @@ module _ (s : Document) (edits : List Edit) (n : ℕ) (old now : ProfiledText) (
     | inr its ↦ inl (name, rename_seen before longer.edit path name (ap plain longer.seen_is ∙ plain_is ∙ its))
   ]
 
-  pub one_made_more : IsRunTo s edits (suc n) old now before (outlines ++ o ∷ []) (with_change changes c) next_tables
+  pub one_made_more : IsRunTo s edits (suc n) old now before (outlines ++ o ∷ []) (with_change changes c) next_adds
   one_made_more = record {
     made = made;
     ms = ms;
@@ -503,17 +553,17 @@ module _ (s : Document) (edits : List Edit) (n : ℕ) (old now : ProfiledText) (
 -- ---- as the code goes
 
 -- So far these changes are made, and the edits up to number `end` are made by them, which have these outlines, and
--- whose lines are of these tables.
+-- whose lines are known.
 pub record AreMadeTo (edits : List Edit) (first end : ℕ) (now : ProfiledText) (outlines : List Outline)
-    (changes : List TextChange) (tables : Tables) : Type 0 where
+    (changes : List TextChange) (adds : AddedLines) : Type 0 where
   pub made : (s : Document) (old : ProfiledText) → (h : AreMade s (take first edits) old now)
-      → IsRunTo s edits end old now h.tree outlines changes tables
+      → IsRunTo s edits end old now h.tree outlines changes adds
   pub within : All (IsChangeIn now.text) changes
   pub utf8 : All (λ c. IsUtf8 c.new) changes
 
-pub no_changes : (edits : List Edit) (first : ℕ) (now : ProfiledText) (tables : Tables)
-    → AreMadeTo edits first first now [] [] tables
-no_changes edits first now tables = record {
+pub no_changes : (edits : List Edit) (first : ℕ) (now : ProfiledText) (adds : AddedLines)
+    → AreMadeTo edits first first now [] [] adds
+no_changes edits first now adds = record {
   made = λ s old h. record {
     made = h;
     ms = [];
@@ -524,7 +574,7 @@ no_changes edits first now tables = record {
     sets = λ path (k, x, less, is, holds). absurd (omega (arith, less));
     renames = λ path name (k, x, less, is, holds). absurd (omega (arith, less));
     allow = λ path name all. All-nil (AllowsKey path name);
-    lines = All-nil (IsKnownAt tables);
+    lines = All-nil (IsKnownAt adds);
     at_once = tt;
     changes_are = refl;
     tree_is = refl;
@@ -534,39 +584,41 @@ no_changes edits first now tables = record {
 }
 
 pub more_changes : (edits : List Edit) (first end : ℕ) (now : ProfiledText) (outlines : List Outline)
-    (changes : List TextChange) (tables next : Tables) (d x : Edit) (o : Outline) (t : TextEdit) (dotted : Bool)
-    → AreMadeTo edits first end now outlines changes tables → end < length edits → get_or edits end d ≡ x
-    → MakesInRunHere now x (outlined o) t dotted → All (λ y. LeavesAlone y o) outlines
+    (changes : List TextChange) (adds next : AddedLines) (d x : Edit) (o : Outline) (t : TextEdit)
+    (line : Option LineKind) (appended : Bool)
+    → AreMadeTo edits first end now outlines changes adds → end < length edits → get_or edits end d ≡ x
+    → MakesInRunHere now x (outlined o) t line → All (λ y. LeavesAlone y o) outlines
     → All (λ b. IsBeside b (change_of t)) changes → IsPlaced outlines now.text changes o (change_of t).at
-    → IsLineKept tables changes o (change_of t).at dotted next
+    → IsBare outlines o appended → IsLineKept adds changes o (change_of t).at line appended next
     → AreMadeTo edits first (suc end) now (outlines ++ o ∷ []) (with_change changes (change_of t)) next
-more_changes edits first end now outlines changes tables next d x o t dotted so_far lt here makes alone beside placed
-    kept =
+more_changes edits first end now outlines changes adds next d x o t line appended so_far lt here makes alone beside
+    placed bare kept =
     let c : TextChange = change_of t in
     let utf8 = all_with (λ b. IsUtf8 b.new) changes c so_far.utf8 (IsUtf8-string_bytes t.new) in
     let within = all_with (IsChangeIn now.text) changes c so_far.within (change_in now.text t makes.within) in
     record {
-      made = λ s old h. one_made_more s edits end old now h.tree outlines changes tables next h.read
+      made = λ s old h. one_made_more s edits end old now h.tree outlines changes adds next h.read
           (so_far.made s old h) d x lt here o makes.edit (makes.in_run h.tree) makes.is
-          (makes.outline_is h.tree h.read) c dotted (makes.makes h.tree h.read) alone beside placed kept utf8 within;
+          (makes.outline_is h.tree h.read) c line (makes.makes h.tree h.read) alone beside placed appended bare kept
+          utf8 within;
       within = within;
       utf8 = utf8;
     }
 
 -- So all edits that the changes are of are made by them.
 pub all_made : (edits : List Edit) (first : ℕ) (now : ProfiledText) (outlines : List Outline)
-    (changes : List TextChange) (tables : Tables) → {end to : ℕ} {its : List TextChange}
-    → AreMadeTo edits first end now outlines changes tables → its ≡ changes → to ≡ end
+    (changes : List TextChange) (adds : AddedLines) → {end to : ℕ} {its : List TextChange}
+    → AreMadeTo edits first end now outlines changes adds → its ≡ changes → to ≡ end
     → MakeChanges edits first to now its
-all_made edits first now outlines changes tables so_far same there s old h =
+all_made edits first now outlines changes adds so_far same there s old h =
     subst₂ (λ (n : ℕ) (cs : List TextChange). AreMade s (take n edits) old (changed_text now cs)) (sym there) (sym same)
     (so_far.made s old h).made
 
 -- And the changes are in the text.
 pub all_within : (edits : List Edit) (first : ℕ) (now : ProfiledText) (outlines : List Outline)
-    (changes : List TextChange) (tables : Tables) → {end : ℕ} {its : List TextChange}
-    → AreMadeTo edits first end now outlines changes tables → its ≡ changes → All (IsChangeIn now.text) its
-all_within edits first now outlines changes tables so_far same =
+    (changes : List TextChange) (adds : AddedLines) → {end : ℕ} {its : List TextChange}
+    → AreMadeTo edits first end now outlines changes adds → its ≡ changes → All (IsChangeIn now.text) its
+all_within edits first now outlines changes adds so_far same =
     subst (All (IsChangeIn now.text)) (sym same) so_far.within
 
 -- A change that is not added leaves the list as it is.

@@ -35,10 +35,11 @@ use Rattle.keep_edit_plan.proofs.Shared.{change_in, editable}
 use Rattle.keep_edit_plan.specs.TextEdits.{HasChange, IsChangeIn, IsReplaced, change_of}
 use Rattle.keep_edit_plan.specs.declared.edit.Edit.{Edit}
 use Rattle.keep_edit_plan.specs.declared.text_edit.TextEdit.{TextEdit}
-use Rattle.keep_edit.specs.AddedLines.{IsKnownAt, Tables}
+use Rattle.keep_edit.specs.AddedLines.{IsKnownAt}
 use Rattle.keep_edit.specs.Lists.{AreMade}
 use Rattle.keep_edit.specs.Reading.{limit, IsTextOfTree, ProfiledText}
 use Rattle.keep_edit.specs.Runs.{IsRunTo, SetsAgainHere, changed_text}
+use Rattle.keep_edit.specs.declared.added_lines.AddedLines.{AddedLines}
 use Rattle.keep_edit.specs.declared.outline.Outline.{Outline}
 use Rattle.keep_edit.proofs.MadeMore.{more_made}
 use Rattle.keep_edit.proofs.RunSteps.{AreMadeTo, run_so_far, text_utf8, tree_of_run}
@@ -80,8 +81,8 @@ rename_by_one q m (x ∷ later) earlier (inr h) = elim (rename_by_one q m later 
 -- ---- one more
 
 module _ (s : Document) (edits : List Edit) (n : ℕ) (old now : ProfiledText) (before : Document)
-    (outlines : List Outline) (changes new : List TextChange) (tables : Tables) (read : IsTextOfTree now before)
-    (h : IsRunTo s edits n old now before outlines changes tables) (d x : Edit) (lt : n < length edits)
+    (outlines : List Outline) (changes new : List TextChange) (adds : AddedLines) (read : IsTextOfTree now before)
+    (h : IsRunTo s edits n old now before outlines changes adds) (d x : Edit) (lt : n < length edits)
     (here : get_or edits n d ≡ x) (t : TextEdit) (again : SetsAgainHere now x outlines changes t)
     (replaced : IsReplaced changes (change_of t) new) (utf8 : All (λ b. IsUtf8 b.new) new)
     (within : All (IsChangeIn now.text) new) where
@@ -100,7 +101,7 @@ module _ (s : Document) (edits : List Edit) (n : ℕ) (old now : ProfiledText) (
   ms = made e c ∷ r.rest
 
   so_far : IsRun now.profile limit before (seen_of before h.ms) changes (lines_of before h.ms) h.made.tree
-  so_far = run_so_far s edits n old now before outlines changes tables read h
+  so_far = run_so_far s edits n old now before outlines changes adds read h
 
   goes_on : IsRun now.profile limit before (seen_of before ms) (changes_of ms) (lines_of before ms)
       (edited_document h.made.tree e)
@@ -207,14 +208,14 @@ module _ (s : Document) (edits : List Edit) (n : ℕ) (old now : ProfiledText) (
       ]
 
   -- a set adds no line
-  lines_known : All (IsKnownAt tables) (lines_of before ms)
+  lines_known : All (IsKnownAt adds) (lines_of before ms)
   lines_known =
-      subst (All (IsKnownAt tables))
+      subst (All (IsKnownAt adds))
       (ap (lines_of before) r.one.all
       ∙ lines_apart before (made (law.set again.path r.value) r.c) r.one.later r.one.earlier (λ lines. refl)
       ∙ ap (lines_of before) (sym r.one.others)) h.lines
 
-  pub made_again : IsRunTo s edits (suc n) old now before outlines new tables
+  pub made_again : IsRunTo s edits (suc n) old now before outlines new adds
   made_again = record {
     made = all_made;
     ms = ms;
@@ -249,17 +250,17 @@ each_replaced P old new c r all its =
     (all_but P r.before r.after r.gone c (subst (All P) r.was all) its)
 
 pub changes_again : (edits : List Edit) (first end : ℕ) (now : ProfiledText) (outlines : List Outline)
-    (changes new : List TextChange) (tables : Tables) (d x : Edit) (t : TextEdit)
-    → AreMadeTo edits first end now outlines changes tables → end < length edits → get_or edits end d ≡ x
+    (changes new : List TextChange) (adds : AddedLines) (d x : Edit) (t : TextEdit)
+    → AreMadeTo edits first end now outlines changes adds → end < length edits → get_or edits end d ≡ x
     → SetsAgainHere now x outlines changes t → IsReplaced changes (change_of t) new
-    → AreMadeTo edits first (suc end) now outlines new tables
-changes_again edits first end now outlines changes new tables d x t so_far lt here again replaced =
+    → AreMadeTo edits first (suc end) now outlines new adds
+changes_again edits first end now outlines changes new adds d x t so_far lt here again replaced =
     let c : TextChange = change_of t in
     let utf8 = each_replaced (λ b. IsUtf8 b.new) changes new c replaced so_far.utf8 (IsUtf8-string_bytes t.new) in
     let within =
     each_replaced (IsChangeIn now.text) changes new c replaced so_far.within (change_in now.text t again.within) in
     record {
-      made = λ s old h. made_again s edits end old now h.tree outlines changes new tables h.read (so_far.made s old
+      made = λ s old h. made_again s edits end old now h.tree outlines changes new adds h.read (so_far.made s old
           h) d x lt here t again replaced utf8 within;
       within = within;
       utf8 = utf8;

@@ -1,27 +1,65 @@
 -- The lines that edits of a list add which are made at once, as far as they are gone through.
-use Rattle.std.specs.Prelude.{◌≡◌, ◌≢◌, ◌⊎◌, ℕ, true, List, Option, Some, None, nat_eq}
-use Rattle.std.specs.declared.hash.BuildHasherDefault.{BuildHasherDefault}
-use Rattle.std.specs.declared.hash.FoldHasher.{FoldHasher}
-use Rattle.std.specs.HashMap.{HashMap, get}
-use Rattle.keep_path.specs.Path.{Part, without_last}
-use Rattle.keep_edit_spec.specs.DottedLines.{AddedAt}
+use Rattle.std.specs.Prelude.{◌≡◌, ◌≢◌, ◌⊎◌, ℕ, ◌==◌, true, IsTrue, List, Option, Some, None, nat_eq}
+use Rattle.std.specs.HashMap.{get}
+use Rattle.std.specs.HashSet.{contains_by}
+use Rattle.keep_path.specs.Path.{Part}
+use Rattle.keep_edit_spec.specs.InsertKinds.{Added, table_of}
+use Rattle.keep_edit_spec.specs.declared.line_kind.LineKind.{LineKind}
+use Rattle.keep_edit_spec.specs.declared.line_kind.LineKind.TheVariants.{LastInBody, OfDotted, WithHeader}
+use Rattle.keep_edit.specs.Seen.{number_of}
+use Rattle.keep_edit.specs.declared.added_lines.AddedLines.{AddedLines}
+use Rattle.keep_edit.specs.declared.added_lines.LinesAt.{LinesAt}
+use Rattle.keep_edit.specs.declared.added_lines.LinesAt.TheVariants.{EndOfBody, OfTable, UpToHeader}
 
--- of each byte at which lines come, the path of the table of dotted keys that they are of; None where one ends a body
-abbrev pub Tables : Type 0
-Tables = HashMap ℕ (Option (List Part)) (BuildHasherDefault FoldHasher)
+-- the lines that come at a byte
+abbrev pub lines_at : AddedLines → ℕ → Option LinesAt
+lines_at added at = get nat_eq added.lines at
 
--- the line comes where one ends a body, or is one of the table of its byte
-abbrev pub IsKnownAt : Tables → AddedAt → Type 0
-IsKnownAt tables l =
-    (get nat_eq tables l.at ≡ Some None)
-    ⊎ ((l.dotted ≡ true) × (get nat_eq tables l.at ≡ Some (Some (without_last l.first))))
+-- the header of that table is one of those
+abbrev pub HasTable : AddedLines → List Part → Type 0
+HasTable added table = IsTrue (contains_by (λ n. number_of table == n) added.tables)
 
--- The byte has this table, or None, and all others have what they had.
-pub record IsKept (old : Tables) (at : ℕ) (table : Option (List Part)) (new : Tables) : Type 0 where
-  pub here : get nat_eq new at ≡ Some table
-  pub others : (n : ℕ) → n ≢ at → get nat_eq new n ≡ get nat_eq old n
+-- A line of that kind is known: its byte has such lines, and a header's table is one of those.
+abbrev pub IsKnownAs : LineKind → AddedLines → Added → Type 0
+IsKnownAs LastInBody added l = (lines_at added l.at ≡ Some EndOfBody) ⊎ (lines_at added l.at ≡ Some UpToHeader)
+IsKnownAs OfDotted added l =
+    (lines_at added l.at ≡ Some (OfTable (table_of l)))
+    ⊎ ((lines_at added l.at ≡ Some EndOfBody) ⊎ (lines_at added l.at ≡ Some UpToHeader))
+IsKnownAs WithHeader added l =
+    (lines_at added l.at ≡ Some UpToHeader) × (HasTable added (table_of l) × (added.has_header ≡ true))
 
--- so it has this table, which it had before if it had one or None
-pub record IsKeptIfFree (old : Tables) (at : ℕ) (table : List Part) (new : Tables) : Type 0 where
-  pub kept : IsKept old at (Some table) new
-  pub free : (get nat_eq old at ≡ None) ⊎ (get nat_eq old at ≡ Some (Some table))
+abbrev pub IsKnownAt : AddedLines → Added → Type 0
+IsKnownAt added l = IsKnownAs l.kind added l
+
+-- ---- one line more
+
+-- The byte has these lines now, and each other has what it had.
+pub record IsKept (old : AddedLines) (at : ℕ) (lines : LinesAt) (new : AddedLines) : Type 0 where
+  pub here : lines_at new at ≡ Some lines
+  pub others : (n : ℕ) → n ≢ at → lines_at new n ≡ lines_at old n
+
+-- the same headers
+pub record IsSameOfHeaders (old new : AddedLines) : Type 0 where
+  pub tables : new.tables ≡ old.tables
+  pub has : new.has_header ≡ old.has_header
+
+-- the end of a body, which is behind no header
+pub record IsEndKept (old : AddedLines) (at : ℕ) (new : AddedLines) : Type 0 where
+  pub free : lines_at old at ≢ Some UpToHeader
+  pub kept : IsKept old at EndOfBody new
+  pub same : IsSameOfHeaders old new
+
+-- a line of a table, where no others are
+pub record IsTableKept (old : AddedLines) (at : ℕ) (table : List Part) (new : AddedLines) : Type 0 where
+  pub free : (lines_at old at ≡ None) ⊎ (lines_at old at ≡ Some (OfTable table))
+  pub kept : IsKept old at (OfTable table) new
+  pub same : IsSameOfHeaders old new
+
+-- a header, which is the first there, and of its table
+pub record IsHeaderKept (old : AddedLines) (at : ℕ) (table : List Part) (new : AddedLines) : Type 0 where
+  pub free : lines_at old at ≢ Some UpToHeader
+  pub kept : IsKept old at UpToHeader new
+  pub first : ¬ HasTable old table
+  pub with_it : HasTable new table
+  pub more : (q : List Part) → HasTable old q → HasTable new q
+  pub has : new.has_header ≡ true

@@ -12,4 +12,3 @@ pub mod SeenPaths
 pub mod ValueAfter
 pub mod Again
 pub mod AddedLines
-pub mod Brought

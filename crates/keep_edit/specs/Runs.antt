@@ -1,6 +1,7 @@
 -- Edits of a list that are made at once: each makes its change of the document before all of them.
 use Rattle.std.specs.Prelude.{◌≡◌, ◌≢◌, ◌⊎◌, ⊤, ℕ, suc, ◌+◌, Bool, true, false, ◌||◌, IsTrue, List, [], ◌∷◌}
-use Rattle.std.specs.Prelude.{◌++◌, All, Any, IsUtf8, Option, drop, length, map, take, String, string_bytes}
+use Rattle.std.specs.Prelude.{◌++◌, All, Any, IsUtf8, Option, Some, drop, length, map, take, String}
+use Rattle.std.specs.Prelude.{string_bytes}
 use Rattle.std.specs.Global.{Global}
 use Rattle.std.specs.List.{list_any}
 use Rattle.keep_types.specs.declared.leaf.Profile.{Profile}
@@ -9,9 +10,9 @@ use Rattle.keep_syntax.specs.Tree.{Document, Value, inline, none, text}
 use Rattle.keep_path.specs.Path.{Part, beside, key, strip, without_last}
 use Rattle.keep_meaning.specs.Meaning.{mentions_in}
 use Rattle.keep_edit_spec.specs.AddedItems.{AddsNextItem, IsItemRun, item_path}
-use Rattle.keep_edit_spec.specs.DottedLines.{AddedAt, IsAfter, into_dotted}
 use Rattle.keep_edit_spec.specs.Edits as law
 use Rattle.keep_edit_spec.specs.EntryEdits.{MakesSet}
+use Rattle.keep_edit_spec.specs.InsertKinds.{Added, IsAfterLine, kind_of}
 use Rattle.keep_edit_spec.specs.Laws.{IsEditable}
 use Rattle.keep_edit_spec.specs.Look.{holder, keys_in}
 use Rattle.keep_edit_spec.specs.RemovedHeaders.{IsHeaderRun, RemovesHeader, first_path}
@@ -23,9 +24,11 @@ use Rattle.keep_edit_spec.specs.RunLists.{seen_of}
 use Rattle.keep_edit_spec.specs.Runs.{LetsCome, MakesChange, takes_up_to}
 use Rattle.keep_edit_spec.specs.SetValues.{SetsValue}
 use Rattle.keep_edit_spec.specs.TextChanges.{TextChange, change_at, text_with}
+use Rattle.keep_edit_spec.specs.declared.line_kind.LineKind.{LineKind}
+use Rattle.keep_edit_spec.specs.declared.line_kind.LineKind.TheVariants.{LastInBody, WithHeader}
 use Rattle.keep_edit_plan.specs.Headers.{key_texts}
 use Rattle.keep_edit_plan.specs.TextEdits.{HasChange, MakesChangeHere, change_of}
-use Rattle.keep_edit.specs.AddedLines.{IsKnownAt, Tables}
+use Rattle.keep_edit.specs.AddedLines.{IsKnownAt}
 use Rattle.keep_edit.specs.Answers.{IsSpanOf}
 use Rattle.keep_edit.specs.Gone.{IsGoneWith}
 use Rattle.keep_edit.specs.Lists.{AreMade, IsEdit}
@@ -33,6 +36,7 @@ use Rattle.keep_edit.specs.Reading.{IsTextOfTree, ProfiledText, limit, text_in}
 use Rattle.keep_edit_plan.specs.declared.edit.Edit.{Edit}
 use Rattle.keep_edit_plan.specs.declared.text_edit.TextEdit.{TextEdit}
 use Rattle.keep_edit_plan.specs.declared.edit.Edit.TheVariants.{Element, Insert, Remove, Rename, Set, Table}
+use Rattle.keep_edit.specs.declared.added_lines.AddedLines.{AddedLines}
 use Rattle.keep_edit.specs.declared.outline.Outline.{Outline}
 use Rattle.keep_edit.specs.declared.outline.Outline.TheVariants as kind
 use Rattle.keep_edit.specs.declared.outline.SeenAs.{SeenAs}
@@ -109,19 +113,26 @@ pub record IsPlaceKept (bytes : List ℕ) (changes : List TextChange) (x : Outli
   pub header : runs.is_header (outlined x) ≡ true → list_any (takes_up_to at) changes ≡ false
 
 -- the line of an insert with that first new key
-abbrev pub line_of : List Part → ℕ → Bool → AddedAt
-line_of first at dotted = record { first = first; at = at; dotted = dotted }
+abbrev pub line_of : List Part → ℕ → LineKind → Added
+line_of first at kind = record { first = first; at = at; kind = kind }
 
--- An edit with this outline comes after these changes; the line that it adds at this byte, if it adds one, comes after
--- those that are known, and is known then. One of a table that dotted keys make comes after no change that takes the
--- byte before it.
-pub record IsLineKept (old : Tables) (changes : List TextChange) (x : Outline) (at : ℕ) (dotted : Bool) (new : Tables)
-    : Type 0 where
-  pub stays : dotted ≡ true → list_any (takes_up_to at) changes ≡ false
-  pub others : (l : AddedAt) → IsKnownAt old l → IsKnownAt new l
-  pub after : (first : List Part) → outlined x ≡ law.insert first no_value → (l : AddedAt) → IsKnownAt old l
-      → IsAfter l (line_of first at dotted)
-  pub here : (first : List Part) → outlined x ≡ law.insert first no_value → IsKnownAt new (line_of first at dotted)
+-- A line comes after those that are known, and is known then. One that does not end a body comes after no change that
+-- takes the byte before it; and one with a header, where no header is appended.
+pub record IsKnownThen (old : AddedLines) (changes : List TextChange) (line : Added) (appended : Bool)
+    (new : AddedLines) : Type 0 where
+  pub stays : line.kind ≢ LastInBody → list_any (takes_up_to line.at) changes ≡ false
+  pub headless : line.kind ≡ WithHeader → appended ≡ false
+  pub after : (l : Added) → IsKnownAt old l → IsAfterLine l line
+  pub here : IsKnownAt new line
+
+-- An edit with this outline comes after these changes, with the line of this kind that it adds at this byte, if it adds
+-- one. All lines that were known are known then. If it appends a header, none of them has one.
+pub record IsLineKept (old : AddedLines) (changes : List TextChange) (x : Outline) (at : ℕ) (line : Option LineKind)
+    (appended : Bool) (new : AddedLines) : Type 0 where
+  pub others : (l : Added) → IsKnownAt old l → IsKnownAt new l
+  pub own : (first : List Part) (kind : LineKind) → outlined x ≡ law.insert first no_value → line ≡ Some kind
+      → IsKnownThen old changes (line_of first at kind) appended new
+  pub header : runs.is_header (outlined x) ≡ true → (l : Added) → IsKnownAt old l → l.kind ≢ WithHeader
 
 -- what is left of keys after so many, and after those of the steps of a path
 abbrev pub rest_from : List (String Global) → ℕ → List Part
@@ -148,34 +159,36 @@ pub record SetsHolderHere (now : ProfiledText) (path : List Part) (value : List 
   pub whole : path ≡ holder ++ part ∷ []
   pub sets : MakesChangeHere now (Set holder value) t
 
--- If it is an insert of a line, whether dotted keys make the table.
-abbrev pub IsOfTable : Document → law.Edit → Bool → Type 0
-IsOfTable s (law.insert path value) dotted = into_dotted s path ≡ dotted
-IsOfTable s e dotted = ⊤
+-- If it is an insert of a line, this is the kind of it.
+abbrev pub IsOfKind : Document → law.Edit → Option LineKind → Type 0
+IsOfKind s (law.insert path value) line = line ≡ Some (kind_of s path)
+IsOfKind s e line = ⊤
 
 -- The edit makes its own change, or is of an entry and makes what the set of a value makes, and so others see it in a
--- run. That changes the text so; a line that it adds is of such a table.
-abbrev pub MakesInRun : Profile → Document → law.Edit → law.Edit → TextChange → Bool → Type 0
-MakesInRun profile s e a c dotted =
-    ((a ≡ runs.seen s e) × MakesChange profile limit s e c × IsOfTable s e dotted)
+-- run. That changes the text so; a line that it adds is of this kind.
+abbrev pub MakesInRun : Profile → Document → law.Edit → law.Edit → TextChange → Option LineKind → Type 0
+MakesInRun profile s e a c line =
+    ((a ≡ runs.seen s e) × MakesChange profile limit s e c × IsOfKind s e line)
     ⊎ ((holder : List Part) × (value : Value) × (a ≡ law.set holder value) × MakesSet profile limit s e holder value c)
 
 -- so it does in the document of this text, and as it is seen it has that outline
-pub record MakesInRunHere (now : ProfiledText) (x : Edit) (outline : law.Edit) (t : TextEdit) (dotted : Bool)
+pub record MakesInRunHere (now : ProfiledText) (x : Edit) (outline : law.Edit) (t : TextEdit)
+    (line : Option LineKind)
     : Type 0 where
   pub edit : law.Edit
   pub is : IsEdit x edit
   pub in_run : Document → law.Edit
   pub outline_is : (s : Document) → IsTextOfTree now s → plain (in_run s) ≡ outline
-  pub makes : (s : Document) → IsTextOfTree now s → MakesInRun now.profile s edit (in_run s) (change_of t) dotted
+  pub makes : (s : Document) → IsTextOfTree now s → MakesInRun now.profile s edit (in_run s) (change_of t) line
   pub within : IsSpanOf now.text t.place
 
--- The edit makes its own change, in the document of this text; a line that it adds is of such a table.
-pub record MakesItselfHere (now : ProfiledText) (x : Edit) (t : TextEdit) (dotted : Bool) : Type 0 where
+-- The edit makes its own change, in the document of this text; a line that it adds is of this kind.
+pub record MakesItselfHere (now : ProfiledText) (x : Edit) (t : TextEdit) (line : Option LineKind)
+    : Type 0 where
   pub edit : law.Edit
   pub is : IsEdit x edit
   pub makes : (s : Document) → IsTextOfTree now s
-      → MakesChange now.profile limit s edit (change_of t) × IsOfTable s edit dotted
+      → MakesChange now.profile limit s edit (change_of t) × IsOfKind s edit line
   pub within : IsSpanOf now.text t.place
 
 -- One of the edits with these outlines sets the value at that path.
@@ -226,9 +239,9 @@ pub record RenamesAgainHere (now : ProfiledText) (x : Edit) (outlines : List Out
 
 -- With the edits up to number `end` made, this is the text with the changes. It is known of the document that it is
 -- after a list of edits that are made at once, which leave alone what each of these outlines does, and whose lines are
--- of these tables.
+-- known.
 pub record IsRunTo (s : Document) (edits : List Edit) (end : ℕ) (old now : ProfiledText) (before : Document)
-    (outlines : List Outline) (changes : List TextChange) (tables : Tables) : Type 0 where
+    (outlines : List Outline) (changes : List TextChange) (added : AddedLines) : Type 0 where
   pub made : AreMade s (take end edits) old (changed_text now changes)
   pub ms : List MadeEdit
   pub alone : (f : law.Edit) → All (λ x. runs.LeavesAlone (outlined x) (plain f)) outlines
@@ -243,7 +256,7 @@ pub record IsRunTo (s : Document) (edits : List Edit) (end : ℕ) (old now : Pro
   pub renames : (path : List Part) (name : List ℕ) → IsRenamedBy outlines path name → IsRenameIn path ms
   pub allow : (path : List Part) (name : List ℕ) → All (λ x. AllowsKey path name (outlined x)) outlines
       → All (AllowsKey path name) (seen_of before ms)
-  pub lines : All (IsKnownAt tables) (lines_of before ms)
+  pub lines : All (IsKnownAt added) (lines_of before ms)
   pub at_once : AreAtOnce now.profile limit before ms
   pub changes_are : changes_of ms ≡ changes
   pub tree_is : document_after before ms ≡ made.tree

@@ -1,5 +1,5 @@
 //! Edits of a list that are made at once, as far as they are gone through.
-ghost use Rattle.std.specs.Prelude.{◌≡◌, ◌++◌, ◌∷◌, [], All, IfSome, IsTrue, false, string_bytes, true};
+ghost use Rattle.std.specs.Prelude.{◌≡◌, ◌++◌, ◌∷◌, [], All, IfSome, IsTrue, None, false, string_bytes, true};
 ghost use Rattle.std.specs.Bool.{Decides};
 ghost use Rattle.keep_edit_spec.specs.Runs.{IsPlain};
 ghost use Rattle.keep_edit_spec.specs.TextChanges.{IsBeside, with_change};
@@ -11,6 +11,7 @@ use crate::alike::{is_new_path, is_same};
 use crate::outline::{Outline, Steps};
 use crate::seen::{number_beside, number_of};
 use keep_edit_plan::{TextEdit, TextEdits};
+use keep_edit_spec::LineKind;
 use memchr::memchr;
 use std::alloc::Global;
 use std::collections::HashMap;
@@ -26,19 +27,16 @@ pub struct Run {
 #[derive(Drop)]
 pub struct RunEdit {
     pub change: TextEdit,
-    /// Whether it adds a line to a table that dotted keys make.
-    pub is_dotted: bool,
+    /// The kind of the line that it adds, if it adds one.
+    pub line: Option<LineKind>,
 }
 
 impl RunEdit {
-    /// That of an edit which adds no line to such a table.
+    /// That of an edit which adds no line.
     pub fn other(change: TextEdit) -> RunEdit
-        ensures { (result.change ≡ change) × (result.is_dotted ≡ false) }
+        ensures { (result.change ≡ change) × (result.line ≡ None) }
     {
-        RunEdit {
-            change,
-            is_dotted: false,
-        }
+        RunEdit { change, line: None }
     }
 }
 

@@ -45,7 +45,6 @@ mod added_lines;
 mod again;
 mod alike;
 mod at_once;
-mod brought;
 mod changes;
 mod document;
 mod edits;

@@ -1,7 +1,7 @@
 //! Edits of a list in their order. Where many come in a row that each make their change elsewhere, and leave one
 //! another alone, they are made at once: each is known by the document before all of them.
 ghost use Rattle.std.specs.Prelude.{◌≡◌, ◌+◌, ◌++◌, ◌∷◌, ◌<◌, ◌≤◌, [], ℕ, All, IfErr, IfOk, IfSome, IsTrue};
-ghost use Rattle.std.specs.Prelude.{List, MatchResult, Some, false, length, take, true};
+ghost use Rattle.std.specs.Prelude.{List, MatchResult, None, Some, false, length, take, true};
 ghost use Rattle.std.specs.Bool.{Decides};
 ghost use Rattle.keep_syntax.specs.Tree as tree;
 ghost use Rattle.keep_edit.specs.Lists.{AreMade, StopsAt};
@@ -191,8 +191,8 @@ impl Document {
     }
 
     /// The same beyond the edit with number `end`, which ends those of one kind: as far as they remove tables and
-    /// elements with their headers, if that one removes an element; or as far as they are of several kinds. Where none
-    /// comes before it, as far as they do so, or are inserts that bring headers. None where they are not tried.
+    /// elements with their headers, if that one removes an element or none comes before it; or as far as they are of
+    /// several kinds. None where they are not tried.
     fn others_by(&self, edits: &[Edit], first: usize, end: usize) -> Option<Run>
         requires { first < length edits.now }
         ensures few { IfSome result (λ run. (first ≤ run.end) × (run.end ≤ length edits.now)) }
@@ -201,10 +201,7 @@ impl Document {
     {
         let next = edits.get(end);
         if end == first || self.removes_element(next) {
-            let changes = match &edits[first] {
-                Edit::Insert(_, _) => self.headers_by(edits, first),
-                _ => self.sections_by(edits, first),
-            };
+            let changes = self.sections_by(edits, first);
             return Some(Run {
                 end: first + changes.len(),
                 changes,
@@ -255,7 +252,7 @@ impl Document {
             let Some(made) = self.change_in_run(&mut planner, &mut opened, edit, next, seen) else {
                 return so_far.up_to(number);
             };
-            if !lines.keep_line(&so_far, &outline, &made) {
+            if !lines.keep_line(&so_far, &outline, &made, false) {
                 return so_far.up_to(number);
             }
             if !so_far.add(number, outline, made.change) {
@@ -306,7 +303,7 @@ impl Document {
             let Some(made) = self.change_in_run(&mut planner, &mut opened, edit, next, seen) else {
                 return so_far.up_to(number);
             };
-            if !lines.keep_line(&so_far, &outline, &made) {
+            if !lines.keep_line(&so_far, &outline, &made, paths.has_header()) {
                 return so_far.up_to(number);
             }
             if outline.writes_anew() {
@@ -499,7 +496,7 @@ impl Document {
         requires planner { planner.old ≡ self.now }
         requires seen { IsSeenAs self.now edit.now seen }
         ensures made { IfSome result
-            (λ made. MakesInRunHere self.now edit.now (outline edit.now seen) made.change made.is_dotted) }
+            (λ made. MakesInRunHere self.now edit.now (outline edit.now seen) made.change made.line) }
         ensures planner { planner.new ≡ planner.old }
     {
         let SeenAs::Entry = seen else {
@@ -518,14 +515,14 @@ impl Document {
     /// What an edit that is seen as itself changes of the text in a run.
     fn change_by_itself(&self, planner: &mut Planner, edit: &Edit) -> Option<RunEdit>
         requires { planner.old ≡ self.now }
-        ensures made { IfSome result (λ made. MakesItselfHere self.now edit.now made.change made.is_dotted) }
+        ensures made { IfSome result (λ made. MakesItselfHere self.now edit.now made.change made.line) }
         ensures planner { planner.new ≡ planner.old }
     {
         if let Edit::Insert(path, value) = edit {
             let line = planner.line(self.alloc(), path, value)?;
             return Some(RunEdit {
                 change: line.text_edit,
-                is_dotted: line.is_dotted,
+                line: Some(line.kind),
             });
         }
         let change = self.as_ref().change_by(self.alloc(), edit)?;
@@ -535,7 +532,7 @@ impl Document {
     /// What an edit of an entry changes of the text, as the set of the value that holds the entry, if the places of
     /// that value's entries tell it.
     fn change_by_places(&self, opened: &mut OpenValues, edit: &Edit) -> Option<TextEdit>
-        ensures { IfSome result (λ change. MakesInRunHere self.now edit.now (outline edit.now Entry) change false) }
+        ensures { IfSome result (λ change. MakesInRunHere self.now edit.now (outline edit.now Entry) change None) }
     {
         let (Edit::Insert(path, _) | Edit::Remove(path)) = edit else {
             return None;

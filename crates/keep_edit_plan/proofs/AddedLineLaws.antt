@@ -6,7 +6,7 @@
 -- would be put where the lines start.
 --
 -- Theorems: `line_is_added`; `at_boundary`: it comes between characters; `not_past`, `not_past_last`.
-use Rattle.std.proofs.Common.{◌≡◌, ◌⊎◌, ℕ, zero, suc, ◌+◌, ◌-◌, ◌<◌, ◌≤◌, Bool, true, false, not, cond, List, [], ◌∷◌}
+use Rattle.std.proofs.Common.{◌≡◌, ◌⊎◌, ℕ, zero, suc, ◌-◌, ◌<◌, ◌≤◌, Bool, true, false, not, cond, List, [], ◌∷◌}
 use Rattle.std.proofs.Common.{◌++◌, length, take, drop, refl, sym, ap, subst, ◌∙◌, arith, append_assoc, length-append}
 use Rattle.std.proofs.Common.{Option, Some, None, Result, Ok, Err, OnOk, inl, inr, map, ◌≢◌}
 use Rattle.std.specs.Prelude.{IsCharBoundary, is_some}

@@ -8,7 +8,6 @@ use Rattle.std.specs.Prelude.{Err, IfSome, Ok, Result, String, Vec, string_bytes
 use Rattle.std.specs.Result.{result_ok}
 use Rattle.std.specs.Global.{Global}
 use Rattle.std.proofs.lemmas.Str.{IsUtf8-string_bytes}
-use Rattle.keep_types.specs.declared.leaf.Profile.TheVariants.{Wide}
 use Rattle.keep_types.specs.declared.syntax.Span.{Span}
 use Rattle.keep_syntax.specs.Tree as tree
 use Rattle.keep_syntax.specs.Tree.{Document, Value, text}
@@ -29,7 +28,7 @@ use Rattle.keep_edit_plan.specs.Answers.{IsDone, IsMadeAt, IsSpanOf, refusal_in}
 use Rattle.keep_edit_plan.specs.Given.{IsEdit}
 use Rattle.keep_edit_plan.specs.Headers.{edit_of, key_texts}
 use Rattle.keep_edit_plan.specs.Plans.{EditPlanned, IsPlan}
-use Rattle.keep_edit_plan.specs.Reading.{limit, IsAcceptedValue, IsTextOfTree, IsTextOfValue, ProfiledText}
+use Rattle.keep_edit_plan.specs.Reading.{limit, IsTextOfTree, IsTextOfValue, ProfiledText}
 use Rattle.keep_edit_plan.specs.TextEdits.{IsChangeIn, IsPlannedHere, MakesChangeHere, change_of}
 use Rattle.keep_edit_plan.specs.declared.header.Header.{Header}
 use Rattle.keep_edit_plan.specs.declared.header.Header.TheVariants.{Table, Element}

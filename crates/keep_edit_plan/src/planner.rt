@@ -4,7 +4,7 @@ ghost use Rattle.keep_types.specs.declared.leaf.Profile.TheVariants.{Wide};
 ghost use Rattle.keep_syntax.specs.Numbered as numbered;
 ghost use Rattle.keep_syntax.specs.Tree as tree;
 ghost use Rattle.keep_edit_spec.specs.AddedLines.{AddsLine};
-ghost use Rattle.keep_edit_spec.specs.DottedLines.{AddsLineTo};
+ghost use Rattle.keep_edit_spec.specs.InsertKinds.{AddsAs};
 ghost use Rattle.keep_edit_plan.specs.Answers.{IsSpanOf};
 ghost use Rattle.keep_edit_plan.specs.PutLines.{body_end_of};
 ghost use Rattle.keep_edit_plan.specs.Reading.{IsAcceptedValue, IsTextOfTree, IsTextOfValue, limit};
@@ -13,6 +13,7 @@ ghost use Rattle.keep_edit_plan.specs.TextEdits.{change_of};
 use crate::document::DocumentRef;
 use crate::insert::Spot;
 use crate::text_edit::TextEdit;
+use keep_edit_spec::LineKind;
 use keep_rules::{Path, ValueText};
 use keep_syntax::Span;
 use std::alloc::Global;
@@ -34,8 +35,7 @@ pub(crate) struct BodyEnd {
 #[derive(Drop)]
 pub struct AddedLine {
     pub text_edit: TextEdit,
-    /// Whether it is one of a table that dotted keys make; else it ends a body.
-    pub is_dotted: bool,
+    pub kind: LineKind,
 }
 
 /// Plans inserts of lines into one document, one after another, each by that document alone. It keeps where long bodies
@@ -70,11 +70,12 @@ impl<'a> Planner<'a> {
     }
 
     /// The line that an insert adds, if it adds one at the end of a body, as `added_line` does, or to a table that
-    /// dotted keys make. None for any other insert, where it is refused, and where memory was refused.
+    /// dotted keys make, or with the header that it brings. None for any other insert, where it is refused, and where
+    /// memory was refused.
     pub fn line(&mut self, alloc: Global, path: &Path, value: &ValueText) -> Option<AddedLine>
         ensures added { (s : tree.Document) → IsTextOfTree self.old s → (v : tree.Value)
             → IsTextOfValue value.now v → IfSome result (λ made.
-            AddsLineTo made.is_dotted self.old.profile limit s path.now v (change_of made.text_edit)) }
+            AddsAs made.kind self.old.profile limit s path.now v (change_of made.text_edit)) }
         ensures within { IfSome result (λ made. IsSpanOf self.old.text made.text_edit.place) }
         ensures value { IsAcceptedValue Wide value.now }
         ensures same { self.new ≡ self.old }
@@ -82,13 +83,19 @@ impl<'a> Planner<'a> {
         if let Some(text_edit) = self.added_line(alloc, path, value) {
             return Some(AddedLine {
                 text_edit,
-                is_dotted: false,
+                kind: LineKind::LastInBody,
             });
         }
-        let text_edit = self.document.added_dotted_line(alloc, path, value)?;
+        if let Some(text_edit) = self.document.added_dotted_line(alloc, path, value) {
+            return Some(AddedLine {
+                text_edit,
+                kind: LineKind::OfDotted,
+            });
+        }
+        let text_edit = self.document.brought_header(alloc, path, value)?;
         Some(AddedLine {
             text_edit,
-            is_dotted: true,
+            kind: LineKind::WithHeader,
         })
     }
 

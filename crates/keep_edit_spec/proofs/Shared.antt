@@ -87,7 +87,7 @@ pub use Rattle.keep_edit_spec.proofs.Lists.TextChanges.{all_with, follow_with, l
 pub use Rattle.keep_edit_spec.proofs.Lists.MadeChanges.{change_lawful}
 pub use Rattle.keep_edit_spec.proofs.Lists.ChangeOrder.{beside_back, one_in_place, put_in_place, with_both}
 pub use Rattle.keep_edit_spec.proofs.Lists.RunLaws.{none_is_run, run_goes_on}
-pub use Rattle.keep_edit_spec.proofs.Lists.StillMakes.{dotted_is}
+pub use Rattle.keep_edit_spec.proofs.Lists.LineKinds.{as_kind, kind_is, line_kind}
 pub use Rattle.keep_edit_spec.proofs.Lists.RunLists.{each_of_others, lines_apart, run_goes_on_again, run_is_known}
 pub use Rattle.keep_edit_spec.proofs.Lists.RenameLists.{run_goes_on_renamed}
 pub use Rattle.keep_edit_spec.proofs.Lists.ExchangedEdits.{each_more, lines_more}
@@ -102,7 +102,6 @@ pub use Rattle.keep_edit_spec.proofs.Lists.SetTwice.{sets_again}
 pub use Rattle.keep_edit_spec.proofs.Lists.HeaderTaken.{element_ends}
 pub use Rattle.keep_edit_spec.proofs.Lists.HeaderRunLaws.{first_with, header_run_goes_on, none_is_header_run}
 pub use Rattle.keep_edit_spec.proofs.Insert.KeysAtEnd.{first_is}
-pub use Rattle.keep_edit_spec.proofs.Lists.BroughtRunLaws.{brought_run_goes_on, none_is_brought_run}
 pub use Rattle.keep_edit_spec.proofs.Lists.PathsBefore.{apart_before, element_before, no_number_before, stays_below}
 pub use Rattle.keep_edit_spec.proofs.Lists.MoreItems.{keys_same, prefixes_alike}
 pub use Rattle.keep_edit_spec.proofs.Lists.NextItem.{not_before, not_empty}

@@ -1,10 +1,9 @@
 -- Inserts of a list that bring the headers of their tables: each is known by the first document alone, as long as the
 -- tables of all are others, and come to other places.
-use Rattle.std.specs.Prelude.{◌≡◌, ◌≢◌, ℕ, ◌≤◌, List, [], ◌∷◌, ◌++◌, length, map, All, Some, None, IsUtf8}
+use Rattle.std.specs.Prelude.{◌≡◌, ◌≢◌, ℕ, ◌≤◌, List, ◌∷◌, ◌++◌, length, map, Some, None, IsUtf8}
 use Rattle.std.specs.List.{AllByRecursion}
 use Rattle.keep_types.specs.declared.leaf.Profile.{Profile}
 use Rattle.keep_types.specs.declared.leaf.Profile.TheVariants.{Wide}
-use Rattle.keep_syntax.specs.Tree as tree
 use Rattle.keep_syntax.specs.Tree.{Value, Document}
 use Rattle.keep_path.specs.Path.{Part, key}
 use Rattle.keep_meaning.specs.Marks.{start}
@@ -15,8 +14,7 @@ use Rattle.keep_edit_spec.specs.Laws.{IsEditable, IsGivenValue}
 use Rattle.keep_edit_spec.specs.Lines.{body_end, last_line, leads_dotted, leads_through}
 use Rattle.keep_edit_spec.specs.Look.{holder, keys_in}
 use Rattle.keep_edit_spec.specs.Refusals.{refusal}
-use Rattle.keep_edit_spec.specs.TextChanges.{Follow, TextChange, moved, moved_past, place_of_change, text_with}
-use Rattle.keep_edit_spec.specs.TextChanges.{with_change}
+use Rattle.keep_edit_spec.specs.TextChanges.{TextChange, moved}
 
 -- An insert of one key or of several, which is not refused, into a table that is there because headers go through it:
 -- none defines it, and no dotted keys make it. It brings the table's header, after the body of the last header that
@@ -67,37 +65,3 @@ StillBringsHeader =
     → BringsHeader profile limit s other more d
     → AreOthers (brought_at s path c) (brought_at s other d)
     → StillBrings profile limit s (edited_document s (insert path value)) other more (moved c d)
-
--- ---- a run of inserts
-
--- The document after such headers came, each at its place of the first document: one of another table, at another
--- place, comes still.
-pub record IsBroughtRun (profile : Profile) (limit : ℕ) (s : Document) (brought : List BroughtAt)
-    (changes : List TextChange) (now : Document) : Type 0 where
-  pub editable : IsEditable profile limit now
-  pub none_taken : All (λ d. d.size ≡ 0) changes
-  pub follow : Follow 0 changes
-  pub text : tree.text now ≡ text_with 0 (tree.text s) changes
-  pub later : (path : List Part) (value : Value) (c : TextChange) → BringsHeader profile limit s path value c
-      → All (λ l. AreOthers l (brought_at s path c)) brought
-      → StillBrings profile limit s now path value (moved_past changes c)
-
--- one header more: its insert is not refused, and the run is longer
-pub record IsBroughtRunLonger (profile : Profile) (limit : ℕ) (s : Document) (brought : List BroughtAt)
-    (changes : List TextChange) (now : Document) (path : List Part) (value : Value) (c : TextChange) : Type 0 where
-  pub allowed : refusal profile limit now (insert path value) ≡ None
-  pub is : place now (insert path value) ≡ place_of_change (moved_past changes c)
-  pub run : IsBroughtRun profile limit s (brought ++ brought_at s path c ∷ []) (with_change changes c)
-      (edited_document now (insert path value))
-
-abbrev pub NoneIsBroughtRun : Type 0
-NoneIsBroughtRun = (profile : Profile) (limit : ℕ) (s : Document) → IsEditable profile limit s
-    → IsBroughtRun profile limit s [] [] s
-
-abbrev pub BroughtRunGoesOn : Type 0
-BroughtRunGoesOn =
-    (profile : Profile) (limit : ℕ) (s : Document) (brought : List BroughtAt) (changes : List TextChange)
-    (now : Document) (path : List Part) (value : Value) (c : TextChange)
-    → IsBroughtRun profile limit s brought changes now → BringsHeader profile limit s path value c
-    → All (λ l. AreOthers l (brought_at s path c)) brought
-    → IsBroughtRunLonger profile limit s brought changes now path value c

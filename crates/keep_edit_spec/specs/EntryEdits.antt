@@ -10,7 +10,7 @@ use Rattle.keep_meaning.specs.Fact as fact
 use Rattle.keep_meaning.specs.Fact.{Fact}
 use Rattle.keep_meaning.specs.Meaning.{mentions_in}
 use Rattle.keep_meaning.specs.Nodes.{fact_at}
-use Rattle.keep_edit_spec.specs.DottedLines.{AddedAt}
+use Rattle.keep_edit_spec.specs.InsertKinds.{Added}
 use Rattle.keep_edit_spec.specs.Edits.{Edit, edited_document, insert, remove, set}
 use Rattle.keep_edit_spec.specs.Laws.{IsEditable, IsGivenValue, IsLawfulEdit}
 use Rattle.keep_edit_spec.specs.Look.{keys_in}
@@ -86,7 +86,7 @@ StillMakesSet =
 
 -- It is one edit more, as that set is: it is not refused, and the run is longer.
 pub record IsRunLongerByEntry (profile : Profile) (limit : ℕ) (s : Document) (edits : List Edit)
-    (changes : List TextChange) (lines : List AddedAt) (now : Document) (e : Edit) (holder : List Part) (value : Value)
+    (changes : List TextChange) (lines : List Added) (now : Document) (e : Edit) (holder : List Part) (value : Value)
     (c : TextChange) : Type 0 where
   pub allowed : refusal profile limit now e ≡ None
   pub lawful : IsLawfulEdit profile limit now e
@@ -95,7 +95,7 @@ pub record IsRunLongerByEntry (profile : Profile) (limit : ℕ) (s : Document) (
 abbrev pub RunGoesOnByEntry : Type 0
 RunGoesOnByEntry =
     (profile : Profile) (limit : ℕ) (s : Document) (edits : List Edit) (changes : List TextChange)
-    (lines : List AddedAt) (now : Document) (e : Edit) (holder : List Part) (value : Value) (c : TextChange)
+    (lines : List Added) (now : Document) (e : Edit) (holder : List Part) (value : Value) (c : TextChange)
     → IsRun profile limit s edits changes lines now → MakesSet profile limit s e holder value c
     → All (λ f. LeavesAlone f (set holder value)) edits → All (λ d. IsBeside d c) changes
     → IsRunLongerByEntry profile limit s edits changes lines now e holder value c

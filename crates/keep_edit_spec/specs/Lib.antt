@@ -33,3 +33,4 @@ pub mod RenameLists
 pub mod InsertLists
 pub mod DottedLines
 pub mod BroughtHeaders
+pub mod InsertKinds

@@ -5,7 +5,7 @@ use Rattle.keep_types.specs.declared.leaf.Profile.{Profile}
 use Rattle.keep_syntax.specs.Tree as tree
 use Rattle.keep_syntax.specs.Tree.{Document, Value}
 use Rattle.keep_path.specs.Path.{Part}
-use Rattle.keep_edit_spec.specs.DottedLines.{AddedAt}
+use Rattle.keep_edit_spec.specs.InsertKinds.{Added}
 use Rattle.keep_edit_spec.specs.Edits.{Edit, edited_document, set}
 use Rattle.keep_edit_spec.specs.Laws.{IsEditable}
 use Rattle.keep_edit_spec.specs.Runs.{IsRun, KeepsPlace, LeavesAlone, MakesChange, seen, with_line}
@@ -31,7 +31,7 @@ changes_of [] = []
 changes_of (m ∷ ms) = with_change (changes_of ms) m.change
 
 -- the lines that they add
-abbrev pub lines_of : Document → List MadeEdit → List AddedAt
+abbrev pub lines_of : Document → List MadeEdit → List Added
 lines_of s [] = []
 lines_of s (m ∷ ms) = with_line s m.edit m.change (lines_of s ms)
 

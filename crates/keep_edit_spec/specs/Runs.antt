@@ -9,7 +9,8 @@ use Rattle.keep_path.specs.Path.{Part, beside, key, strip}
 use Rattle.keep_edit_spec.specs.AddedLines.{first_new}
 use Rattle.keep_edit_spec.specs.AppendedHeaders.{AppendsElement, AppendsTable, AreSameOrApart}
 use Rattle.keep_edit_spec.specs.ClearedLines.{ClearsLine}
-use Rattle.keep_edit_spec.specs.DottedLines.{AddedAt, AddsLineTo, IsAfter, added_at, into_dotted}
+use Rattle.keep_edit_spec.specs.InsertKinds.{Added, AddsAs, IsAfterLine, added_as, is_last_in_body, kind_of}
+use Rattle.keep_edit_spec.specs.InsertKinds.{table_of}
 use Rattle.keep_edit_spec.specs.Edits.{Edit, append_element, append_table, edited_document, insert, place, remove}
 use Rattle.keep_edit_spec.specs.Edits.{rename, set}
 use Rattle.keep_edit_spec.specs.Laws.{IsEditable}
@@ -23,12 +24,14 @@ use Rattle.keep_edit_spec.specs.SaidLines.{SaysBefore}
 use Rattle.keep_edit_spec.specs.SetValues.{SetsValue}
 use Rattle.keep_edit_spec.specs.TextChanges.{Follow, IsBeside, IsWider, TextChange, change_at, moved, moved_by_all}
 use Rattle.keep_edit_spec.specs.TextChanges.{moved_past, place_of_change, text_with, with_change}
+use Rattle.keep_edit_spec.specs.declared.line_kind.LineKind.{LineKind}
+use Rattle.keep_edit_spec.specs.declared.line_kind.LineKind.TheVariants.{LastInBody, WithHeader}
 
 -- The edit is one whose change of the text is known from the first document on, and this is its change. An insert adds
--- a line, to a table that dotted keys make or at the end of a body. A remove takes a line, leaves it with its comment,
--- or takes a table with its header.
+-- a line, at the end of a body, to a table that dotted keys make, or with the header that it brings. A remove takes a
+-- line, leaves it with its comment, or takes a table with its header.
 abbrev pub MakesChange : Profile → ℕ → Document → Edit → TextChange → Type 0
-MakesChange profile limit s (insert path value) c = (dotted : Bool) × AddsLineTo dotted profile limit s path value c
+MakesChange profile limit s (insert path value) c = (kind : LineKind) × AddsAs kind profile limit s path value c
 MakesChange profile limit s (remove path) c =
     RemovesLine profile limit s path c
     ⊎ (ClearsLine profile limit s path c ⊎ RemovesSection profile limit s path c)
@@ -47,10 +50,10 @@ abbrev pub seen : Document → Edit → Edit
 seen s (insert path value) = insert (first_new s path) value
 seen s e = e
 
--- It is seen so in another document, too, and the table of its line is made by dotted keys there if it is so here.
+-- It is seen so in another document, too, and the line of an insert is of the same kind there.
 abbrev pub IsSeenStill : Document → Document → Edit → Type 0
 IsSeenStill s now (insert path value) =
-    (first_new now path ≡ first_new s path) × (into_dotted now path ≡ into_dotted s path)
+    (first_new now path ≡ first_new s path) × (kind_of now path ≡ kind_of s path)
 IsSeenStill s now e = ⊤
 
 -- neither path is the other or below it
@@ -110,7 +113,7 @@ is_header _ = false
 
 -- an insert at the end of a body
 abbrev pub ends_body : Document → Edit → Bool
-ends_body s (insert path value) = not (into_dotted s path)
+ends_body s (insert path value) = is_last_in_body (kind_of s path)
 ends_body s e = false
 
 -- A line that is added at the end of a body comes in the place of one that was taken, after one that says something.
@@ -131,10 +134,23 @@ StaysPlaced s e c f d =
 abbrev pub is_new_after : Edit → Edit → Bool
 is_new_after e f = (is_insert f && not (is_insert e)) || (is_header f && not (is_header e))
 
--- the line that the first edit adds, if it does, comes after that of the second
+-- A header that is appended passes by the table of a line with a header of its own.
+abbrev pub PassesTable : List (List ℕ) → Added → Type 0
+PassesTable keys l = l.kind ≡ WithHeader → PassesBy keys (table_of l)
+
+-- and so of that which an edit adds
+abbrev pub PassesLine : Document → List (List ℕ) → Edit → TextChange → Type 0
+PassesLine s keys (insert path value) c = PassesTable keys (added_as s path c)
+PassesLine s keys e c = ⊤
+
+-- The first edit leaves the second alone, where it comes after it, by the lines that they add: such a line comes after
+-- that of the other, and a header passes by the table of one that has a header.
 abbrev pub ComesInOrder : Document → Edit → TextChange → Edit → TextChange → Type 0
-ComesInOrder s (insert other more) d (insert path value) c =
-    IsAfter (added_at s path c (into_dotted s path)) (added_at s other d (into_dotted s other))
+ComesInOrder s (insert other more) d (insert path value) c = IsAfterLine (added_as s path c) (added_as s other d)
+ComesInOrder s (insert other more) d (append_table keys) c = PassesTable keys (added_as s other d)
+ComesInOrder s (insert other more) d (append_element keys) c = PassesTable keys (added_as s other d)
+ComesInOrder s (append_table keys) d e c = PassesLine s keys e c
+ComesInOrder s (append_element keys) d e c = PassesLine s keys e c
 ComesInOrder s f d e c = ⊤
 
 abbrev pub IsStillPlaced : Document → Edit → TextChange → Edit → TextChange → Type 0
@@ -182,26 +198,34 @@ abbrev pub IsBeforeHeaders : List ℕ → List Edit → ℕ → Type 0
 IsBeforeHeaders bytes edits at = (list_any is_header edits ≡ false) ⊎ (at ≢ length bytes)
 
 -- the lines with the one that the edit adds, if it adds one
-abbrev pub with_line : Document → Edit → TextChange → List AddedAt → List AddedAt
-with_line s (insert path value) c lines = added_at s path c (into_dotted s path) ∷ lines
+abbrev pub with_line : Document → Edit → TextChange → List Added → List Added
+with_line s (insert path value) c lines = added_as s path c ∷ lines
 with_line s e c lines = lines
 
--- A line comes after those at its place; and one of a table that dotted keys make after the line that it follows.
-pub record IsInOrder (lines : List AddedAt) (changes : List TextChange) (line : AddedAt) : Type 0 where
-  pub after : All (λ l. IsAfter l line) lines
-  pub stays : line.dotted ≡ true → list_any (takes_up_to line.at) changes ≡ false
+-- the header that the edit appends, if it does, passes by the table of such a line
+abbrev pub LetsTable : Added → Edit → Type 0
+LetsTable l (append_table keys) = PassesTable keys l
+LetsTable l (append_element keys) = PassesTable keys l
+LetsTable l e = ⊤
+
+-- A line comes after those at its place; one that is not at the end of a body comes after the line that it follows, and
+-- the header of a table comes after no other that goes through the table.
+pub record IsInOrder (edits : List Edit) (changes : List TextChange) (lines : List Added) (line : Added) : Type 0 where
+  pub after : All (λ l. IsAfterLine l line) lines
+  pub stays : line.kind ≢ LastInBody → list_any (takes_up_to line.at) changes ≡ false
+  pub passed : All (LetsTable line) edits
 
 -- A new line or header is written after these edits, which added these lines, as before them, and after the same line.
-abbrev pub KeepsPlace : Document → List Edit → List TextChange → List AddedAt → Edit → TextChange → Type 0
+abbrev pub KeepsPlace : Document → List Edit → List TextChange → List Added → Edit → TextChange → Type 0
 KeepsPlace s edits changes lines (insert path value) c =
-    IsInOrder lines changes (added_at s path c (into_dotted s path))
+    IsInOrder edits changes lines (added_as s path c)
     × (All (λ e. IsTrue (is_insert e)) edits
     ⊎ (ArePlain (text s) changes
     × (All (LetsCome (text s) changes c.at) changes × IsBeforeHeaders (text s) edits c.at)))
 KeepsPlace s edits changes lines (append_table keys) c =
-    All (λ e. IsTrue (is_header e)) edits ⊎ IsPlainBefore (text s) changes c.at
+    All (PassesTable keys) lines × (All (λ e. IsTrue (is_header e)) edits ⊎ IsPlainBefore (text s) changes c.at)
 KeepsPlace s edits changes lines (append_element keys) c =
-    All (λ e. IsTrue (is_header e)) edits ⊎ IsPlainBefore (text s) changes c.at
+    All (PassesTable keys) lines × (All (λ e. IsTrue (is_header e)) edits ⊎ IsPlainBefore (text s) changes c.at)
 KeepsPlace s edits changes lines e c = ⊤
 
 -- ---- a run of edits
@@ -210,7 +234,7 @@ KeepsPlace s edits changes lines e c = ⊤
 -- first with the changes, bytes beside these are there still, and an edit that they leave alone makes its change beside
 -- them still, and is seen as before. The edits are as they are seen, and these are the lines that they add.
 pub record IsRun (profile : Profile) (limit : ℕ) (s : Document) (edits : List Edit) (changes : List TextChange)
-    (lines : List AddedAt) (now : Document) : Type 0 where
+    (lines : List Added) (now : Document) : Type 0 where
   pub first : IsEditable profile limit s
   pub editable : IsEditable profile limit now
   pub follow : Follow 0 changes
@@ -224,7 +248,7 @@ pub record IsRun (profile : Profile) (limit : ℕ) (s : Document) (edits : List 
 
 -- one edit more: it is not refused, and the run is longer
 pub record IsRunLonger (profile : Profile) (limit : ℕ) (s : Document) (edits : List Edit) (changes : List TextChange)
-    (lines : List AddedAt) (now : Document) (e : Edit) (c : TextChange) : Type 0 where
+    (lines : List Added) (now : Document) (e : Edit) (c : TextChange) : Type 0 where
   pub allowed : refusal profile limit now e ≡ None
   pub is : IsOfPlace now e (moved_past changes c)
   pub run : IsRun profile limit s (seen s e ∷ edits) (with_change changes c) (with_line s e c lines)
@@ -237,7 +261,7 @@ NoneIsRun =
 abbrev pub RunGoesOn : Type 0
 RunGoesOn =
     (profile : Profile) (limit : ℕ) (s : Document) (edits : List Edit) (changes : List TextChange)
-    (lines : List AddedAt) (now : Document) (e : Edit) (c : TextChange)
+    (lines : List Added) (now : Document) (e : Edit) (c : TextChange)
     → IsRun profile limit s edits changes lines now → MakesChange profile limit s e c
     → All (λ f. LeavesAlone f (seen s e)) edits
     → All (λ d. IsBeside d c) changes → KeepsPlace s edits changes lines e c

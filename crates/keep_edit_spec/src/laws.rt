@@ -102,9 +102,12 @@ pub fn append_adds_statement()
     ensures element { headers.AppendElementAddsStatement }
 {}
 
-/// An `insert` that adds a line to a document adds the same one after another, of another path, added its line.
+/// An `insert` that adds a line to a document adds the same one after another, of another path, added its line. One
+/// that brings the header of its table, which is there because headers go through it, brings the same after another
+/// such insert, of another table and to another place, brought its own.
 pub fn inserts_add_lines()
-    ensures { added.StillAddsLine }
+    ensures line { added.StillAddsLine }
+    ensures header { brought.StillBringsHeader }
 {}
 
 /// A `remove` that takes a line takes the same one after another, of another path, took its line.
@@ -171,14 +174,6 @@ pub fn removes_take_headers()
     ensures still { taken.StillRemovesHeader }
     ensures none { taken.NoneIsHeaderRun }
     ensures run { taken.HeaderRunGoesOn }
-{}
-
-/// An insert that brings the header of its table, into which headers go, brings the same after another such insert, of
-/// another table and to another place, brought its own. So a run of them is known by the document before it.
-pub fn inserts_bring_headers()
-    ensures still { brought.StillBringsHeader }
-    ensures none { brought.NoneIsBroughtRun }
-    ensures run { brought.BroughtRunGoesOn }
 {}
 
 /// An insert or a `remove` of an item makes what the `set` of its array makes, and one of a key in an inline table what

@@ -3,7 +3,9 @@
 
 mod fault;
 pub mod laws;
+mod line_kind;
 mod splice;
 
 pub use fault::EditFault;
+pub use line_kind::LineKind;
 pub use splice::Splice;

@@ -2,10 +2,11 @@
 --
 -- A body's length is counted up to a header, so of the bodies only that one can become longer: each other body ends
 -- before a header at or before that line, or begins after it (`cut_at`). So an end moves as a line does (`end_moves`),
--- also where lines are cut elsewhere so that each body's length moves so (`IsCut`).
+-- also where lines are cut elsewhere so that each body's length moves so (`IsCut`); and so does the end of the body of
+-- the last header that passes any test (`ends_move`).
 --
--- Theorems: `cut_at`, `end_moves`; `header_few`, `header_same`: before a header; `earlier_end`; `lines_put`, `all_put`:
--- the lines then.
+-- Theorems: `cut_at`, `end_moves`, `ends_move`; `header_few`, `header_same`: before a header; `earlier_end`;
+-- `end_first`, `end_next`: among the lines after the first; `lines_put`, `all_put`: the lines then.
 use Rattle.std.proofs.Common.{◌≡◌, ℕ, zero, suc, ◌+◌, ◌<◌, ◌≤◌, Bool, true, false, cond, List, [], ◌∷◌, ◌++◌, length}
 use Rattle.std.proofs.Common.{map, take, drop, refl, sym, ap, ap₂, ◌∙◌, append_assoc, length-append, arith}
 use Rattle.std.proofs.Common.{Option, Some, None, inl, inr}
@@ -137,20 +138,32 @@ abbrev pub end_or : Bool → ℕ → Option ℕ → Option ℕ
 end_or b m None = cond b (Some (suc m)) None
 end_or b m (Some n) = Some (suc n)
 
-pub end_cons : (a : List Part) (r : Reading) (l : Line) (ls : List Line)
-    → end_in a r (l ∷ ls) ≡ end_or (begins a r l) (body_length ls) (end_in a (after_line r l) ls)
-end_cons a r l ls = by (last_line (begins a) (after_line r l) ls) (begins a r l)
+-- of the body that begins after the first line, and after a later one
+pub end_first : (l : Line) (ls : List Line) → body_end 0 (l ∷ ls) ≡ suc (body_length ls)
+end_first l ls =
+    let same : body_length (drop 0 ls) ≡ body_length ls = ap body_length (drop_none ls) in
+    let first : 1 + body_length (drop 0 ls) ≡ suc (body_length ls) = omega (arith, same) in first
+
+pub end_next : (i : ℕ) (l : Line) (ls : List Line) → body_end (suc i) (l ∷ ls) ≡ suc (body_end i ls)
+end_next i l ls =
+    let m : ℕ = body_length (drop (suc i) ls) in
+    let next : suc (suc i) + m ≡ suc (suc i + m) = omega arith in next
+
+cons_by : (test : Reading → Line → Bool) (r : Reading) (l : Line) (ls : List Line)
+    → end_at (l ∷ ls) (last_line test r (l ∷ ls))
+    ≡ end_or (test r l) (body_length ls) (end_at ls (last_line test (after_line r l) ls))
+cons_by test r l ls = by (last_line test (after_line r l) ls) (test r l)
   where
     by : (o : Option ℕ) (b : Bool)
         → end_at (l ∷ ls) (elim o [ Some n ↦ Some (suc n) | None ↦ cond b (Some zero) None ])
         ≡ end_or b (body_length ls) (end_at ls o)
     by None false = refl
-    by None true = ap (λ (m : ℕ). Some m)
-        (let same : body_length (drop 0 ls) ≡ body_length ls = ap body_length (drop_none ls) in
-        let first : 1 + body_length (drop 0 ls) ≡ suc (body_length ls) = omega (arith, same) in first)
-    by (Some n) b = ap (λ (m : ℕ). Some m)
-        (let m : ℕ = body_length (drop (suc n) ls) in
-        let next : suc (suc n) + m ≡ suc (suc n + m) = omega arith in next)
+    by None true = ap (λ (m : ℕ). Some m) (end_first l ls)
+    by (Some n) b = ap (λ (m : ℕ). Some m) (end_next n l ls)
+
+pub end_cons : (a : List Part) (r : Reading) (l : Line) (ls : List Line)
+    → end_in a r (l ∷ ls) ≡ end_or (begins a r l) (body_length ls) (end_in a (after_line r l) ls)
+end_cons a r l ls = cons_by (begins a) r l ls
 
 -- ---- one line more, and the ends of bodies
 
@@ -203,26 +216,37 @@ module _ (name : Name) (v : Value) where
     each_after [] = (λ _. moves_at_end ls more ends, each_at_end ls more ends)
     each_after (x ∷ pre) = (λ _. moves_after pre, each_after pre)
 
-  end_moves_in : (a : List Part) (r : Reading) (ls more : List Line) → EachMoves ls more
-      → end_in a r (ls ++ added ∷ more) ≡ option_map (later_line (length ls)) (end_in a r (ls ++ more))
-  end_moves_in a r [] more h = end_cons a r added more ∙ by (end_in a r more)
-    where
-      by : (o : Option ℕ) → end_or false (body_length more) o ≡ option_map (later_line 0) o
-      by None = refl
-      by (Some n) = ap (λ (m : ℕ). Some m) (sym (later_from 0 n (omega arith)))
-  end_moves_in a r (l ∷ ls) more h =
-      end_cons a r l (ls ++ added ∷ more)
-      ∙ ap (end_or (begins a r l) (body_length (ls ++ added ∷ more))) (end_moves_in a (after_line r l) ls more h.1)
-      ∙ by (end_in a (after_line r l) (ls ++ more)) (begins a r l)
-      (λ e. h.0 (and_parts (is_header l.content) (same_path (after_line r l).body a) e).0)
-      ∙ ap (option_map (later_line (suc (length ls)))) (sym (end_cons a r l (ls ++ more)))
-    where
-      by : (o : Option ℕ) (b : Bool) → (b ≡ true → Moves ls more)
-          → end_or b (body_length (ls ++ added ∷ more)) (option_map (later_line (length ls)) o)
-          ≡ option_map (later_line (suc (length ls))) (end_or b (body_length (ls ++ more)) o)
-      by None false m = refl
-      by None true m = ap (λ (k : ℕ). Some k) (ap suc (m refl) ∙ later_suc (length ls) (body_length (ls ++ more)))
-      by (Some n) b m = ap (λ (k : ℕ). Some k) (later_suc (length ls) n)
+  -- the end of the body of the last header that passes a test
+  module _ (test : Reading → Line → Bool)
+      (heads : (r : Reading) (l : Line) → test r l ≡ true → is_header l.content ≡ true) where
+    none_passes : (r : Reading) (b : Bool) → test r added ≡ b → test r added ≡ false
+    none_passes r true e = absurd (let no : false ≡ true = heads r added e in cc)
+    none_passes r false e = e
+
+    moves_by : (r : Reading) (ls more : List Line) → EachMoves ls more
+        → end_at (ls ++ added ∷ more) (last_line test r (ls ++ added ∷ more))
+        ≡ option_map (later_line (length ls)) (end_at (ls ++ more) (last_line test r (ls ++ more)))
+    moves_by r [] more h =
+        let none : test r added ≡ false = none_passes r (test r added) refl in
+        cons_by test r added more
+        ∙ ap (λ (b : Bool). end_or b (body_length more) (end_at more (last_line test r more))) none
+        ∙ by (end_at more (last_line test r more))
+      where
+        by : (o : Option ℕ) → end_or false (body_length more) o ≡ option_map (later_line 0) o
+        by None = refl
+        by (Some n) = ap (λ (m : ℕ). Some m) (sym (later_from 0 n (omega arith)))
+    moves_by r (l ∷ ls) more h =
+        cons_by test r l (ls ++ added ∷ more)
+        ∙ ap (end_or (test r l) (body_length (ls ++ added ∷ more))) (moves_by (after_line r l) ls more h.1)
+        ∙ by (end_at (ls ++ more) (last_line test (after_line r l) (ls ++ more))) (test r l) (λ e. h.0 (heads r l e))
+        ∙ ap (option_map (later_line (suc (length ls)))) (sym (cons_by test r l (ls ++ more)))
+      where
+        by : (o : Option ℕ) (b : Bool) → (b ≡ true → Moves ls more)
+            → end_or b (body_length (ls ++ added ∷ more)) (option_map (later_line (length ls)) o)
+            ≡ option_map (later_line (suc (length ls))) (end_or b (body_length (ls ++ more)) o)
+        by None false m = refl
+        by None true m = ap (λ (k : ℕ). Some k) (ap suc (m refl) ∙ later_suc (length ls) (body_length (ls ++ more)))
+        by (Some n) b m = ap (λ (k : ℕ). Some k) (later_suc (length ls) n)
 
 -- ---- the line at which a body ends
 
@@ -313,19 +337,42 @@ module _ (name : Name) (v : Value) where
       → end_among a (c.first ++ added name v ∷ c.more)
       ≡ option_map (later_line (length c.first)) (end_among a (c.first ++ c.more))
   end_moves_among [] ls n c = ap (λ (m : ℕ). Some m) c.moves
-  end_moves_among (p ∷ ps) ls n c = end_moves_in name v (p ∷ ps) start c.first c.more c.each
+  end_moves_among (p ∷ ps) ls n c =
+      moves_by name v (begins (p ∷ ps))
+      (λ r l e. (and_parts (is_header l.content) (same_path (after_line r l).body (p ∷ ps)) e).0) start c.first c.more
+      c.each
+
+  -- with one more line at such a cut
+  lines_at : (ls to : List Line) (n : ℕ) (c : IsCut name v ls n) → to ≡ take n ls ++ added name v ∷ drop n ls
+      → to ≡ c.first ++ added name v ∷ c.more
+  lines_at ls to n c are =
+      let first : take n ls ≡ c.first =
+      ap₂ (λ (k : ℕ) (ls : List Line). take k ls) c.number c.was ∙ take_before c.first c.more in
+      let more : drop n ls ≡ c.more = ap (drop n) c.was ∙ drop_at c.first c.more n (sym c.number) in
+      are ∙ ap₂ (λ (x y : List Line). x ++ added name v ∷ y) first more
 
   -- A document with one more line at such a cut: each end is later as that line makes it.
   pub end_moves : (s to : Document) (n : ℕ) (other : List Part) (m : ℕ) → IsCut name v (lines s) n
       → lines to ≡ take n (lines s) ++ added name v ∷ drop n (lines s) → end_of s other ≡ Some m
       → end_of to other ≡ Some (later_line n m)
   end_moves s to n other m c are before =
-      let first : take n (lines s) ≡ c.first =
-      ap₂ (λ (k : ℕ) (ls : List Line). take k ls) c.number c.was ∙ take_before c.first c.more in
-      let more : drop n (lines s) ≡ c.more =
-      ap (drop n) c.was ∙ drop_at c.first c.more n (sym c.number) in
       end_is_among to other
-      ∙ ap (end_among other) (are ∙ ap₂ (λ (x y : List Line). x ++ added name v ∷ y) first more)
+      ∙ ap (end_among other) (lines_at (lines s) (lines to) n c are)
       ∙ end_moves_among other (lines s) n c
       ∙ ap₂ (λ (k : ℕ) (ls : List Line). option_map (later_line k) (end_among other ls)) (sym c.number) (sym c.was)
       ∙ ap (option_map (later_line n)) (sym (end_is_among s other) ∙ before)
+
+  -- and so is that of the body of the last header that passes a test.
+  pub ends_move : (test : Reading → Line → Bool)
+      → ((r : Reading) (l : Line) → test r l ≡ true → is_header l.content ≡ true) → (ls to : List Line) (n i j : ℕ)
+      → IsCut name v ls n → to ≡ take n ls ++ added name v ∷ drop n ls → last_line test start ls ≡ Some i
+      → last_line test start to ≡ Some j → body_end j to ≡ later_line n (body_end i ls)
+  ends_move test heads ls to n i j c are was now =
+      let both : Some (body_end j to) ≡ Some (later_line n (body_end i ls)) =
+      sym (ap (end_at to) now)
+      ∙ ap (λ (x : List Line). end_at x (last_line test start x)) (lines_at ls to n c are)
+      ∙ moves_by name v test heads start c.first c.more c.each
+      ∙ ap₂ (λ (k : ℕ) (x : List Line). option_map (later_line k) (end_at x (last_line test start x))) (sym c.number)
+      (sym c.was)
+      ∙ ap (λ (o : Option ℕ). option_map (later_line n) (end_at ls o)) was in
+      cc

@@ -3,10 +3,12 @@
 -- They are an empty line, the header and the keyval (`brings_at`), and come after the body of the last header that goes
 -- through the table: the lines before them end in that body, where the reading is as after that header (`reading_is`).
 -- A line comes before them, so the document's newline stays (`newline_stays`). Other lines that were put in before line
--- m are put in three lines later from line n on, at the moved place (`place_after`).
+-- m are put in three lines later from line n on, at the moved place (`starts_at`, `place_after`). The first new line
+-- begins where the change is (`new_start`).
 --
--- Theorems: `brings_at`; `means`, `no_item`, `at_is`, `new_is`, `lines_now`; `last`, `head`, `first_lines`,
--- `rest_lines`, `long`, `body_ends`, `reading_is`; `enough`, `place_after`.
+-- Theorems: `brings_at`; `means`, `no_item`, `changed`, `edited_is`, `length_now`, `at_is`, `new_is`, `new_start`,
+-- `lines_now`; `last`, `head`, `first_lines`, `rest_lines`, `long`, `body_ends`, `reading_is`; `newline_stays`;
+-- `enough`, `starts_at`, `place_after`.
 use Rattle.std.proofs.Common.{◌≡◌, ℕ, zero, suc, ◌+◌, ◌<◌, ◌≤◌, Bool, List, [], ◌∷◌, ◌++◌, length, map, take, drop}
 use Rattle.std.proofs.Common.{true, sym, ap, ◌∙◌, length-append, arith, Some, None, ◌⊎◌, inl, inr}
 use Rattle.std.specs.List.{AllByRecursion}
@@ -22,6 +24,7 @@ use Rattle.keep_meaning.specs.Meaning.{reading_after_lines}
 use Rattle.keep_meaning.specs.Nodes.{has, is_through}
 use Rattle.keep_edit_spec.specs.BroughtHeaders.{BringsHeader}
 use Rattle.keep_edit_spec.specs.Changed.{Place}
+use Rattle.keep_edit_spec.specs.ClearedLines.{line_start}
 use Rattle.keep_edit_spec.specs.Edits.{Edit, at_line, change, edited_document, end_of, insert, name_with, new_header}
 use Rattle.keep_edit_spec.specs.Edits.{new_keyval, place}
 use Rattle.keep_edit_spec.specs.Insertion.{put_in}
@@ -41,8 +44,8 @@ use Rattle.keep_edit_spec.proofs.Remove.RemoveSection.{body_is}
 use Rattle.keep_edit_spec.proofs.Rename.KeyTexts.{key_texts}
 use Rattle.keep_edit_spec.proofs.Lists.BodyEnds.{all_put}
 use Rattle.keep_edit_spec.proofs.Lists.HeaderPlaces.{newline_kept}
-use Rattle.keep_edit_spec.proofs.Lists.Places.{item_none, lines_move, lines_stay, puts_document, puts_place, width}
-use Rattle.keep_edit_spec.proofs.Lists.Places.{with_lines_before}
+use Rattle.keep_edit_spec.proofs.Lists.Places.{earlier, item_none, lines_move, lines_stay, puts_document, puts_place}
+use Rattle.keep_edit_spec.proofs.Lists.Places.{width, with_lines_before}
 
 -- the lines that bring the header of a table
 abbrev pub header_lines : List Part → List (List ℕ) → Value → List Content
@@ -97,14 +100,24 @@ module _ (profile : Profile) (limit : ℕ) (s : Document) (path : List Part) (va
   pub no_item : item_number path ms ≡ None
   no_item = item_none path a h.text h.more h.new ms
 
-  changed : change s (insert path value) ≡ at_line s n (header_lines a keys value)
+  pub changed : change s (insert path value) ≡ at_line s n (header_lines a keys value)
   changed = brings_at s path value h.text h.more h.number h.new h.bare h.no_dots h.last
 
   abbrev pub new_lines : List Ended
   new_lines = map (new_line (newline_of s)) (header_lines a keys value)
 
-  edited_is : now ≡ with_lines_before n new_lines s
+  pub edited_is : now ≡ with_lines_before n new_lines s
   edited_is = puts_document s (insert path value) (header_lines a keys value) n changed h.closed
+
+  pub length_now : length now.ended ≡ 3 + length s.ended
+  length_now =
+      omega (
+        arith,
+        ap (λ (d : Document). length d.ended) edited_is,
+        length-append (take n s.ended) (new_lines ++ drop n s.ended),
+        length-append (take n s.ended) (drop n s.ended),
+        ap (λ (fs : List Ended). length fs) (take-append-drop n s.ended),
+      )
 
   abbrev bom : List ℕ
   bom = text_of (bom_leaves s.bom)
@@ -118,6 +131,12 @@ module _ (profile : Profile) (limit : ℕ) (s : Document) (path : List Part) (va
 
   pub new_is : c.new ≡ ended_text new_lines
   new_is = ap (λ (p : Place). p.new) (sym h.is ∙ placed_at)
+
+  pub new_start : line_start now n ≡ c.at
+  new_start =
+      ap (λ (z : Document). line_start z n) edited_is
+      ∙ ap (λ (es : List Ended). length bom + width es) (earlier n n new_lines s.ended (omega arith) h.closed)
+      ∙ sym at_is
 
   pub lines_now : lines now ≡ take n (lines s) ++ (map line_of new_lines ++ drop n (lines s))
   lines_now = ap lines edited_is ∙ all_put n new_lines s.ended s.last h.closed
@@ -172,7 +191,7 @@ module _ (profile : Profile) (limit : ℕ) (s : Document) (path : List Part) (va
   -- ---- what puts in other lines then
 
   module _ (fine : IsEditable profile limit s) where
-    newline_stays : newline_of now ≡ newline_of s
+    pub newline_stays : newline_of now ≡ newline_of s
     newline_stays =
         ap newline_of edited_is
         ∙ newline_more profile s.bom s.last n new_lines s.ended fine.valid.ended (omega arith) h.closed
@@ -186,16 +205,27 @@ module _ (profile : Profile) (limit : ℕ) (s : Document) (path : List Part) (va
       three_more = elim number [ inl x ↦ omega (arith, x.0) | inr x ↦ omega (arith, x.0) ]
 
       pub enough : j ≤ length now.ended
-      enough =
-          omega (
-            arith,
-            few,
-            three_more,
-            ap (λ (d : Document). length d.ended) edited_is,
-            length-append (take n s.ended) (new_lines ++ drop n s.ended),
-            length-append (take n s.ended) (drop n s.ended),
-            ap (λ (fs : List Ended). length fs) (take-append-drop n s.ended),
-          )
+      enough = omega (arith, few, three_more, length_now)
+
+      moves : (d : TextChange) → d.at ≡ length bom + width (take m s.ended)
+          → length (bom ++ ended_text (take j to)) ≡ moved_by c d.at
+      moves d at = by number
+        where
+          by : ((j ≡ m) × (m < n)) ⊎ ((j ≡ length new_lines + m) × (n ≤ m))
+              → length (bom ++ ended_text (take j to)) ≡ moved_by c d.at
+          by (inl x) =
+              ap (λ (i : ℕ). length (bom ++ ended_text (take i to))) x.0
+              ∙ lines_stay profile bom s.ended fine.valid.ended n m new_lines c d h.closed few h.adds new_is at_is at
+              x.1
+          by (inr x) =
+              ap (λ (i : ℕ). length (bom ++ ended_text (take i to))) x.0
+              ∙ lines_move profile bom s.ended fine.valid.ended n m new_lines c d h.closed few h.adds new_is at_is at
+              x.1
+
+      pub starts_at : (d : TextChange) → d.at ≡ line_start s m → line_start now j ≡ moved_by c d.at
+      starts_at d at =
+          ap (λ (z : Document). line_start z j) edited_is ∙ sym (length-append bom (ended_text (take j to)))
+          ∙ moves d at
 
       pub place_after : (d : TextChange) (e : Edit) (contents : List Content)
           → d.new ≡ ended_text (map (new_line (newline_of s)) contents)
@@ -208,15 +238,4 @@ module _ (profile : Profile) (limit : ℕ) (s : Document) (path : List Part) (va
           (put (newline_of now))) edited_is
           ∙ ap (λ (w : Written). put_in (length (bom ++ ended_text (take j to))) (put w)) newline_stays
           ∙ ap (put_in (length (bom ++ ended_text (take j to)))) (sym line)
-          ∙ ap (λ (i : ℕ). put_in i d.new) (by number)
-        where
-          by : ((j ≡ m) × (m < n)) ⊎ ((j ≡ length new_lines + m) × (n ≤ m))
-              → length (bom ++ ended_text (take j to)) ≡ moved_by c d.at
-          by (inl x) =
-              ap (λ (i : ℕ). length (bom ++ ended_text (take i to))) x.0
-              ∙ lines_stay profile bom s.ended fine.valid.ended n m new_lines c d h.closed few h.adds new_is at_is at
-              x.1
-          by (inr x) =
-              ap (λ (i : ℕ). length (bom ++ ended_text (take i to))) x.0
-              ∙ lines_move profile bom s.ended fine.valid.ended n m new_lines c d h.closed few h.adds new_is at_is at
-              x.1
+          ∙ ap (λ (i : ℕ). put_in i d.new) (moves d at)

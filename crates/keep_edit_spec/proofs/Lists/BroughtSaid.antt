@@ -2,15 +2,16 @@
 --
 -- The header says what the last header that goes through the table said on its way there, and that the table is
 -- defined; all else that is new is at the path of the first new key or under it (`now_is`). So a path that does not
--- begin with that one is a node as before, and has the elements that it had (`node_stays`, `elements_stay`). By the law
--- of `insert` it has the fact that it had, if it is not the table's (`fact_stays`); and the table is neither an array
--- nor an inline table, as before (BracketsStay).
+-- begin with that one is a node as before, and has the elements that it had (`node_stays`, `elements_stay`,
+-- `count_stays`); and any test of what is said of it passes as before, if it is not the table's (`any_stays`). By the
+-- law of `insert` it has the fact that it had, if it is not the table's (`fact_stays`); and the table is neither an
+-- array nor an inline table, as before (BracketsStay).
 --
--- Theorems: `under`: what the keyval says is under the path of the first new key; `elements_stay`, `node_stays`,
--- `fact_stays`, `bracket_same`.
+-- Theorems: `lawful`; `under`: what the keyval says is under the path of the first new key; `any_stays`,
+-- `elements_stay`, `count_stays`, `node_stays`, `fact_stays`, `bracket_same`.
 use Rattle.std.proofs.Common.{◌≡◌, ◌≢◌, ℕ, Bool, true, false, ◌&&◌, ◌||◌, cond, List, [], ◌∷◌, ◌++◌, map}
-use Rattle.std.proofs.Common.{take, drop, refl, sym, ap, subst, ◌∙◌, append_assoc, Some, None, inl, inr}
-use Rattle.std.specs.List.{list_any}
+use Rattle.std.proofs.Common.{take, drop, refl, sym, ap, subst, ◌∙◌, append_assoc, arith, Some, None, inl, inr}
+use Rattle.std.specs.List.{count_by, list_any}
 use Rattle.keep_types.specs.declared.leaf.Profile.{Profile}
 use Rattle.keep_syntax.specs.Tree.{Value, Document}
 use Rattle.keep_path.specs.Path.{Part, key, same_path, strip}
@@ -24,14 +25,16 @@ use Rattle.keep_edit_spec.specs.BroughtHeaders.{BringsHeader}
 use Rattle.keep_edit_spec.specs.Edits.{edited_document, insert, name_with}
 use Rattle.keep_edit_spec.specs.Laws.{IsEditable, IsLawfulEdit}
 use Rattle.keep_edit_spec.specs.Look.{holder, is_bracket_at}
+use Rattle.keep_edit_spec.specs.Runs.{AreApart}
 use Rattle.keep_edit_spec.specs.TextChanges.{TextChange}
 use Rattle.keep_edit_spec.specs.Trees.{a_table, fact_from, from, is_through_alone, source}
 use Rattle.keep_edit_spec.proofs.EditLaws.{insert_lawful}
+use Rattle.keep_edit_spec.proofs.Append.AppendTable.{none_prefixes}
 use Rattle.keep_edit_spec.proofs.Common.Doubles.{has-append, has_doubled, some_has}
 use Rattle.keep_edit_spec.proofs.Common.EntryDepths.{bracket_of}
 use Rattle.keep_edit_spec.proofs.Common.InsertLaw.{keyed_under, under_both}
 use Rattle.keep_edit_spec.proofs.Common.LineLaws.{lines_mentions-append}
-use Rattle.keep_edit_spec.proofs.Common.Runs.{AllOf, IsUnder, kinds_at-under, none_or_some, same_path-sound}
+use Rattle.keep_edit_spec.proofs.Common.Runs.{AllOf, IsUnder, all_join, kinds_at-under, none_or_some, same_path-sound}
 use Rattle.keep_edit_spec.proofs.Common.Runs.{strip_shorter}
 use Rattle.keep_edit_spec.proofs.Insert.InsertDotted.{mentioned_before}
 use Rattle.keep_edit_spec.proofs.Insert.KeysAtEnd.{first_is, path_goes_on}
@@ -40,8 +43,10 @@ use Rattle.keep_edit_spec.proofs.Lists.BroughtLines as brought
 use Rattle.keep_edit_spec.proofs.Lists.BroughtLines.{lines_now, means, no_item}
 use Rattle.keep_edit_spec.proofs.Lists.BroughtWay as way
 use Rattle.keep_edit_spec.proofs.Lists.BroughtWay.{own_keys, own_path, reading_there, section, table_goes, way_doubles}
+use Rattle.keep_edit_spec.proofs.Lists.HeaderWay.{IsOnWay, on_way, silent_beside}
 use Rattle.keep_edit_spec.proofs.Lists.SaidOfPrefixes.{node_kinds}
-use Rattle.keep_edit_spec.proofs.Lists.SaidOnWay.{kinds_replaced}
+use Rattle.keep_edit_spec.proofs.Lists.SaidOnWay.{count-append, count_at, kinds_replaced, none_counted}
+use Rattle.keep_edit_spec.proofs.Rename.RenamedPath.{strip_more}
 
 -- ---- of mentions
 
@@ -161,7 +166,7 @@ module _ (profile : Profile) (limit : ℕ) (s : Document) (path : List Part) (va
       any_kind is_through (kinds_at a early)
       (some_has is_through a early (table_goes profile limit s path value c fine h))
 
-  lawful : IsLawfulEdit profile limit s (insert path value)
+  pub lawful : IsLawfulEdit profile limit s (insert path value)
   lawful = insert_lawful profile limit s path value fine h.given h.utf8 h.allowed
 
   -- ---- of a path that does not begin with that of the first new key
@@ -172,7 +177,7 @@ module _ (profile : Profile) (limit : ℕ) (s : Document) (path : List Part) (va
         ap (kinds_at q) now_is
         ∙ kinds_replaced q (early ++ put) (run inner) [] late (kinds_at-under first q (run inner) (under inner) clear)
 
-    any_stays : (test : MentionKind → Bool)
+    pub any_stays : (test : MentionKind → Bool)
         → (same_path a q ≡ true → test define ≡ true → has test q early ≡ true)
         → has test q (mentions_in now) ≡ has test q ms
     any_stays test only =
@@ -185,6 +190,22 @@ module _ (profile : Profile) (limit : ℕ) (s : Document) (path : List Part) (va
 
     pub elements_stay : has is_element q (mentions_in now) ≡ has is_element q ms
     elements_stay = any_stays is_element (λ e f. absurd cc)
+
+    -- as many elements are said
+    pub count_stays : count_by is_element (kinds_at q (mentions_in now)) ≡ count_by is_element (kinds_at q ms)
+    count_stays =
+        let none : count_at is_element q put ≡ 0 =
+        none_counted is_element q put
+        (all_join (λ m. is_element m.kind ≡ false) doubles (own ∷ []) (none_prefixes r.tables [] heads) (refl, tt)) in
+        omega (
+          arith,
+          ap (count_by is_element) kinds_now,
+          count-append is_element q (early ++ put) late,
+          count-append is_element q early put,
+          none,
+          ap (count_at is_element q) was,
+          count-append is_element q early late,
+        )
 
     pub node_stays : is_node q (mentions_in now) ≡ is_node q ms
     node_stays =
@@ -226,3 +247,24 @@ module _ (profile : Profile) (limit : ℕ) (s : Document) (path : List Part) (va
     bracket_same =
         ap bracket_of (lawful.tree q)
         ∙ brackets_stay ms path value q (no_item profile limit s path value c h) path_clear
+
+  -- ---- of a path that is no beginning of that one either
+
+  module _ (q : List Part) (apart : AreApart first q) where
+    pub table_clear : strip q a ≡ None
+    table_clear = elim (none_or_some (strip q a)) [
+      | inl e ↦ e
+      | inr r ↦
+          let on : strip q first ≡ Some (r.0 ++ key h.text ∷ []) =
+          ap (strip q) (first_is s path h.text h.more h.new) ∙ strip_more q a (key h.text ∷ []) r.0 r.1 in
+          let no : None ≡ Some (r.0 ++ key h.text ∷ []) = sym apart.1 ∙ on in
+          absurd cc
+    ]
+
+    pub kinds_apart : kinds_at q (mentions_in now) ≡ kinds_at q ms
+    kinds_apart =
+        let on : AllOf (IsOnWay a) put =
+        subst (λ (p : List Part). AllOf (IsOnWay p) (doubles ++ record { path = p; kind = define } ∷ []))
+        (own_path profile limit s path value c fine h) (on_way r.tables heads define) in
+        kinds_now q apart.0 ∙ ap (kinds_at q) (append_assoc early put late)
+        ∙ kinds_replaced q early put [] late (silent_beside a q put table_clear on) ∙ ap (kinds_at q) (sym was)

@@ -4,7 +4,7 @@
 -- that is not the last of its body becomes blank (`length_cleared`). The line begins no body and leaves the reading as
 -- it is, before and after. So each end is the same, unless it is right after the line (`end_cleared`).
 --
--- Theorem: `end_cleared`.
+-- Theorems: `end_cleared`; `body_end_cleared`: of the body that begins after any line.
 use Rattle.std.proofs.Common.{◌≡◌, ◌≢◌, ℕ, zero, suc, Bool, true, false, ◌&&◌, List, [], ◌∷◌, ◌++◌, length, refl, sym}
 use Rattle.std.proofs.Common.{ap, ap₂, ◌∙◌, Option, Some, None}
 use Rattle.std.specs.Option.{option_map}
@@ -13,10 +13,11 @@ use Rattle.keep_path.specs.Path.{Part, same_path}
 use Rattle.keep_meaning.specs.Marks.{Reading, start}
 use Rattle.keep_meaning.specs.Meaning.{after_line, lines}
 use Rattle.keep_edit_spec.specs.Edits.{end_of}
-use Rattle.keep_edit_spec.specs.Lines.{begins, body_length, is_header, more_lines}
+use Rattle.keep_edit_spec.specs.Lines.{begins, body_end, body_length, is_header, more_lines}
 use Rattle.keep_edit_spec.proofs.Common.LineTexts.{cleared}
 use Rattle.keep_edit_spec.proofs.Common.SetDocument.{reading_of}
-use Rattle.keep_edit_spec.proofs.Lists.BodyEnds.{end_among, end_cons, end_in, end_is_among, end_or, length_after}
+use Rattle.keep_edit_spec.proofs.Lists.BodyEnds.{end_among, end_cons, end_first, end_in, end_is_among, end_next, end_or}
+use Rattle.keep_edit_spec.proofs.Lists.BodyEnds.{length_after}
 
 -- from the length of the lines after the first
 length_step : (x : Content) (m b n : ℕ) → (m ≢ suc n → b ≡ m) → length_after x m ≢ suc (suc n)
@@ -53,6 +54,19 @@ module _ (x : Line) (name : Name) (v : Value) (is : x.content ≡ keyval name v)
   length_cleared (l ∷ pre) post h =
       length_step l.content (body_length (pre ++ x ∷ post)) (body_length (pre ++ y ∷ post)) (length pre)
       (length_cleared pre post) h
+
+  -- of the body that begins after any line
+  pub body_end_cleared : (pre post : List Line) (i : ℕ) → body_end i (pre ++ x ∷ post) ≢ suc (length pre)
+      → body_end i (pre ++ y ∷ post) ≡ body_end i (pre ++ x ∷ post)
+  body_end_cleared [] post i h = refl
+  body_end_cleared (l ∷ pre) post zero h =
+      let long : body_end 0 (l ∷ (pre ++ x ∷ post)) ≡ suc (body_length (pre ++ x ∷ post)) =
+      end_first l (pre ++ x ∷ post) in
+      end_first l (pre ++ y ∷ post) ∙ ap suc (length_cleared pre post (λ e. h (long ∙ ap suc e))) ∙ sym long
+  body_end_cleared (l ∷ pre) post (suc i) h =
+      let long : body_end (suc i) (l ∷ (pre ++ x ∷ post)) ≡ suc (body_end i (pre ++ x ∷ post)) =
+      end_next i l (pre ++ x ∷ post) in
+      end_next i l (pre ++ y ∷ post) ∙ ap suc (body_end_cleared pre post i (λ e. h (long ∙ ap suc e))) ∙ sym long
 
   ends_cleared : (a : List Part) (r : Reading) (pre post : List Line)
       → ((i : ℕ) → end_in a r (pre ++ x ∷ post) ≡ Some i → i ≢ suc (length pre))

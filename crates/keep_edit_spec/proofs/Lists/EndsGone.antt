@@ -6,7 +6,8 @@
 -- begins after them ends as many lines earlier as go (`ends_past`). It ends after its own header, thus not right where
 -- the table began.
 --
--- Theorems: `end_without`, `none_without`: without such lines in a row; `end_now`, `none_now`: without a table.
+-- Theorems: `end_without`, `none_without`: without such lines in a row; `end_now`, `none_now`: without a table;
+-- `few_now`, `at_now`: the line at an end.
 use Rattle.std.proofs.Common.{◌≡◌, ◌≢◌, ℕ, suc, ◌+◌, ◌<◌, ◌≤◌, Bool, true, false, List, [], ◌∷◌, ◌++◌, length}
 use Rattle.std.proofs.Common.{map, refl, sym, ap, ap₂, subst, ◌∙◌, arith, Option, Some, None, ◌⊎◌, inl, inr}
 use Rattle.std.specs.Prelude.{⊤}
@@ -18,11 +19,12 @@ use Rattle.keep_syntax.specs.Tree.{Line, Document}
 use Rattle.keep_path.specs.Path.{Part, same_path}
 use Rattle.keep_meaning.specs.Marks.{Reading, start}
 use Rattle.keep_meaning.specs.Meaning.{after_line, line_of, lines, reading_after_lines}
+use Rattle.keep_edit_spec.specs.ClearedLines.{line_start}
 use Rattle.keep_edit_spec.specs.Edits.{end_of}
 use Rattle.keep_edit_spec.specs.Laws.{IsEditable}
 use Rattle.keep_edit_spec.specs.Lines.{begins, body_length, is_header, last_line}
 use Rattle.keep_edit_spec.specs.RemovedSections.{RemovesSection}
-use Rattle.keep_edit_spec.specs.TextChanges.{TextChange}
+use Rattle.keep_edit_spec.specs.TextChanges.{IsBeside, TextChange, moved_by}
 use Rattle.keep_edit_spec.proofs.Common.BodyEnd.{body_few}
 use Rattle.keep_edit_spec.proofs.Common.HeadersGo.{last_goes}
 use Rattle.keep_edit_spec.proofs.Common.Runs.{same_path-sound}
@@ -225,3 +227,32 @@ module _ (profile : Profile) (limit : ℕ) (s : Document) (path : List Part) (c 
       (end_without taken after over over_now s now pre
       (table.lines_were profile limit s path c fine h) (table.lines_are profile limit s path c fine h) a i
       leaves_headers ends))
+
+-- ---- an end then
+
+module _ (profile : Profile) (limit : ℕ) (s : Document) (path : List Part) (c : TextChange)
+    (fine : IsEditable profile limit s) (h : RemovesSection profile limit s path c) (was j : ℕ)
+    (moves : MovesBack (table.n profile limit s path c fine h) (table.gone profile limit s path c fine h) was j) where
+  pub few_now : was ≤ length s.ended → j ≤ length (table.now profile limit s path c fine h).ended
+  few_now few =
+      let count = table.few profile limit s path c fine h in
+      let length_was = table.length_was profile limit s path c fine h in
+      elim moves [
+        | inl to ↦ omega (arith, to.0, to.1, count, length_was)
+        | inr from ↦ omega (arith, from.0, few, length_was)
+      ]
+
+  -- what is put in there is beside what goes
+  pub at_now : (d : TextChange) → IsBeside c d → d.at ≡ line_start s was
+      → line_start (table.now profile limit s path c fine h) j ≡ moved_by c d.at
+  at_now d beside d_at = elim moves [
+    | inl to ↦
+        let apart : was ≢ table.n profile limit s path c fine h =
+        λ e. table.begins_elsewhere profile limit s path c fine h d beside
+        (table.start_is profile limit s path c fine h ∙ ap (line_start s) (sym e) ∙ sym d_at) in
+        sym (table.at_before profile limit s path c fine h j d.at (omega (arith, to.0, to.1, apart))
+        (d_at ∙ ap (line_start s) to.0))
+    | inr from ↦
+        sym (table.at_from profile limit s path c fine h j d.at (omega (arith, from.1))
+        (d_at ∙ ap (line_start s) from.0))
+  ]

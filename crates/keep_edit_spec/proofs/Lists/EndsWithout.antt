@@ -5,7 +5,7 @@
 -- begins no body and leaves the reading as it is. So each end moves back as a line does, unless it is right after the
 -- line (`end_without`).
 --
--- Theorem: `end_without`.
+-- Theorems: `end_without`; `body_end_without`: of the body that begins after any line.
 use Rattle.std.proofs.Common.{◌≡◌, ◌≢◌, ℕ, zero, suc, Bool, true, false, ◌&&◌, List, [], ◌∷◌, ◌++◌, length, refl, sym}
 use Rattle.std.proofs.Common.{ap, ap₂, ◌∙◌, arith, Option, Some, None, inl, inr}
 use Rattle.std.specs.Option.{option_map}
@@ -15,10 +15,10 @@ use Rattle.keep_path.specs.Path.{Part, same_path}
 use Rattle.keep_meaning.specs.Marks.{Reading, start}
 use Rattle.keep_meaning.specs.Meaning.{after_line, lines}
 use Rattle.keep_edit_spec.specs.Edits.{end_of}
-use Rattle.keep_edit_spec.specs.Lines.{begins, body_length, is_header}
+use Rattle.keep_edit_spec.specs.Lines.{begins, body_end, body_length, is_header}
 use Rattle.keep_edit_spec.proofs.Common.SetDocument.{reading_of}
-use Rattle.keep_edit_spec.proofs.Lists.BodyEnds.{end_among, end_cons, end_in, end_is_among, end_or, later_before}
-use Rattle.keep_edit_spec.proofs.Lists.BodyEnds.{later_from, later_suc, length_after}
+use Rattle.keep_edit_spec.proofs.Lists.BodyEnds.{end_among, end_cons, end_first, end_in, end_is_among, end_next, end_or}
+use Rattle.keep_edit_spec.proofs.Lists.BodyEnds.{later_before, later_from, later_suc, length_after}
 use Rattle.keep_edit_spec.proofs.Lists.Places.{later_line}
 
 -- ---- one body
@@ -79,6 +79,29 @@ module _ (x : Line) (name : Name) (v : Value) (is : x.content ≡ keyval name v)
   length_without (l ∷ pre) post h =
       length_step l.content (body_length (pre ++ x ∷ post)) (body_length (pre ++ post)) (length pre)
       (length_without pre post) h
+
+  -- of the body that begins after any line
+  pub body_end_without : (pre post : List Line) (i : ℕ)
+      → body_end (later_line (length pre) i) (pre ++ x ∷ post) ≢ suc (length pre)
+      → body_end (later_line (length pre) i) (pre ++ x ∷ post) ≡ later_line (length pre) (body_end i (pre ++ post))
+  body_end_without [] post i h =
+      ap (λ (k : ℕ). body_end k (x ∷ post)) (later_from 0 i (omega arith)) ∙ end_next i x post
+      ∙ sym (later_from 0 (body_end i post) (omega arith))
+  body_end_without (l ∷ pre) post zero h =
+      let n : ℕ = length pre in
+      let long : body_end (later_line (suc n) 0) (l ∷ (pre ++ x ∷ post)) ≡ suc (body_length (pre ++ x ∷ post)) =
+      ap (λ (k : ℕ). body_end k (l ∷ (pre ++ x ∷ post))) (later_before (suc n) 0 (omega arith))
+      ∙ end_first l (pre ++ x ∷ post) in
+      long ∙ ap suc (length_without pre post (λ e. h (long ∙ ap suc e))) ∙ later_suc n (body_length (pre ++ post))
+      ∙ ap (later_line (suc n)) (sym (end_first l (pre ++ post)))
+  body_end_without (l ∷ pre) post (suc i) h =
+      let n : ℕ = length pre in
+      let long : body_end (later_line (suc n) (suc i)) (l ∷ (pre ++ x ∷ post))
+      ≡ suc (body_end (later_line n i) (pre ++ x ∷ post)) =
+      ap (λ (k : ℕ). body_end k (l ∷ (pre ++ x ∷ post))) (sym (later_suc n i))
+      ∙ end_next (later_line n i) l (pre ++ x ∷ post) in
+      long ∙ ap suc (body_end_without pre post i (λ e. h (long ∙ ap suc e))) ∙ later_suc n (body_end i (pre ++ post))
+      ∙ ap (later_line (suc n)) (sym (end_next i l (pre ++ post)))
 
   ends_without : (a : List Part) (r : Reading) (pre post : List Line)
       → ((i : ℕ) → end_in a r (pre ++ x ∷ post) ≡ Some i → i ≢ suc (length pre))

@@ -18,13 +18,14 @@ use Rattle.keep_types.specs.declared.leaf.Profile.{Profile}
 use Rattle.keep_syntax.specs.Tree.{Document, Value, text}
 use Rattle.keep_path.specs.Path.{Part, beside, key, strip}
 use Rattle.keep_edit_spec.specs.AddedLines.{first_new}
-use Rattle.keep_edit_spec.specs.DottedLines.{AddedAt, IsAfter, added_at, into_dotted}
+use Rattle.keep_edit_spec.specs.InsertKinds.{Added, IsAfterLine, added_as, kind_of}
 use Rattle.keep_edit_spec.specs.Edits.{Edit, append_element, append_table, edited_document, insert, remove, rename, set}
 use Rattle.keep_edit_spec.specs.Laws.{IsEditable}
 use Rattle.keep_edit_spec.specs.Look.{key_text, keys_in}
 use Rattle.keep_edit_spec.specs.RunLists.{MadeEdit, lines_of, made, seen_of}
 use Rattle.keep_edit_spec.specs.Runs.{AreApart, ArePlain, IsBeforeHeaders, IsInOrder, IsPlain, IsPlainBefore}
-use Rattle.keep_edit_spec.specs.Runs.{IsSeenStill, KeepsPlace, LeavesAlone, LetsCome, MakesChange}
+use Rattle.keep_edit_spec.specs.Runs.{IsSeenStill, KeepsPlace, LeavesAlone, LetsCome, LetsTable, MakesChange}
+use Rattle.keep_edit_spec.specs.Runs.{PassesTable}
 use Rattle.keep_edit_spec.specs.Runs.{PassesBy, is_header, is_insert, is_new_after, seen, takes_up_to, with_line}
 use Rattle.keep_edit_spec.specs.SetValues.{SetsValue}
 use Rattle.keep_edit_spec.specs.TextChanges.{IsBeside, TextChange, change_at, moved}
@@ -32,7 +33,8 @@ use Rattle.keep_edit_spec.proofs.Insert.KeysAtEnd.{path_goes_on}
 use Rattle.keep_edit_spec.proofs.Lists.ApartPaths.{apart_renamed}
 use Rattle.keep_edit_spec.proofs.Lists.ExchangedChanges.{IsAmong, all_before, all_from, all_join}
 use Rattle.keep_edit_spec.proofs.Lists.NewHolder.{apart_under, clear_under}
-use Rattle.keep_edit_spec.proofs.Lists.NewPaths.{InsertsKeys, any_keys, first_clear}
+use Rattle.keep_edit_spec.proofs.Lists.LineKinds.{keys_of_line}
+use Rattle.keep_edit_spec.proofs.Lists.NewPaths.{InsertsKeys, first_clear}
 use Rattle.keep_edit_spec.proofs.Lists.RunLaws.{same_seen}
 use Rattle.keep_edit_spec.proofs.Lists.SetAfterRename.{set_after_rename}
 use Rattle.keep_edit_spec.proofs.Lists.StillMakes.{still_makes}
@@ -102,8 +104,8 @@ module _ (profile : Profile) (limit : ℕ) (s now : Document) (path : List Part)
   -- The set makes its change after an edit that the insert leaves alone.
   pub set_still : (f : Edit) (x z : TextChange) → MakesChange profile limit s f z
       → LeavesAlone (seen s (insert path value)) (seen s f) → IsSetStill f x
-  set_still (insert other new) x z (to, k) alone =
-      let its : InsertsKeys profile limit s other new = any_keys profile limit s other new z to k in
+  set_still (insert other new) x z (kind, k) alone =
+      let its : InsertsKeys profile limit s other new = keys_of_line kind profile limit s other new z k in
       by_laws (insert other new) x
       (whole_apart profile limit s path value own (first_new s other) (
         first_clear profile limit s path value other new own its alone,
@@ -158,7 +160,7 @@ pub lines_more : (s : Document) (path : List Part) (value more : Value) (c d : T
     → (later earlier : List MadeEdit) → lines_of s (later ++ made (insert path value) c ∷ earlier)
     ≡ lines_of s (later ++ made (insert path more) d ∷ earlier)
 lines_more s path value more c d at [] earlier =
-    ap (λ (n : ℕ). record { first = first_new s path; at = n; dotted = into_dotted s path } ∷ lines_of s earlier) at
+    ap (λ (n : ℕ). record { first = first_new s path; at = n; kind = kind_of s path } ∷ lines_of s earlier) at
 lines_more s path value more c d at (x ∷ later) earlier =
     ap (with_line s x.edit x.change) (lines_more s path value more c d at later earlier)
 
@@ -235,10 +237,14 @@ module _ (c d : TextChange) (at : c.at ≡ d.at) (none : c.size ≡ 0) (no_size 
           → All P edits
       all_more P on = each_more s P (made (insert path value) c) (made (insert path more) d) later earlier on
 
-      order_more : (line : AddedAt) → IsInOrder (lines_of s ms) xs line → IsInOrder (lines_of s others) ys line
+      each_line : (P : Added → Type 0) → All P (lines_of s ms) → All P (lines_of s others)
+      each_line P = subst (All P) (lines_more s path value more c d at later earlier)
+
+      order_more : (line : Added) → IsInOrder was xs (lines_of s ms) line → IsInOrder edits ys (lines_of s others) line
       order_more line order = record {
-        after = subst (All (λ l. IsAfter l line)) (lines_more s path value more c d at later earlier) order.after;
+        after = each_line (λ l. IsAfterLine l line) order.after;
         stays = λ is. sym (takes_alike line.at) ∙ order.stays is;
+        passed = all_more (LetsTable line) (λ one. one) order.passed;
       }
 
       placed_header : (x : TextChange) → IsPlain d.new
@@ -263,12 +269,14 @@ module _ (c d : TextChange) (at : c.at ≡ d.at) (none : c.size ≡ 0) (no_size 
       pub placed_more : (f : Edit) (x : TextChange) → AreAlike f → KeepsPlace s was xs (lines_of s ms) f x
           → KeepsPlace s edits ys (lines_of s others) f x
       placed_more (insert other new) x alike (order, h) = (
-        order_more (added_at s other x (into_dotted s other)) order,
+        order_more (added_as s other x) order,
         placed_line x (elim alike [ inl plain ↦ inl plain | inr (line, all) ↦ inr all ]) h,
       )
-      placed_more (append_table keys) x (inl plain) h = placed_header x plain h
+      placed_more (append_table keys) x (inl plain) h =
+          (each_line (PassesTable keys) h.0, placed_header x plain h.1)
       placed_more (append_table keys) x (inr (own, all)) h = no_insert own
-      placed_more (append_element keys) x (inl plain) h = placed_header x plain h
+      placed_more (append_element keys) x (inl plain) h =
+          (each_line (PassesTable keys) h.0, placed_header x plain h.1)
       placed_more (append_element keys) x (inr (own, all)) h = no_insert own
       placed_more (remove other) x alike h = tt
       placed_more (set other new) x alike h = tt

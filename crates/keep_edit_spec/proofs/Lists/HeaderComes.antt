@@ -1,14 +1,18 @@
 -- A header that an append writes at the end of a text that ends in a newline, of a table or of an element.
 --
 -- All that another edit asks of it is in `HeaderComes`: what it says is said after the rest, and has paths that its
--- keys lead to (HeaderSays); it states nothing of a table that is made in the document (HeaderNew), so it begins no
--- body of that table (`not_begun`); it comes before the last line (HeaderLines), where the change is stated to be, at
+-- keys lead to (HeaderSays), so it states nothing of another (`states_nothing`) and does not go through it
+-- (`not_through`); it states nothing of a table that is made in the document (HeaderNew), so it begins no body of that
+-- table (`begins_none`, `not_begun`); it comes before the last line (HeaderLines), where the change is stated to be, at
 -- the end of the text (`comes_at`); and it has no value, nor a key part that leads to a path that its keys pass by.
 --
--- Theorems: `table_comes`, `element_comes`; `after_header`, `comes_at`, `not_begun`, `values_pass`.
-use Rattle.std.proofs.Common.{◌≡◌, ℕ, Bool, true, false, List, [], ◌∷◌, ◌++◌, length, map, refl, sym, ap, subst, ◌∙◌}
-use Rattle.std.proofs.Common.{Option, Some, None}
+-- Theorems: `table_comes`, `element_comes`; `after_header`, `comes_at`, `states_nothing`, `begins_none`, `not_begun`,
+-- `not_through`; `values_pass`.
+use Rattle.std.proofs.Common.{◌≡◌, ℕ, Bool, true, false, ◌&&◌, List, [], ◌∷◌, ◌++◌, length, map, refl, sym, ap, subst}
+use Rattle.std.proofs.Common.{◌∙◌, Option, Some, None}
 use Rattle.std.specs.Prelude.{position}
+use Rattle.std.specs.List.{list_any}
+use Rattle.std.proofs.Math.Bool.{and-false}
 use Rattle.keep_types.specs.declared.leaf.Profile.{Profile}
 use Rattle.keep_syntax.specs.Tree.{Content, Document, Line, blank, comment_leaves, element, header, text}
 use Rattle.keep_syntax.specs.Tree.{text_of}
@@ -17,12 +21,14 @@ use Rattle.keep_path.specs.Path.{Part, same_path}
 use Rattle.keep_meaning.specs.Marks as marks_of
 use Rattle.keep_meaning.specs.Marks.{Mention, Reading, Statement, header_path, marks, start, statement_mentions}
 use Rattle.keep_meaning.specs.Meaning.{keys_of, line_mentions, line_of, lines, mentions_in, reading_after_lines}
+use Rattle.keep_meaning.specs.Nodes.{has, is_through}
 use Rattle.keep_meaning.specs.Rules.{ObeysRules}
 use Rattle.keep_edit_spec.specs.AppendedHeaders.{AppendsElement, AppendsTable}
 use Rattle.keep_edit_spec.specs.Changed.{Changed, Place, place_of, within}
 use Rattle.keep_edit_spec.specs.Edits.{append, changed_or_same, key_with}
 use Rattle.keep_edit_spec.specs.Laws.{IsEditable}
-use Rattle.keep_edit_spec.specs.Lines.{begins, in_content, in_line, key_prefixes, part_paths, plain_line}
+use Rattle.keep_edit_spec.specs.Lines.{begins, in_content, in_line, is_header, key_prefixes, leads_through, part_paths}
+use Rattle.keep_edit_spec.specs.Lines.{plain_line}
 use Rattle.keep_edit_spec.specs.Runs.{PassesBy}
 use Rattle.keep_edit_spec.specs.Refusals.{conflict, end_reading, tables_in}
 use Rattle.keep_edit_spec.specs.TextChanges.{TextChange, place_of_change}
@@ -34,10 +40,11 @@ use Rattle.keep_edit_spec.proofs.Append.AppendTable.{no_conflict, tables_stated}
 use Rattle.keep_edit_spec.proofs.Common.BodyEnd.{IsStated, begins_stated}
 use Rattle.keep_edit_spec.proofs.Common.Marks.{rules_of_document}
 use Rattle.keep_edit_spec.proofs.Common.NewLines.{key_means}
-use Rattle.keep_edit_spec.proofs.Common.Runs.{AllOf, Rules, SomeOf, meet}
+use Rattle.keep_edit_spec.proofs.Common.Runs.{AllOf, Rules, SomeOf, all_map, meet}
 use Rattle.keep_edit_spec.proofs.Lists.HeaderLines.{FindsNothing, append_is, headed, last_blank}
 use Rattle.keep_edit_spec.proofs.Lists.HeaderNew.{IsMadeIn, StatesNothing, element_new, not_stated, table_new}
-use Rattle.keep_edit_spec.proofs.Lists.HeaderSays.{IsOfHeader, element_own, not_named, table_own}
+use Rattle.keep_edit_spec.proofs.Lists.HeaderSays.{IsOfHeader, element_own, not_at, not_named, nothing_there}
+use Rattle.keep_edit_spec.proofs.Lists.HeaderSays.{table_own}
 use Rattle.keep_edit_spec.proofs.Lists.StillAppends.{said}
 use Rattle.keep_edit_spec.proofs.Rename.KeyTexts.{key_texts}
 
@@ -68,7 +75,12 @@ module _ (s : Document) (keys : List (List ℕ)) (c : TextChange) (content : Con
         (sym h.is ∙ ap (λ (o : Option (Changed Document)). place_of (changed_or_same s o)) (sym h.made)
         ∙ append_place profile s valid content)
 
-    -- It begins no body of a table that is made in the document.
+    -- It states nothing of a path that its keys do not lead to.
+    pub states_nothing : (a : List Part) → PassesBy keys a → AllOf (StatesNothing a) h.own
+    states_nothing a clear =
+        all_map (IsOfHeader keys) (StatesNothing a) (λ m of_header e. absurd (not_at keys a m clear of_header e)) h.own
+        h.of_header
+
     abbrev at_end : Reading
     at_end = reading_after_lines start (map line_of s.ended)
 
@@ -79,17 +91,30 @@ module _ (s : Document) (keys : List (List ℕ)) (c : TextChange) (content : Con
         ∙ ap (λ (x : Content). reading_after_lines at_end (plain_line x ∷ [])) h.empty))
         ∙ tables_stated start (lines s)
 
-    pub not_begun : (a : List Part) → IsMadeIn a (mentions_in s) → begins a at_end (plain_line content) ≡ false
-    not_begun a made = by (begins a at_end (plain_line content)) refl
+    -- It begins no body of a path of which it states nothing.
+    pub begins_none : (a : List Part) → AllOf (StatesNothing a) h.own → begins a at_end (plain_line content) ≡ false
+    begins_none a nothing = by (begins a at_end (plain_line content)) refl
       where
         by : (b : Bool) → begins a at_end (plain_line content) ≡ b → b ≡ false
         by false e = refl
         by true e =
-            let (m, stated, nothing) =
+            let (m, stated, other) =
             meet (IsStated a) (StatesNothing a) h.own
             (subst (SomeOf (IsStated a)) (h.stated at_end tables) (begins_stated a at_end (plain_line content) e))
-            (h.new a made) in
-            absurd (not_stated a m stated nothing)
+            nothing in
+            absurd (not_stated a m stated other)
+
+    -- nor one of a table that is made in the document
+    pub not_begun : (a : List Part) → IsMadeIn a (mentions_in s) → begins a at_end (plain_line content) ≡ false
+    not_begun a made = begins_none a (h.new a made)
+
+    -- It goes through no path that its keys do not lead to.
+    pub not_through : (a : List Part) → PassesBy keys a → leads_through a at_end (plain_line content) ≡ false
+    not_through a clear =
+        ap (λ (b : Bool). is_header content && b)
+        (ap (has is_through a) (h.stated at_end tables)
+        ∙ ap (list_any is_through) (nothing_there keys a h.own clear h.of_header))
+        ∙ and-false (is_header content)
 
 -- A search in values passes it.
 pub values_pass : (s : Document) (keys : List (List ℕ)) (c : TextChange) (content : Content)

@@ -3,17 +3,21 @@
 -- The lines that come, and the last line, which is blank, are none of a body that began before: blank lines at the end
 -- do not count, and a header ends the body before it. So a body's length is the same (`lengths_same`), and so is its
 -- end, if the header does not begin it once more (`ends_same`, both by induction over the lines). Nor do the new lines
--- lead through a path by dots, so the last line that does is the same (`leads_headed`).
+-- lead through a path by dots, so the last line that does is the same (`leads_headed`); and so is the last header that
+-- goes through a path, if the new one does not (`through_headed`).
 --
--- Theorems: `lengths_same`, `last_headed`, `leads_headed`, `end_headed`.
-use Rattle.std.proofs.Common.{◌≡◌, ℕ, Bool, true, false, List, [], ◌∷◌, ◌++◌, map, refl, sym, ap, ap₂, ◌∙◌, Option}
-use Rattle.std.proofs.Common.{Some, None}
+-- Theorems: `lengths_same`, `last_headed`, `leads_headed`, `through_headed`, `end_headed`, `body_end_headed`.
+use Rattle.std.proofs.Common.{◌≡◌, ℕ, suc, ◌+◌, ◌≤◌, Bool, true, false, ◌&&◌, List, [], ◌∷◌, ◌++◌, length, map, drop}
+use Rattle.std.proofs.Common.{refl, sym, ap, ap₂, ◌∙◌, arith, Option, Some, None}
+use Rattle.std.proofs.lemmas.List.{drop-append-le, length-map}
 use Rattle.keep_syntax.specs.Tree.{Content, Document, Line, blank, element, header, keyval}
 use Rattle.keep_path.specs.Path.{Part}
 use Rattle.keep_meaning.specs.Marks.{Reading, start}
-use Rattle.keep_meaning.specs.Meaning.{after_line, line_of, lines, reading_after_lines}
+use Rattle.keep_meaning.specs.Meaning.{after_line, line_mentions, line_of, lines, reading_after_lines}
+use Rattle.keep_meaning.specs.Nodes.{has, is_through}
 use Rattle.keep_edit_spec.specs.Edits.{end_of}
-use Rattle.keep_edit_spec.specs.Lines.{begins, body_length, is_header, last_line, leads_dotted, more_lines, plain_line}
+use Rattle.keep_edit_spec.specs.Lines.{begins, body_end, body_length, is_header, last_line, leads_dotted}
+use Rattle.keep_edit_spec.specs.Lines.{leads_through, more_lines, plain_line}
 use Rattle.keep_edit_spec.proofs.Lists.BodyEnds.{end_at, end_cons, end_in, end_or, header_none, length_after}
 use Rattle.keep_edit_spec.proofs.Lists.HeaderLines.{headed, last_before, lines_are, not_last, put_is}
 
@@ -38,6 +42,9 @@ none_begins a r l e = ap (λ (x : Content). begins a r (plain_line x)) e
 
 none_leads : (a : List Part) (r : Reading) (l : Line) → l.content ≡ blank → leads_dotted a r l ≡ false
 none_leads a r l e = ap (λ (x : Content). leads_dotted a r (plain_line x)) e
+
+none_through : (a : List Part) (r : Reading) (l : Line) → l.content ≡ blank → leads_through a r l ≡ false
+none_through a r l e = ap (λ (x : Content). is_header x && has is_through a (line_mentions r l)) e
 
 header_leads : (a : List Part) (r : Reading) (c : Content) → is_header c ≡ true
     → leads_dotted a r (plain_line c) ≡ false
@@ -97,7 +104,23 @@ module _ (s : Document) (content : Content) (empty : s.last.content ≡ blank) (
       → last_line (leads_dotted a) start (lines (headed s content).to) ≡ last_line (leads_dotted a) start (lines s)
   leads_headed a = last_now (leads_dotted a) (none_leads a) (header_leads a at_end content is)
 
+  -- the last header that goes through a path
+  pub through_headed : (a : List Part) → leads_through a at_end (plain_line content) ≡ false
+      → last_line (leads_through a) start (lines (headed s content).to) ≡ last_line (leads_through a) start (lines s)
+  through_headed a other = last_now (leads_through a) (none_through a) other
+
   -- ---- the ends
+
+  -- of the body of a line with a newline
+  pub body_end_headed : (i : ℕ) → suc i ≤ length s.ended
+      → body_end i (lines (headed s content).to) ≡ body_end i (lines s)
+  body_end_headed i few =
+      let within : suc i ≤ length first = omega (arith, few, length-map s.ended line_of) in
+      ap (body_end i) now_are
+      ∙ ap (λ (n : ℕ). suc i + n)
+      (ap body_length (drop-append-le (suc i) first more within)
+      ∙ lengths_same (drop (suc i) first) more last none_more
+      ∙ ap body_length (sym (drop-append-le (suc i) first last within)))
 
   none_begun : (a : List Part) → begins a at_end (plain_line content) ≡ false
       → end_in a at_end more ≡ end_in a at_end last

@@ -5,7 +5,7 @@
 -- (`nothing_there`), and none of its key parts leads to such a path (`not_named`). What it says of any path states at
 -- most a table, so as many arrays and inline tables are known as before (`bracket_same`).
 --
--- Theorems: `table_own`, `element_own`; `kinds_same`, `bracket_same`, `not_named`.
+-- Theorems: `table_own`, `element_own`; `not_at`, `nothing_there`, `kinds_same`, `bracket_same`, `not_named`.
 use Rattle.std.proofs.Common.{◌≡◌, ℕ, Bool, true, false, cond, List, [], ◌∷◌, ◌++◌, map, refl, sym, ap, ◌∙◌, Option}
 use Rattle.std.proofs.Common.{Some, None}
 use Rattle.std.specs.Prelude.{◌==◌, position}
@@ -101,7 +101,7 @@ module _ (tables : List (List Part)) (k : List ℕ) (ks : List (List ℕ)) where
 
 -- ---- a path that the keys do not lead to
 
-not_at : (keys : List (List ℕ)) (q : List Part) (m : Mention) → PassesBy keys q → IsOfHeader keys m → m.path ≡ q → ⊥
+pub not_at : (keys : List (List ℕ)) (q : List Part) (m : Mention) → PassesBy keys q → IsOfHeader keys m → m.path ≡ q → ⊥
 not_at keys q m clear h same =
     let own : List Part = map key (keys_in q) in
     let some : strip own (map key keys) ≡ Some (map key h.rest) =
@@ -111,7 +111,7 @@ not_at keys q m clear h same =
     let no : None ≡ Some (map key h.rest) = sym clear ∙ some in
     absurd cc
 
-nothing_there : (keys : List (List ℕ)) (q : List Part) (own : List Mention) → PassesBy keys q
+pub nothing_there : (keys : List (List ℕ)) (q : List Part) (own : List Mention) → PassesBy keys q
     → AllOf (IsOfHeader keys) own → kinds_at q own ≡ []
 nothing_there keys q [] clear h = refl
 nothing_there keys q (m ∷ own) clear h = by (is_at q m) refl (nothing_there keys q own clear h.1)

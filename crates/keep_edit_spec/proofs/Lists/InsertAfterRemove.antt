@@ -43,12 +43,6 @@ module _ (profile : Profile) (limit : ℕ) (s : Document) (path : List Part) (l 
   m_at : m.at ≡ line_start s k.number
   m_at = at_is profile limit s other more m k
 
-  length_was : length s.ended ≡ suc (length now.ended)
-  length_was = gone.length_was profile limit s path l fine h
-
-  number_few : h.number ≤ length now.ended
-  number_few = gone.number_few profile limit s path l fine h
-
   -- ---- the end of the holder's body
 
   not_next : k.number ≢ suc h.number
@@ -75,10 +69,7 @@ module _ (profile : Profile) (limit : ℕ) (s : Document) (path : List Part) (l 
   number_from far = end_now.later ∙ later_from h.number j far
 
   closed_now : j ≤ length now.ended
-  closed_now = elim (cases_lt j h.number) [
-    | inl less ↦ omega (arith, less, number_few)
-    | inr far ↦ omega (arith, k.closed, length_was, number_from far)
-  ]
+  closed_now = gone.few_now profile limit s path l fine h k.number j end_now.later k.closed
 
   positive : 0 < k.number → 0 < j
   positive some = elim (cases_lt j h.number) [
@@ -93,12 +84,7 @@ module _ (profile : Profile) (limit : ℕ) (s : Document) (path : List Part) (l 
   newline_now = elim k.newline [ inl some ↦ inl (positive some) | inr flat ↦ inr flat ]
 
   at_now : line_start now j ≡ moved_by l m.at
-  at_now = elim (cases_lt j h.number) [
-    | inl less ↦
-        sym (gone.at_before profile limit s path l fine h j m.at less (m_at ∙ ap (line_start s) (number_before less)))
-    | inr far ↦
-        sym (gone.at_from profile limit s path l fine h j m.at far (m_at ∙ ap (line_start s) (number_from far)))
-  ]
+  at_now = gone.at_now profile limit s path l fine h k.number j m.at end_now.later m_at
 
   adds_now : newline_of now ≡ newline_of s → AddsLineStill profile limit s now other more (moved l m)
   adds_now same =

@@ -2,11 +2,11 @@
 --
 -- The holder's body is not the table's own, since the insert's path is not under the table's (`differs`). It ends where
 -- it did, before the table, or as many lines earlier as went (`end_now`, by EndsGone), and not where the table began,
--- as what the insert adds is beside what goes (`number_apart`). That line begins where it did, or earlier by the bytes
--- of the table (`at_now`). So the insert adds its own there (AddsAgain).
+-- as what the insert adds is beside what goes. So that line begins where it did, or earlier by the bytes of the table
+-- (`at_now`), and the insert adds its own there (AddsAgain).
 --
 -- Theorem: `insert_after_section`.
-use Rattle.std.proofs.Common.{◌≡◌, ◌≢◌, ℕ, ◌+◌, ◌<◌, ◌≤◌, List, ◌∷◌, ◌++◌, length, map, sym, ap, subst, ◌∙◌, arith}
+use Rattle.std.proofs.Common.{◌≡◌, ◌≢◌, ℕ, ◌<◌, ◌≤◌, List, ◌∷◌, ◌++◌, length, map, sym, ap, subst, ◌∙◌, arith}
 use Rattle.std.proofs.Common.{Some, None, ◌⊎◌, inl, inr}
 use Rattle.keep_types.specs.declared.leaf.Profile.{Profile}
 use Rattle.keep_syntax.specs.Tree.{Value, Document, value_depth}
@@ -49,12 +49,6 @@ module _ (profile : Profile) (limit : ℕ) (s : Document) (path : List Part) (c 
   d_at : d.at ≡ line_start s k.number
   d_at = at_is profile limit s other more d k
 
-  length_was : length s.ended ≡ length now.ended + gone
-  length_was = table.length_was profile limit s path c fine h
-
-  few : n + gone ≤ length s.ended
-  few = table.few profile limit s path c fine h
-
   -- ---- the end of the holder's body
 
   differs : path ≢ a
@@ -70,17 +64,8 @@ module _ (profile : Profile) (limit : ℕ) (s : Document) (path : List Part) (c 
   abbrev j : ℕ
   j = end_now.number
 
-  -- what is added is beside what goes
-  number_apart : k.number ≢ n
-  number_apart e =
-      table.begins_elsewhere profile limit s path c fine h d beside
-      (table.start_is profile limit s path c fine h ∙ ap (line_start s) (sym e) ∙ sym d_at)
-
   closed_now : j ≤ length now.ended
-  closed_now = elim end_now.moves [
-    | inl to ↦ omega (arith, to.0, to.1, few, length_was)
-    | inr from ↦ omega (arith, from.0, k.closed, length_was)
-  ]
+  closed_now = ends.few_now profile limit s path c fine h k.number j end_now.moves k.closed
 
   newline_now : (0 < j) ⊎ (value_depth more ≡ 0)
   newline_now = elim k.newline [
@@ -92,16 +77,7 @@ module _ (profile : Profile) (limit : ℕ) (s : Document) (path : List Part) (c 
   ]
 
   at_now : line_start now j ≡ moved_by c d.at
-  at_now = by end_now.moves
-    where
-      by : ends.MovesBack n gone k.number j → line_start now j ≡ moved_by c d.at
-      by (inl to) =
-          let apart : k.number ≢ n = number_apart in
-          let less : j < n = omega (arith, to.0, to.1, apart) in
-          sym (table.at_before profile limit s path c fine h j d.at less (d_at ∙ ap (line_start s) to.0))
-      by (inr from) =
-          sym (table.at_from profile limit s path c fine h j d.at (omega (arith, from.1))
-          (d_at ∙ ap (line_start s) from.0))
+  at_now = ends.at_now profile limit s path c fine h k.number j end_now.moves d beside d_at
 
   adds_now : newline_of now ≡ newline_of s → AddsLineStill profile limit s now other more (moved c d)
   adds_now same =

@@ -19,8 +19,9 @@ use Rattle.keep_syntax.proofs.Shared.{one_document}
 use Rattle.keep_path.specs.Path.{Part}
 use Rattle.keep_edit_spec.specs.AddedLines.{first_new}
 use Rattle.keep_edit_spec.specs.Changed.{put}
-use Rattle.keep_edit_spec.specs.DottedLines.{AddsLineTo, into_dotted}
+use Rattle.keep_edit_spec.specs.DottedLines.{AddsLineTo}
 use Rattle.keep_edit_spec.specs.Edits.{Edit, edited_document, insert, set}
+use Rattle.keep_edit_spec.specs.InsertKinds.{kind_of}
 use Rattle.keep_edit_spec.specs.InsertLists.{RunGoesOnInserted}
 use Rattle.keep_edit_spec.specs.Laws.{IsEditable}
 use Rattle.keep_edit_spec.specs.Lines.{newline_of}
@@ -40,12 +41,12 @@ use Rattle.keep_edit_spec.proofs.Lists.ExchangedChanges.{found_other, found_own,
 use Rattle.keep_edit_spec.proofs.Lists.ExchangedChanges.{put_part, starts_there, text_after, text_parts, text_to}
 use Rattle.keep_edit_spec.proofs.Lists.ExchangedEdits.{alone_more, beside_more, beside_of, changes_more, each_more}
 use Rattle.keep_edit_spec.proofs.Lists.ExchangedEdits.{left_more, placed_more, set_still}
+use Rattle.keep_edit_spec.proofs.Lists.LineKinds.{as_kind, kind_is, line_kind, line_of}
 use Rattle.keep_edit_spec.proofs.Lists.MadeChanges.{within_text}
 use Rattle.keep_edit_spec.proofs.Lists.NewPaths.{any_keys}
 use Rattle.keep_edit_spec.proofs.Lists.OneInsert.{only_insert}
 use Rattle.keep_edit_spec.proofs.Lists.Places.{at_is, width}
 use Rattle.keep_edit_spec.proofs.Lists.RunLists.{run_is_known}
-use Rattle.keep_edit_spec.proofs.Lists.StillMakes.{dotted_is}
 use Rattle.keep_edit_spec.proofs.Lists.TextChanges.{all_with}
 use Rattle.keep_edit_spec.proofs.Lists.ValueAdded.{set_after}
 
@@ -85,6 +86,14 @@ module _ (profile : Profile) (limit : ℕ) (s : Document) (path : List Part) (va
 
   abbrev other_line : AddsKeyval profile limit s path more d
   other_line = keyval_of profile limit s path more d to fine k
+
+  -- each inserts as one of its kind
+  makes_line : (w : Value) (x : TextChange) → AddsLineTo to profile limit s path w x
+      → MakesChange profile limit s (insert path w) x
+  makes_line w x its = (line_kind to, as_kind to profile limit s path w x its)
+
+  kind : kind_of s path ≡ line_kind to
+  kind = kind_is (line_kind to) profile limit s path value c (as_kind to profile limit s path value c h)
 
   -- ---- the two lines
 
@@ -129,8 +138,8 @@ module _ (profile : Profile) (limit : ℕ) (s : Document) (path : List Part) (va
       → KeepsPlace s (seen_of s earlier) (changes_of earlier) (lines_of s earlier) (insert path value) c
       → KeepsPlace s (seen_of s earlier) (changes_of earlier) (lines_of s earlier) (insert path more) d
   placed_first earlier =
-      subst (λ (n : ℕ). IsInOrder (lines_of s earlier) (changes_of earlier)
-      (record { first = first_new s path; at = n; dotted = into_dotted s path })
+      subst (λ (n : ℕ). IsInOrder (seen_of s earlier) (changes_of earlier) (lines_of s earlier)
+      (record { first = first_new s path; at = n; kind = kind_of s path })
       × (All (λ e. IsTrue (is_insert e)) (seen_of s earlier)
       ⊎ (ArePlain (text s) (changes_of earlier) × (All (LetsCome (text s) (changes_of earlier) n) (changes_of earlier)
       × IsBeforeHeaders (text s) (seen_of s earlier) n)))) at
@@ -157,10 +166,11 @@ module _ (profile : Profile) (limit : ℕ) (s : Document) (path : List Part) (va
       let moved_more : TextChange = moved_past (changes_of earlier) d in
       let (made_now, still) = run.later (insert path value) c makes alone beside placed in
       let (made_more, still_more) =
-      run.later (insert path more) d (to, k) (alone_first earlier alone) (beside_first earlier beside)
+      run.later (insert path more) d (makes_line more d k) (alone_first earlier alone) (beside_first earlier beside)
       (placed_first earlier placed) in
       let line_now : AddsKeyval profile limit now path value moved =
-      keyval_of profile limit now path value moved made_now.0 run.editable made_now.1 in
+      keyval_of profile limit now path value moved to run.editable
+      (line_of to profile limit now path value moved (still.1 ∙ kind) made_now) in
       let long : length (keys_text (keys_of_line profile limit now path value moved line_now)) ≡ length keys =
       as_long profile limit now s path value moved c run.editable fine line_now line refl in
       record {
@@ -211,8 +221,10 @@ module _ (profile : Profile) (limit : ℕ) (s : Document) (path : List Part) (va
   at_once : (later earlier : List MadeEdit)
       → IsPlain d.new ⊎ All (λ e. IsTrue (is_insert e)) (seen_of s (later ++ m ∷ earlier))
       → AreAtOnce profile limit s (later ++ m ∷ earlier) → AreAtOnce profile limit s (later ++ by ∷ earlier)
-  at_once [] earlier plain (makes, (alone, (beside, (placed, others)))) =
-      ((to, k), (alone_first earlier alone, (beside_first earlier beside, (placed_first earlier placed, others))))
+  at_once [] earlier plain (makes, (alone, (beside, (placed, others)))) = (
+    makes_line more d k,
+    (alone_first earlier alone, (beside_first earlier beside, (placed_first earlier placed, others))),
+  )
   at_once (x ∷ later) earlier plain (makes, (alone, (beside, (placed, others)))) =
       let ms : List MadeEdit = later ++ m ∷ earlier in
       let among : IsAmong c d (changes_of ms) (changes_of (later ++ by ∷ earlier)) =
@@ -288,7 +300,7 @@ module _ (profile : Profile) (limit : ℕ) (s : Document) (path : List Part) (va
     starts =
         starts_there (text s) it.among.before it.among.after c
         (let in_text : c.at + c.size ≤ length (text s) =
-        within_text profile limit s (insert path value) c fine (to, h) in omega (arith, in_text))
+        within_text profile limit s (insert path value) c fine (makes_line value c h) in omega (arith, in_text))
         (subst (Follow 0) it.among.is run.follow)
 
     text_then : text (edited_document now (set path more)) ≡ text (document_after s others)
@@ -317,17 +329,17 @@ record IsFound (path : List Part) (more : Value) (ms : List MadeEdit) (before : 
   changes : changes_of (later ++ made (insert path more) d ∷ earlier) ≡ before ++ d ∷ after
 
 module _ (profile : Profile) (limit : ℕ) (s : Document) (path : List Part) (value : Value) (c : TextChange)
-    (more : Value) (d : TextChange) (to : Bool) (fine : IsEditable profile limit s)
-    (h : AddsLineTo to profile limit s path value c) (same : c.at ≡ d.at) where
+    (more : Value) (d : TextChange) (fine : IsEditable profile limit s)
+    (its : MakesChange profile limit s (insert path value) c) (same : c.at ≡ d.at) where
   -- edits that leave an insert of the path alone make other changes
   others_differ : (ms : List MadeEdit) (new : Value) → AreAtOnce profile limit s ms
       → All (λ e. LeavesAlone e (seen s (insert path new))) (seen_of s ms) → All (λ x. x ≢ c) (changes_of ms)
   others_differ [] new all alone = All-nil (λ x. x ≢ c)
-  others_differ (x ∷ ms) new (makes, (its, (beside, (placed, others)))) alone =
+  others_differ (x ∷ ms) new (makes, (own, (beside, (placed, others)))) alone =
       all_with (λ y. y ≢ c) (changes_of ms) x.change
       (others_differ ms new others
       (All-tail (λ e. LeavesAlone e (seen s (insert path new))) (seen s x.edit) (seen_of s ms) alone))
-      (by (only_insert profile limit s path value c fine (to, h) x.edit x.change makes)
+      (by (only_insert profile limit s path value c fine its x.edit x.change makes)
       (All-head (λ e. LeavesAlone e (seen s (insert path new))) (seen s x.edit) (seen_of s ms) alone))
     where
       by : ((w : Value) × (x.edit ≡ insert path w)) ⊎ (x.change ≢ c)
@@ -344,16 +356,16 @@ module _ (profile : Profile) (limit : ℕ) (s : Document) (path : List Part) (va
       no_more [] e = absurd cc
       no_more (y ∷ l) e = absurd cc
   found_there (x ∷ ms) before after (makes, (alone, (beside, (placed, others)))) is =
-      by (only_insert profile limit s path value c fine (to, h) x.edit x.change makes)
+      by (only_insert profile limit s path value c fine its x.edit x.change makes)
       (λ l r. found_there ms l r others)
     where
       by : ((w : Value) × (x.edit ≡ insert path w)) ⊎ (x.change ≢ c)
           → ((l r : List TextChange) → changes_of ms ≡ l ++ c ∷ r → IsFound path more ms l c d r)
           → IsFound path more (x ∷ ms) before c d after
-      by (inl (w, its)) ih =
+      by (inl (w, is_w)) ih =
           let apart : All (λ y. y ≢ c) (changes_of ms) =
           others_differ ms w others
-          (subst (λ (f : Edit). All (λ e. LeavesAlone e (seen s f)) (seen_of s ms)) its alone) in
+          (subst (λ (f : Edit). All (λ e. LeavesAlone e (seen s f)) (seen_of s ms)) is_w alone) in
           let own : (d.at ≡ x.change.at) → (x.change ≡ c) × (with_change (changes_of ms) d ≡ before ++ d ∷ after) =
           λ there. found_own (changes_of ms) x.change c d before after apart there is in
           let is_c : x.change ≡ c =
@@ -362,7 +374,7 @@ module _ (profile : Profile) (limit : ℕ) (s : Document) (path : List Part) (va
             value = w;
             later = [];
             earlier = ms;
-            all = ap₂ (λ (f : Edit) (y : TextChange). made f y ∷ ms) its is_c;
+            all = ap₂ (λ (f : Edit) (y : TextChange). made f y ∷ ms) is_w is_c;
             changes = (own (sym same ∙ sym (ap (λ (y : TextChange). y.at) is_c))).1;
           }
       by (inr differs) ih =
@@ -381,7 +393,8 @@ pub run_goes_on_inserted : RunGoesOnInserted
 run_goes_on_inserted profile limit s ms path value more to before c d after fine all adds is makes plain =
     let same : c.at ≡ d.at = same_at profile limit s path value more to c d adds makes in
     let found : IsFound path more ms before c d after =
-    found_there profile limit s path value c more d to fine adds same ms before after all is in
+    found_there profile limit s path value c more d fine
+    (line_kind to, as_kind to profile limit s path value c adds) same ms before after all is in
     let own : Value = found.value in
     let others : List MadeEdit = found.later ++ made (insert path more) d ∷ found.earlier in
     let ours : AreAtOnce profile limit s (found.later ++ made (insert path own) c ∷ found.earlier) =
@@ -409,9 +422,9 @@ run_goes_on_inserted profile limit s ms path value more to before c d after fine
   where
     -- an insert there adds its line to a table of the same kind
     of_kind : (w : Value) → MakesChange profile limit s (insert path w) c → AddsLineTo to profile limit s path w c
-    of_kind w (b, h) =
-        subst (λ (b : Bool). AddsLineTo b profile limit s path w c)
-        (sym (dotted_is b profile limit s path w c h) ∙ dotted_is to profile limit s path value c adds) h
+    of_kind w =
+        line_of to profile limit s path w c
+        (kind_is (line_kind to) profile limit s path value c (as_kind to profile limit s path value c adds))
 
     its_own : (later earlier : List MadeEdit) (w : Value)
         → AreAtOnce profile limit s (later ++ made (insert path w) c ∷ earlier)

@@ -8,13 +8,13 @@
 --
 -- Theorems: `its`, `keeps`, `is_now`, `lines_were`, `lines_are`: the line and the document; `said_was`, `said_now`,
 -- `cut_now`, `fact_now`: what it says; `before_length`, `length_was`, `number_few`: how many lines there are;
--- `width_same`, `width_less`, `same_to`, `less_from`, `at_before`, `at_from`: the lengths of those before
--- one; `document_without`, `line_misses`, `nested_without`, `place_without`: a change after such a remove.
+-- `width_same`, `width_less`, `same_to`, `less_from`, `at_before`, `at_from`, `few_now`, `at_now`: the lengths of those
+-- before one; `document_without`, `line_misses`, `nested_without`, `place_without`: a change after such a remove.
 use Rattle.std.proofs.Common.{◌≡◌, ℕ, zero, suc, ◌+◌, ◌-◌, ◌<◌, ◌≤◌, Bool, true, false, cond, List, [], ◌∷◌, ◌++◌}
 use Rattle.std.proofs.Common.{length, map, take, refl, sym, ap, ap₂, subst, ◌∙◌, append_assoc, length-append, arith}
 use Rattle.std.proofs.Common.{Option, Some, None, inl, inr}
 use Rattle.std.specs.Prelude.{nat_lt}
-use Rattle.std.proofs.lemmas.Bool.{le-ltb, lt-ltb}
+use Rattle.std.proofs.lemmas.Bool.{cases_lt, le-ltb, lt-ltb}
 use Rattle.std.proofs.lemmas.List.{append-nil, map-append}
 use Rattle.keep_types.specs.declared.leaf.Profile.{Profile}
 use Rattle.keep_syntax.specs.Tree.{Line, Ended, Document, bom_leaves, ended_leaves, text_of}
@@ -35,8 +35,9 @@ use Rattle.keep_edit_spec.proofs.Common.Cuts.{IsCut}
 use Rattle.keep_edit_spec.proofs.Common.LineLaws.{lines_mentions-append}
 use Rattle.keep_edit_spec.proofs.Common.LineTexts.{in_line-is}
 use Rattle.keep_edit_spec.proofs.Common.Texts.{EachIs, IsAct}
+use Rattle.keep_edit_spec.proofs.Lists.BodyEnds.{later_before, later_from}
 use Rattle.keep_edit_spec.proofs.Lists.OwnLine as own
-use Rattle.keep_edit_spec.proofs.Lists.Places.{size, width, width_grows, width_more, width_stays}
+use Rattle.keep_edit_spec.proofs.Lists.Places.{later_line, size, width, width_grows, width_more, width_stays}
 use Rattle.keep_edit_spec.proofs.Lists.RemovedPlaces.{IsCutAt, at_is, changes, edited_is, end_is}
 use Rattle.keep_edit_spec.proofs.Lists.SetPlaces.{Stays, framed_stays, length_cut, past_line, stays_as, still_place}
 use Rattle.keep_edit_spec.proofs.Remove.RemoveLines.{IsOwnLine}
@@ -280,6 +281,23 @@ module _ (profile : Profile) (limit : ℕ) (s : Document) (path : List Part) (l 
       let back : (at + length l.new) - l.size ≡ bom + width (take j now.ended) =
       omega (arith, is, less_from j far, size_is, ap (λ (t : List ℕ). length t) h.takes) in
       ap (λ (b : Bool). cond b at ((at + length l.new) - l.size)) later ∙ back
+
+  -- of a line that is there still
+  pub few_now : (i j : ℕ) → i ≡ later_line h.number j → i ≤ length s.ended → j ≤ length now.ended
+  few_now i j later few = elim (cases_lt j h.number) [
+    | inl less ↦ omega (arith, less, number_few)
+    | inr far ↦ omega (arith, few, length_was, later, later_from h.number j far)
+  ]
+
+  pub at_now : (i j at : ℕ) → i ≡ later_line h.number j → at ≡ bom + width (take i s.ended)
+      → bom + width (take j now.ended) ≡ moved_by l at
+  at_now i j at later is = elim (cases_lt j h.number) [
+    | inl less ↦
+        sym (at_before j at less
+        (is ∙ ap (λ (k : ℕ). bom + width (take k s.ended)) (later ∙ later_before h.number j less)))
+    | inr far ↦
+        sym (at_from j at far (is ∙ ap (λ (k : ℕ). bom + width (take k s.ended)) (later ∙ later_from h.number j far)))
+  ]
 
   -- ---- a change of it
 

@@ -5,9 +5,12 @@
 -- before, if the new ones leave the tables of the reading as they are (`same_after`). No header is in a body
 -- (`none_in_body`). So if the new lines pass only if that header does, the last one that passes is the same, if it was
 -- not that header: one before it, or one behind the new lines and later by these (`last_comes`). The body of a header
--- before that one ends before it, as it did, and that of one behind the new lines ends later by these.
+-- before that one ends before it, as it did, and that of one behind the new lines ends later by these. If it was that
+-- header, and the new lines neither pass nor are in its body, it is the last still, and its body ends before them
+-- (`last_here`). And if none of the new lines passes a test, the last one that does is the same (`last_stays`).
 --
--- Theorems: `bodiless_begins`, `bodiless_through`, `bodiless_dotted`, `same_after`, `none_after`; `last_comes`.
+-- Theorems: `bodiless_begins`, `bodiless_through`, `bodiless_dotted`, `bodiless_own`, `same_after`, `none_after`,
+-- `last_stays`; `last_comes`, `last_here`; `last_behind`, `drop_behind`: behind some lines; `none_in_body`.
 use Rattle.std.proofs.Common.{◌≡◌, ℕ, zero, suc, ◌+◌, ◌<◌, ◌≤◌, Bool, true, false, List, [], ◌∷◌, ◌++◌, length}
 use Rattle.std.proofs.Common.{drop, refl, sym, ap, ap₂, ◌∙◌, append_assoc, length-append, arith, Option, Some, None}
 use Rattle.std.proofs.Common.{◌⊎◌, inl, inr}
@@ -16,10 +19,12 @@ use Rattle.keep_syntax.specs.Tree.{Written, Gap, Key, Content, blank, keyval, he
 use Rattle.keep_path.specs.Path.{Part}
 use Rattle.keep_meaning.specs.Marks.{Reading, start}
 use Rattle.keep_meaning.specs.Meaning.{after_line, reading_after_lines}
+use Rattle.keep_edit_spec.specs.Edits.{is_own}
 use Rattle.keep_edit_spec.specs.Lines.{begins, body_end, body_length, is_header, last_line, leads_dotted, leads_through}
 use Rattle.keep_edit_spec.specs.Lines.{more_lines}
 use Rattle.keep_edit_spec.proofs.Common.BodyEnd.{IsLast, last_found}
 use Rattle.keep_edit_spec.proofs.Lists.BodyEnds.{drop_none, earlier_end, header_few, header_none, header_same}
+use Rattle.keep_edit_spec.proofs.Lists.BodyEnds.{length_after}
 use Rattle.keep_edit_spec.proofs.Lists.HeaderLines.{last_before}
 use Rattle.keep_edit_spec.proofs.Lists.RemovedOwn.{last_or}
 
@@ -29,7 +34,7 @@ Test = Reading → Line → Bool
 -- ---- the last line among more lines behind
 
 -- one of those behind
-last_behind : (test : Test) (r : Reading) (first more : List Line) (k : ℕ)
+pub last_behind : (test : Test) (r : Reading) (first more : List Line) (k : ℕ)
     → last_line test (reading_after_lines r first) more ≡ Some k
     → last_line test r (first ++ more) ≡ Some (length first + k)
 last_behind test r [] more k h = h ∙ ap (λ (m : ℕ). Some m) (let same : k ≡ 0 + k = omega arith in same)
@@ -38,7 +43,7 @@ last_behind test r (l ∷ first) more k h =
     ∙ ap (λ (m : ℕ). Some m)
     (let same : suc (length first + k) ≡ suc (length first) + k = omega arith in same)
 
-drop_behind : (first more : List Line) (k : ℕ) → drop (length first + k) (first ++ more) ≡ drop k more
+pub drop_behind : (first more : List Line) (k : ℕ) → drop (length first + k) (first ++ more) ≡ drop k more
 drop_behind [] more k = ap (λ (m : ℕ). drop m more) (let same : 0 + k ≡ k = omega arith in same)
 drop_behind (l ∷ first) more k =
     ap (λ (m : ℕ). drop m (l ∷ (first ++ more)))
@@ -69,6 +74,9 @@ bodiless_through path before after comment = ((λ t a b. refl), λ x y k. ((λ t
 
 pub bodiless_dotted : (path : List Part) → IsBodiless (leads_dotted path)
 bodiless_dotted path before after comment = ((λ t a b. refl), λ x y k. ((λ t a b. refl), λ t a b. refl))
+
+pub bodiless_own : (path : List Part) → IsBodiless (λ r l. is_own path r l.content)
+bodiless_own path before after comment = ((λ t a b. refl), λ x y k. ((λ t a b. refl), λ t a b. refl))
 
 module _ (test : Test) (bodiless : IsBodiless test) (t : List (List Part)) (a b : List Part) where
   abbrev in_a : Reading
@@ -111,7 +119,7 @@ module _ (test : Test) (bodiless : IsBodiless test) (t : List (List Part)) (a b 
 
 -- ---- no header is in a body
 
-none_in_body : (test : Test) → ((r : Reading) (l : Line) → test r l ≡ true → is_header l.content ≡ true)
+pub none_in_body : (test : Test) → ((r : Reading) (l : Line) → test r l ≡ true → is_header l.content ≡ true)
     → (r : Reading) (ls more : List Line) → body_length (ls ++ more) ≡ length ls → last_line test r ls ≡ None
 none_in_body test heads r [] more h = refl
 none_in_body test heads r (l ∷ ls) more h =
@@ -124,14 +132,39 @@ none_in_body test heads r (l ∷ ls) more h =
         let all : suc (length ls) ≡ 0 = sym h ∙ header_none l.content (body_length (ls ++ more)) (heads r l e) in
         absurd (omega (arith, all))
 
+-- ---- lines that are all of their body
+
+-- still, before other lines that are in no body
+body_stays : (ls more other : List Line) → body_length (ls ++ more) ≡ length ls → body_length other ≡ 0
+    → body_length (ls ++ other) ≡ length ls
+body_stays [] more other h none = none
+body_stays (l ∷ ls) more other h none =
+    let was : body_length (ls ++ more) ≡ length ls =
+    earlier_end l.content (body_length (ls ++ more)) (length ls) h in
+    ap (length_after l.content) (body_stays ls more other was none ∙ sym was) ∙ h
+
 -- ---- new lines where the body of a header ends
 
--- Of a line that was the last to pass: the last now, and where the body ends that it begins.
+-- The last line that passes now, where line j was the last: it has that number if it comes before line n, and else it
+-- is so many lines later.
+pub record IsLastNow (test : Test) (now : List Line) (n more j : ℕ) : Type 0 where
+  pub number : ℕ
+  pub last : last_line test start now ≡ Some number
+  pub moves : ((number ≡ j) × (j < n)) ⊎ ((number ≡ more + j) × (n ≤ j))
+
+-- and where the body ends that it begins
 pub record IsStillLast (test : Test) (was now : List Line) (n more j : ℕ) : Type 0 where
   pub number : ℕ
   pub last : last_line test start now ≡ Some number
+  pub moves : ((number ≡ j) × (j < n)) ⊎ ((number ≡ more + j) × (n ≤ j))
   pub ends : ((body_end number now ≡ body_end j was) × (body_end j was < n))
       ⊎ ((body_end number now ≡ more + body_end j was) × (n ≤ body_end j was))
+
+-- Line j is still the last that passes, and the body that it begins ends before the new lines, which begin at line n.
+pub record IsLastBefore (test : Test) (now : List Line) (n j : ℕ) : Type 0 where
+  pub last : last_line test start now ≡ Some j
+  pub less : j < n
+  pub ends : body_end j now ≡ n
 
 module _ (test : Test) (pre : List Line) (here : Line) (body rest new : List Line) where
   abbrev pub first : List Line
@@ -163,10 +196,42 @@ module _ (test : Test) (pre : List Line) (here : Line) (body rest new : List Lin
           let no : None ≡ Some (length first + k) = sym none ∙ last_behind test start first rest k e in
           absurd cc
 
+  -- where none of the new ones passes
+  pub last_stays : (j : ℕ) → last_line test start was ≡ Some j → last_line test r new ≡ None
+      → last_line test to rest ≡ last_line test r rest → IsLastNow test now (length first) (length new) j
+  last_stays j last fails same = by (last_line test r rest) refl
+    where
+      by : (o : Option ℕ) → last_line test r rest ≡ o → IsLastNow test now (length first) (length new) j
+      by (Some k) e =
+          let m : ℕ = length new + k in
+          let both : Some j ≡ Some (length first + k) = sym last ∙ last_behind test start first rest k e in
+          let number : j ≡ length first + k = cc in
+          record {
+            number = length first + m;
+            last = last_behind test start first (new ++ rest) m (last_behind test r new rest k (same ∙ e));
+            moves = inr (omega (arith, number), omega (arith, number));
+          }
+      by None e =
+          let before : last_line test start first ≡ Some j = sym (last_before test start first rest e) ∙ last in
+          let f : IsLast test start first j = last_found test start first j before in
+          record {
+            number = j;
+            last = last_before test start first (new ++ rest) (last_before test r new rest (same ∙ e) ∙ fails)
+                ∙ before;
+            moves = inl (
+              refl,
+              omega (
+                arith,
+                f.number,
+                ap (λ (ls : List Line). length ls) f.was,
+                length-append f.pre (f.here ∷ f.post),
+              ),
+            );
+          }
+
   module _ (heads : (r : Reading) (l : Line) → test r l ≡ true → is_header l.content ≡ true)
       (is : is_header here.content ≡ true) (ends : body_length (body ++ rest) ≡ length body)
-      (same : last_line test to rest ≡ last_line test r rest)
-      (only : (test (reading_after_lines start pre) here ≡ true) ⊎ (last_line test r new ≡ None)) where
+      (same : last_line test to rest ≡ last_line test r rest) where
     abbrev at : Reading
     at = reading_after_lines start pre
 
@@ -185,13 +250,14 @@ module _ (test : Test) (pre : List Line) (here : Line) (body rest new : List Lin
     whole more = append_assoc pre (here ∷ body) more
 
     -- the body of this header ends where the new lines come
-    own_end : body_end (length pre) was ≡ length first
-    own_end =
+    own_end : (more : List Line) → body_length (body ++ more) ≡ length body
+        → body_end (length pre) (first ++ more) ≡ length first
+    own_end more all =
         let next : suc (length pre) ≡ length pre + 1 = omega arith in
-        let after : drop (suc (length pre)) was ≡ body ++ rest =
-        ap₂ (λ (m : ℕ) (ls : List Line). drop m ls) next (whole rest) ∙ drop_behind pre (here ∷ (body ++ rest)) 1
-        ∙ drop_none (body ++ rest) in
-        omega (arith, ap body_length after, ends, length-append pre (here ∷ body))
+        let after : drop (suc (length pre)) (first ++ more) ≡ body ++ more =
+        ap₂ (λ (m : ℕ) (ls : List Line). drop m ls) next (whole more) ∙ drop_behind pre (here ∷ (body ++ more)) 1
+        ∙ drop_none (body ++ more) in
+        omega (arith, ap body_length after, all, length-append pre (here ∷ body))
 
     -- the body of a header before this one
     module _ (j : ℕ) (less : j < length pre) where
@@ -222,9 +288,27 @@ module _ (test : Test) (pre : List Line) (here : Line) (body rest new : List Lin
             length-append pre (here ∷ body),
           )
 
-    pub last_comes : (j : ℕ) → last_line test start was ≡ Some j → (body_end j was ≡ length first → ⊥)
+    -- no line behind passes
+    module _ (j : ℕ) (last : last_line test start was ≡ Some j) (e : last_line test r rest ≡ None) where
+      before : last_line test start first ≡ Some j
+      before = sym (last_before test start first rest e) ∙ last
+
+      is_here : test at here ≡ true → length pre ≡ j
+      is_here passes = (let both : Some (length pre) ≡ Some j = sym (in_header passes) ∙ before in cc)
+
+      is_earlier : test at here ≡ false → j < length pre
+      is_earlier fails =
+          let f : IsLast test start pre j = last_found test start pre j (sym (before_header fails) ∙ before) in
+          omega (arith, f.number, ap (λ (ls : List Line). length ls) f.was, length-append f.pre (f.here ∷ f.post))
+
+      stays : last_line test r new ≡ None → last_line test start now ≡ Some j
+      stays quiet =
+          last_before test start first (new ++ rest) (last_before test r new rest (same ∙ e) ∙ quiet) ∙ before
+
+    pub last_comes : (test at here ≡ true) ⊎ (last_line test r new ≡ None) → (j : ℕ)
+        → last_line test start was ≡ Some j → (body_end j was ≡ length first → ⊥)
         → IsStillLast test was now (length first) (length new) j
-    last_comes j last other = by (last_line test r rest) refl
+    last_comes only j last other = by (last_line test r rest) refl
       where
         behind : (k : ℕ) → last_line test r rest ≡ Some k → IsStillLast test was now (length first) (length new) j
         behind k e =
@@ -241,41 +325,56 @@ module _ (test : Test) (pre : List Line) (here : Line) (body rest new : List Lin
             record {
               number = length first + m;
               last = last_behind test start first (new ++ rest) m (last_behind test r new rest k (same ∙ e));
+              moves = inr (omega (arith, number), omega (arith, number));
               ends = inr (
                 omega (arith, number, ap body_length was_rest, ap body_length now_rest),
                 omega (arith, number),
               );
             }
 
-        -- no line behind passes
-        before : last_line test r rest ≡ None → last_line test start first ≡ Some j
-        before e = sym (last_before test start first rest e) ∙ last
-
         not_here : last_line test r rest ≡ None → test at here ≡ true → ⊥
         not_here e passes =
-            let both : Some (length pre) ≡ Some j = sym (in_header passes) ∙ before e in
-            let here_j : length pre ≡ j = cc in
-            other (ap (λ (i : ℕ). body_end i was) (sym here_j) ∙ own_end)
+            other (ap (λ (i : ℕ). body_end i was) (sym (is_here j last e passes)) ∙ own_end rest ends)
 
         found : last_line test r rest ≡ None → (b : Bool) → test at here ≡ b
             → IsStillLast test was now (length first) (length new) j
         found e true passes = absurd (not_here e passes)
         found e false fails =
-            let f : IsLast test start pre j =
-            last_found test start pre j (sym (before_header fails) ∙ before e) in
-            let less : j < length pre =
-            omega (arith, f.number, ap (λ (ls : List Line). length ls) f.was, length-append f.pre (f.here ∷ f.post)) in
+            let less : j < length pre = is_earlier j last e fails in
             let quiet : last_line test r new ≡ None = elim only [
               | inl passes ↦ absurd (not_here e passes)
               | inr none ↦ none
             ] in
             record {
               number = j;
-              last = last_before test start first (new ++ rest) (last_before test r new rest (same ∙ e) ∙ quiet)
-                  ∙ before e;
+              last = stays j last e quiet;
+              moves = inl (refl, omega (arith, less, length-append pre (here ∷ body)));
               ends = inl (before_same j less, before_less j less);
             }
 
         by : (o : Option ℕ) → last_line test r rest ≡ o → IsStillLast test was now (length first) (length new) j
         by (Some k) e = behind k e
         by None e = found e (test at here) refl
+
+    -- where the last one that passes is this header
+    pub last_here : (j : ℕ) → last_line test start was ≡ Some j → body_end j was ≡ length first
+        → last_line test r new ≡ None → body_length (new ++ rest) ≡ 0 → IsLastBefore test now (length first) j
+    last_here j last at_end quiet none = by (last_line test r rest) refl
+      where
+        found : last_line test r rest ≡ None → (b : Bool) → test at here ≡ b → IsLastBefore test now (length first) j
+        found e false fails = absurd (omega (arith, at_end, before_less j (is_earlier j last e fails)))
+        found e true passes =
+            let number : length pre ≡ j = is_here j last e passes in
+            record {
+              last = stays j last e quiet;
+              less = omega (arith, number, length-append pre (here ∷ body));
+              ends = ap (λ (i : ℕ). body_end i now) (sym number)
+                  ∙ own_end (new ++ rest) (body_stays body rest (new ++ rest) ends none);
+            }
+
+        by : (o : Option ℕ) → last_line test r rest ≡ o → IsLastBefore test now (length first) j
+        by None e = found e (test at here) refl
+        by (Some k) e =
+            let both : Some j ≡ Some (length first + k) = sym last ∙ last_behind test start first rest k e in
+            let number : j ≡ length first + k = cc in
+            absurd (omega (arith, number, at_end))

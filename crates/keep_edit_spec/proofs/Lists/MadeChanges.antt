@@ -6,7 +6,7 @@
 -- Theorems: `change_is_there`, `removes_there`, `change_allowed`, `change_lawful`, `within_text`, `change_puts`;
 -- `same_place`: where nothing goes; `added`: what all lines have that inserts add.
 use Rattle.std.proofs.Common.{◌≡◌, ℕ, ◌+◌, ◌<◌, ◌≤◌, List, [], length, sym, ap, subst, ◌∙◌, arith, None, inl, inr}
-use Rattle.std.proofs.Common.{IsUtf8, true, false}
+use Rattle.std.proofs.Common.{IsUtf8}
 use Rattle.std.specs.List.{AllByRecursion}
 use Rattle.std.proofs.lemmas.List.{append-nil}
 use Rattle.keep_types.specs.declared.leaf.Profile.{Profile}
@@ -21,6 +21,7 @@ use Rattle.keep_edit_spec.specs.Look.{keys_in}
 use Rattle.keep_edit_spec.specs.Refusals.{refusal}
 use Rattle.keep_edit_spec.specs.Runs.{IsOfPlace, MakesChange}
 use Rattle.keep_edit_spec.specs.TextChanges.{TextChange, place_of_change, IsWider}
+use Rattle.keep_edit_spec.specs.declared.line_kind.LineKind.TheVariants.{LastInBody, OfDotted, WithHeader}
 use Rattle.keep_edit_spec.proofs.EditLaws.{append_element_lawful, append_table_lawful, insert_lawful, place_ordered}
 use Rattle.keep_edit_spec.proofs.EditLaws.{place_within, remove_lawful, rename_lawful, set_lawful}
 use Rattle.keep_edit_spec.proofs.Lists.HeaderTaken.{has_bytes, table_taken}
@@ -35,7 +36,7 @@ same_place c none =
     ap (λ (e : ℕ). record { start = c.at; end = e; new = c.new })
     (let e : c.at ≡ c.at + c.size = omega (arith, none) in e)
 
--- what both kinds of lines have that an insert adds
+-- what all kinds of lines have that an insert adds
 pub record IsAdded (profile : Profile) (limit : ℕ) (s : Document) (path : List Part) (value : Value) (c : TextChange)
     : Type 0 where
   pub utf8 : AllByRecursion IsUtf8 (keys_in path)
@@ -46,9 +47,11 @@ pub record IsAdded (profile : Profile) (limit : ℕ) (s : Document) (path : List
 
 pub added : (profile : Profile) (limit : ℕ) (s : Document) (path : List Part) (value : Value) (c : TextChange)
     → MakesChange profile limit s (insert path value) c → IsAdded profile limit s path value c
-added profile limit s path value c (true, h) =
+added profile limit s path value c (LastInBody, h) =
     record { utf8 = h.utf8; given = h.given; allowed = h.allowed; adds = h.adds; is = h.is }
-added profile limit s path value c (false, h) =
+added profile limit s path value c (OfDotted, h) =
+    record { utf8 = h.utf8; given = h.given; allowed = h.allowed; adds = h.adds; is = h.is }
+added profile limit s path value c (WithHeader, h) =
     record { utf8 = h.utf8; given = h.given; allowed = h.allowed; adds = h.adds; is = h.is }
 
 no_text : (c : TextChange) → c.new ≡ [] → record { start = c.at; end = c.at + c.size; new = [] } ≡ place_of_change c

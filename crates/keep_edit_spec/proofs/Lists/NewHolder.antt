@@ -2,34 +2,38 @@
 --
 -- Then the document says nothing under that path (`nothing_under`), so no prefix of the insert's path that goes through
 -- it is a node (`no_node`). The longest prefix that is a node is the one right before it, if that is one
--- (`holder_of_node`). It is one where a body of it ends (`body_node`) or a line's key leads through it (`lead_node`).
+-- (`holder_of_node`). It is one where a body of it ends (`body_node`), a line's key leads through it (`lead_node`), or
+-- a header does (`through_node`).
 --
--- Theorems: `nothing_under`, `no_node`, `path_new`, `holder_of_node`; `body_node`, `lead_node`; `new_clear`,
--- `apart_clear`: the path does not begin with one that is apart from the first new key's; `clear_longer`: a path that
--- begins with neither of two paths; `apart_differs`, `clear_under`, `apart_under`: what does not begin with a path is
--- not that path, and does not begin with a longer one; and what is apart from a path is apart from a longer one.
+-- Theorems: `nothing_under`, `no_node`, `path_new`, `holder_of_node`; `body_node`, `lead_node`, `through_node`;
+-- `new_clear`, `apart_clear`: the path does not begin with one that is apart from the first new key's; `clear_longer`:
+-- a path that begins with neither of two paths; `apart_differs`, `clear_under`, `apart_under`: what does not begin with
+-- a path is not that path, and does not begin with a longer one; and what is apart from a path is apart from a longer
+-- one.
 use Rattle.std.proofs.Common.{◌≡◌, ◌≢◌, ℕ, Bool, true, false, cond, ◌||◌, List, [], ◌∷◌, ◌++◌, map, refl, sym, ap}
 use Rattle.std.proofs.Common.{subst, ◌∙◌, append_assoc, Option, Some, None, ◌⊎◌, inl, inr}
 use Rattle.std.specs.List.{list_any}
+use Rattle.std.proofs.lemmas.Bool.{and_parts}
 use Rattle.std.proofs.lemmas.List.{append-nil}
 use Rattle.keep_types.specs.declared.leaf.Profile.{Profile}
 use Rattle.keep_syntax.specs.Tree.{Document, Value}
 use Rattle.keep_path.specs.Path.{Part, key, strip}
-use Rattle.keep_meaning.specs.Marks.{Mention, MentionKind, start}
-use Rattle.keep_meaning.specs.Meaning.{lines, mentions_in}
-use Rattle.keep_meaning.specs.Nodes.{is_at, is_begun, is_define, is_dotted, is_node, is_root}
+use Rattle.keep_meaning.specs.Marks.{Mention, MentionKind, Reading, start}
+use Rattle.keep_meaning.specs.Meaning.{after_line, line_mentions, lines, lines_mentions, mentions_in}
+use Rattle.keep_meaning.specs.Meaning.{reading_after_lines}
+use Rattle.keep_meaning.specs.Nodes.{has, is_at, is_begun, is_define, is_dotted, is_node, is_root, is_through}
 use Rattle.keep_edit_spec.specs.AddedLines.{AddsLine, first_new}
 use Rattle.keep_edit_spec.specs.Edits.{end_of}
-use Rattle.keep_edit_spec.specs.Lines.{last_line, leads_dotted}
+use Rattle.keep_edit_spec.specs.Lines.{is_header, last_line, leads_dotted, leads_through}
 use Rattle.keep_edit_spec.specs.Look.{holder, last_passing, prefixes}
 use Rattle.keep_edit_spec.specs.Runs.{AreApart}
 use Rattle.keep_edit_spec.specs.TextChanges.{TextChange}
-use Rattle.keep_edit_spec.proofs.Common.BodyEnd.{IsStated, end_is}
-use Rattle.keep_edit_spec.proofs.Common.Doubles.{IsMentioned}
+use Rattle.keep_edit_spec.proofs.Common.BodyEnd.{IsLast, IsStated, end_is, last_found}
+use Rattle.keep_edit_spec.proofs.Common.Doubles.{IsMentioned, has_some}
 use Rattle.keep_edit_spec.proofs.Common.InsertLaw.{fresh_disjoint, or_true}
-use Rattle.keep_edit_spec.proofs.Common.LineLaws.{beyond, prefix_cases, within_first}
+use Rattle.keep_edit_spec.proofs.Common.LineLaws.{beyond, lines_mentions-append, prefix_cases, within_first}
 use Rattle.keep_edit_spec.proofs.Common.Runs.{AllOf, IsDisjoint, SomeOf, kinds_at-disjoint, same_path-refl}
-use Rattle.keep_edit_spec.proofs.Common.Runs.{strip-append, strip_shorter}
+use Rattle.keep_edit_spec.proofs.Common.Runs.{some_left, some_right, strip-append, strip_shorter}
 use Rattle.keep_edit_spec.proofs.Insert.InsertDotted.{dotted_line}
 use Rattle.keep_edit_spec.proofs.Insert.KeysAtEnd.{path_goes_on}
 use Rattle.keep_edit_spec.proofs.Insert.NewPath.{mapped, passing_map}
@@ -113,6 +117,23 @@ body_node s a n ends = by (end_is s a n ends).stated
 pub lead_node : (s : Document) (a : List Part) (n : ℕ) → last_line (leads_dotted a) start (lines s) ≡ Some n
     → is_node a (mentions_in s) ≡ true
 lead_node s a n last = mentioned_node is_dotted a (mentions_in s) (dotted_line s a n last).dotted
+
+pub through_node : (s : Document) (a : List Part) (n : ℕ) → last_line (leads_through a) start (lines s) ≡ Some n
+    → is_node a (mentions_in s) ≡ true
+through_node s a n last =
+    let f : IsLast (leads_through a) start (lines s) n = last_found (leads_through a) start (lines s) n last in
+    let r : Reading = reading_after_lines start f.pre in
+    let own : List Mention = line_mentions r f.here in
+    let before : List Mention = lines_mentions start f.pre in
+    let after : List Mention = lines_mentions (after_line r f.here) f.post in
+    let all : mentions_in s ≡ before ++ (own ++ after) =
+    ap (lines_mentions start) f.was ∙ lines_mentions-append start f.pre (f.here ∷ f.post) in
+    let said : has is_through a own ≡ true =
+    (and_parts (is_header f.here.content) (has is_through a own) f.passes).1 in
+    let goes : SomeOf (IsMentioned is_through a) (before ++ (own ++ after)) =
+    some_right (IsMentioned is_through a) before (own ++ after)
+    (some_left (IsMentioned is_through a) own after (has_some is_through a own said)) in
+    mentioned_node is_through a (mentions_in s) (subst (SomeOf (IsMentioned is_through a)) (sym all) goes)
 
 -- ---- the path, and its holder
 

@@ -24,8 +24,9 @@ use Rattle.keep_edit_spec.specs.TextChanges.{TextChange}
 use Rattle.keep_edit_spec.specs.Trees.{a_table, fact_from, from, is_through_alone, source}
 use Rattle.keep_edit_spec.proofs.EditLaws.{change_put}
 use Rattle.keep_edit_spec.proofs.Common.Runs.{none_or_some, same_path-refl, same_path-sound, strip-sound}
+use Rattle.keep_edit_spec.proofs.Lists.LineKinds.{keys_of_line}
 use Rattle.keep_edit_spec.proofs.Lists.MadeChanges.{added, change_lawful, change_puts, removes_there}
-use Rattle.keep_edit_spec.proofs.Lists.NewPaths.{InsertsKeys, any_keys}
+use Rattle.keep_edit_spec.proofs.Lists.NewPaths.{InsertsKeys}
 use Rattle.keep_edit_spec.proofs.Lists.Places.{item_none}
 use Rattle.keep_edit_spec.proofs.Lists.SetAllowed.{value_of}
 use Rattle.keep_edit_spec.proofs.Lists.ValueAdded.{has_then, no_value}
@@ -49,7 +50,7 @@ none_after ms new false path none = none
 module _ (profile : Profile) (limit : ℕ) (s : Document) (path : List Part) (value : Value) (c : TextChange)
     (fine : IsEditable profile limit s) (h : MakesChange profile limit s (insert path value) c) where
   abbrev new_keys : InsertsKeys profile limit s path value
-  new_keys = any_keys profile limit s path value c h.0 h.1
+  new_keys = keys_of_line h.0 profile limit s path value c h.1
 
   -- where the path has no value, the insert did not make the document
   not_made : (f : Edit) → MakesChange profile limit s f c
@@ -70,7 +71,7 @@ module _ (profile : Profile) (limit : ℕ) (s : Document) (path : List Part) (va
       → strip other path ≡ None → ⊥
   not_below other more k clear =
       let ms : List Mention = mentions_in s in
-      let its : InsertsKeys profile limit s other more = any_keys profile limit s other more c k.0 k.1 in
+      let its : InsertsKeys profile limit s other more = keys_of_line k.0 profile limit s other more c k.1 in
       let through : Bool = same_path path (holder other ms) && is_through_alone path ms in
       let own : source ms (insert other more) path ≡ cond through a_table (from path) =
       rw (item_none other (holder other ms) its.text its.more its.new ms, clear, source) refl in

@@ -4,7 +4,7 @@
 -- behind that one (`last_less`, by OneLineMore and RemovedOwn). Where none passed, none does then (`none_less`). The
 -- reading before each other line is as it was (`reading_less`).
 --
--- Theorems: `last_less`, `none_less`, `reading_less`.
+-- Theorems: `last_less`, `last_kept`, `none_less`, `reading_less`.
 use Rattle.std.proofs.Common.{◌≡◌, ◌≢◌, ℕ, Bool, true, false, List, ◌∷◌, ◌++◌, length, take, refl, sym, ap, ◌∙◌, arith}
 use Rattle.std.proofs.Common.{Option, Some, None, inl, inr}
 use Rattle.std.specs.Option.{option_map}
@@ -58,6 +58,19 @@ module _ (r : Reading) (first : List Line) (l : Line) (more : List Line)
     without_it : passes ≡ false → was ≡ option_map (later_line n) now
     without_it is = last_without test r first l more keeps is
 
+    -- where the line does not pass
+    pub last_kept : passes ≡ false → (i : ℕ) → was ≡ Some i → IsLastLess test r (first ++ more) n i
+    last_kept fails i e = by now refl
+      where
+        same_is : (o : Option ℕ) → now ≡ o → Some i ≡ option_map (later_line n) o
+        same_is o now_is = sym e ∙ without_it fails ∙ ap (option_map (later_line n)) now_is
+
+        by : (o : Option ℕ) → now ≡ o → IsLastLess test r (first ++ more) n i
+        by None none = let no : Some i ≡ None = same_is None none in absurd cc
+        by (Some j) some =
+            let same : Some i ≡ Some (later_line n j) = same_is (Some j) some in
+            record { number = j; last = some; later = cc }
+
     pub last_less : (i : ℕ) → was ≡ Some i → i ≢ n → IsLastLess test r (first ++ more) n i
     last_less i e other = by passes refl now refl
       where
@@ -65,9 +78,6 @@ module _ (r : Reading) (first : List Line) (l : Line) (more : List Line)
         new_is is o now_is =
             let same : Some i ≡ Some (or_new n o) =
             sym e ∙ with_it is ∙ ap (λ (p : Option ℕ). Some (or_new n p)) now_is in cc
-
-        same_is : passes ≡ false → (o : Option ℕ) → now ≡ o → Some i ≡ option_map (later_line n) o
-        same_is is o now_is = sym e ∙ without_it is ∙ ap (option_map (later_line n)) now_is
 
         by : (b : Bool) → passes ≡ b → (o : Option ℕ) → now ≡ o → IsLastLess test r (first ++ more) n i
         by true is None none = absurd (other (new_is is None none))
@@ -79,10 +89,7 @@ module _ (r : Reading) (first : List Line) (l : Line) (more : List Line)
             later = new_is is (Some j) some ∙ new_from n j past ∙ sym (later_from n j past);
           }
         ]
-        by false is None none = let no : Some i ≡ None = same_is is None none in absurd cc
-        by false is (Some j) some =
-            let same : Some i ≡ Some (later_line n j) = same_is is (Some j) some in
-            record { number = j; last = some; later = cc }
+        by false is o now_is = last_kept is i e
 
     pub none_less : was ≡ None → now ≡ None
     none_less none = by passes refl now refl

@@ -8,7 +8,8 @@
 --
 -- Theorems: `place_is`, `edited_is`, `at_is`, `line_is`, `newline_stays`; `put_place`, `put_document`, `newline_by`,
 -- `line_moves`: of any change that puts in a keyval; `puts_place`, `puts_document`, `lines_stay`, `lines_move`: of one
--- that puts in lines; `scalar_quiet`: a scalar has no newline in it; `item_none`.
+-- that puts in lines; `earlier`, `later_width`: the lines before one then; `scalar_quiet`: a scalar has no newline in
+-- it; `item_none`.
 use Rattle.std.proofs.Common.{◌≡◌, ℕ, zero, suc, ◌+◌, ◌-◌, ◌<◌, ◌≤◌, Bool, true, false, cond, List, [], ◌∷◌, ◌++◌}
 use Rattle.std.proofs.Common.{length, take, drop, refl, sym, ap, subst, ◌∙◌, append_assoc, length-append, arith}
 use Rattle.std.proofs.Common.{Option, Some, None, inl, inr, map}
@@ -184,9 +185,10 @@ drop_none [] = refl
 drop_none (e ∷ es) = refl
 
 -- the lines before line i, with more before line n
-earlier : (n i : ℕ) (xs es : List Ended) → i < n → n ≤ length es
+pub earlier : (n i : ℕ) (xs es : List Ended) → i ≤ n → n ≤ length es
     → take i (take n es ++ (xs ++ drop n es)) ≡ take i es
-earlier zero i xs es h few = absurd (omega (arith, h))
+earlier zero zero xs es h few = take_none (take 0 es ++ (xs ++ drop 0 es)) ∙ sym (take_none es)
+earlier zero (suc i) xs es h few = absurd (omega (arith, h))
 earlier (suc n) i xs [] h few = absurd (omega (arith, few))
 earlier (suc n) zero xs (e ∷ es) h few = refl
 earlier (suc n) (suc i) xs (e ∷ es) h few =
@@ -204,7 +206,7 @@ past_width i (x ∷ xs) es =
       past_width i xs es,
     )
 
-later_width : (n i : ℕ) (xs es : List Ended) → n ≤ i → i ≤ length es
+pub later_width : (n i : ℕ) (xs es : List Ended) → n ≤ i → i ≤ length es
     → width (take (length xs + i) (take n es ++ (xs ++ drop n es))) ≡ width (take i es) + width xs
 later_width zero i xs es h few =
     ap (λ (l : List Ended). width (take (length xs + i) (l ++ (xs ++ drop 0 es)))) (take_none es)
@@ -256,7 +258,7 @@ module _ (profile : Profile) (bom : List ℕ) (es : List Ended) (valid : AllByRe
       let earlier_at : nat_lt m.at l.at ≡ true =
       lt-ltb m.at l.at (omega (arith, at, m_at, width_grows profile n k es valid less closed)) in
       length-append bom (ended_text (before k))
-      ∙ ap (λ (fs : List Ended). length bom + width fs) (earlier n k xs es less closed)
+      ∙ ap (λ (fs : List Ended). length bom + width fs) (earlier n k xs es (omega (arith, less)) closed)
       ∙ sym m_at
       ∙ ap (λ (b : Bool). cond b m.at ((m.at + length l.new) - l.size)) (sym earlier_at)
 

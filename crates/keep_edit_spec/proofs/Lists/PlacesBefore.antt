@@ -3,17 +3,17 @@
 -- What is asked is asked of each edit, of each line and of each change, so of fewer too.
 --
 -- Theorem: `placed_before`.
-use Rattle.std.proofs.Common.{◌≡◌, ℕ, ◌<◌, Bool, false, List, [], ◌∷◌, length, suc, All, inl, inr}
+use Rattle.std.proofs.Common.{◌≡◌, ℕ, ◌<◌, Bool, false, List, [], ◌∷◌, length, suc, All, ◌⊎◌, inl, inr}
 use Rattle.std.specs.Prelude.{IsTrue}
 use Rattle.std.specs.List.{list_any}
 use Rattle.std.proofs.lemmas.Bool.{or_parts}
 use Rattle.std.proofs.lemmas.List.Elements.{All-cons, All-nil, All-weaker}
 use Rattle.std.proofs.lemmas.List.Folds.{list_any_none}
 use Rattle.keep_syntax.specs.Tree.{Document, text}
-use Rattle.keep_edit_spec.specs.DottedLines.{AddedAt, IsAfter, added_at, into_dotted}
 use Rattle.keep_edit_spec.specs.Edits.{Edit, append_element, append_table, insert, remove, rename, set}
+use Rattle.keep_edit_spec.specs.InsertKinds.{Added, IsAfterLine, added_as}
 use Rattle.keep_edit_spec.specs.Runs.{ArePlain, IsBeforeHeaders, IsInOrder, IsPlain, IsPlainBefore, KeepsPlace}
-use Rattle.keep_edit_spec.specs.Runs.{LetsCome, is_header, is_insert, takes_up_to}
+use Rattle.keep_edit_spec.specs.Runs.{LetsCome, LetsTable, PassesTable, is_header, is_insert, takes_up_to}
 use Rattle.keep_edit_spec.specs.TextChanges.{IsBeside, TextChange, change_at, with_change}
 use Rattle.keep_edit_spec.proofs.Lists.TextChanges.{none_with, rest_of_all}
 
@@ -50,7 +50,7 @@ each_none test (e ∷ edits) none =
 
 -- what holds of each of the edits holds of each of the fewer, and of the lines
 module _ (s : Document) (edits fewer : List Edit) (are : (P : Edit → Type 0) → All P edits → All P fewer)
-    (lines less : List AddedAt) (each : (P : AddedAt → Type 0) → All P lines → All P less)
+    (lines less : List Added) (each : (P : Added → Type 0) → All P lines → All P less)
     (changes : List TextChange) (c : TextChange) where
   abbrev bytes : List ℕ
   bytes = text s
@@ -60,16 +60,23 @@ module _ (s : Document) (edits fewer : List Edit) (are : (P : Edit → Type 0) �
       inl (list_any_none is_header fewer (are (λ e. is_header e ≡ false) (each_none is_header edits none)))
   headers_before at (inr before) = inr before
 
-  order_before : (line : AddedAt) → IsInOrder lines (with_change changes c) line → IsInOrder less changes line
+  order_before : (line : Added) → IsInOrder edits (with_change changes c) lines line → IsInOrder fewer changes less line
   order_before line order = record {
-    after = each (λ l. IsAfter l line) order.after;
+    after = each (λ l. IsAfterLine l line) order.after;
     stays = λ is. (none_with (takes_up_to line.at) changes c (order.stays is)).1;
+    passed = are (LetsTable line) order.passed;
   }
+
+  header_before : (d : TextChange)
+      → All (λ e. IsTrue (is_header e)) edits ⊎ IsPlainBefore bytes (with_change changes c) d.at
+      → All (λ e. IsTrue (is_header e)) fewer ⊎ IsPlainBefore bytes changes d.at
+  header_before d (inl all) = inl (are (λ x. IsTrue (is_header x)) all)
+  header_before d (inr plain) = inr (clear_before bytes changes c d plain)
 
   pub placed_before : (f : Edit) (d : TextChange) → KeepsPlace s edits (with_change changes c) lines f d
       → KeepsPlace s fewer changes less f d
   placed_before (insert path value) d (order, h) = (
-    order_before (added_at s path d (into_dotted s path)) order,
+    order_before (added_as s path d) order,
     elim h [
       | inl all ↦ inl (are (λ x. IsTrue (is_insert x)) all)
       | inr (plain, (lets, before)) ↦ inr (
@@ -78,14 +85,8 @@ module _ (s : Document) (edits fewer : List Edit) (are : (P : Edit → Type 0) �
       )
     ],
   )
-  placed_before (append_table keys) d h = elim h [
-    | inl all ↦ inl (are (λ x. IsTrue (is_header x)) all)
-    | inr plain ↦ inr (clear_before bytes changes c d plain)
-  ]
-  placed_before (append_element keys) d h = elim h [
-    | inl all ↦ inl (are (λ x. IsTrue (is_header x)) all)
-    | inr plain ↦ inr (clear_before bytes changes c d plain)
-  ]
+  placed_before (append_table keys) d (passed, h) = (each (PassesTable keys) passed, header_before d h)
+  placed_before (append_element keys) d (passed, h) = (each (PassesTable keys) passed, header_before d h)
   placed_before (remove path) d h = tt
   placed_before (set path value) d h = tt
   placed_before (rename path name) d h = tt

@@ -15,19 +15,20 @@ use Rattle.std.proofs.lemmas.Bool.{eq-eqb, lt-ltb, or_parts, eqb-true}
 use Rattle.std.proofs.lemmas.List.Elements.{All-head, All-tail, All-cons, All-nil}
 use Rattle.keep_types.specs.declared.leaf.Profile.{Profile}
 use Rattle.keep_syntax.specs.Tree.{Document, Value, element, header, text}
-use Rattle.keep_path.specs.Path.{Part}
+use Rattle.keep_path.specs.Path.{Part, without_last}
 use Rattle.keep_edit_spec.specs.Changed.{Place}
 use Rattle.keep_edit_spec.specs.Edits.{Edit, append_element, append_table, edited_document, insert, key_with, remove}
 use Rattle.keep_edit_spec.specs.Edits.{rename, set}
 use Rattle.keep_edit_spec.specs.Laws.{IsEditable}
 use Rattle.keep_edit_spec.specs.Lines.{newline_of}
 use Rattle.keep_edit_spec.specs.AddedLines.{first_new}
-use Rattle.keep_edit_spec.specs.DottedLines.{AddedAt, IsAfter, added_at, into_dotted}
+use Rattle.keep_edit_spec.specs.InsertKinds.{Added, IsAfterAs, IsAfterLine, added_as, is_last_in_body}
+use Rattle.keep_edit_spec.specs.InsertKinds.{kind_of}
 use Rattle.keep_edit_spec.specs.AppendedHeaders.{AppendsElement, AppendsTable}
 use Rattle.keep_edit_spec.specs.Runs.{IsBeforeHeaders, IsPlain, IsPlainBefore, IsRun, IsStillPlaced, KeepsPlace}
 use Rattle.keep_edit_spec.specs.Runs.{MakesChange, is_header, is_insert, is_new_after, takes_up_to, ArePlain}
 use Rattle.keep_edit_spec.specs.Runs.{ComesInOrder, ComesInPlace, IsSeenStill, LeavesPlace, LetsCome, StaysPlaced, seen}
-use Rattle.keep_edit_spec.specs.Runs.{with_line}
+use Rattle.keep_edit_spec.specs.Runs.{LetsTable, PassesBy, PassesLine, PassesTable, with_line}
 use Rattle.keep_edit_spec.specs.TextChanges.{Follow, IsBeside, TextChange, moved_past, text_with, with_change}
 use Rattle.keep_edit_spec.specs.TextChanges.{change_at, moved_by_all}
 use Rattle.keep_edit_spec.proofs.Append.AppendPlace.{append_place}
@@ -35,6 +36,8 @@ use Rattle.keep_edit_spec.proofs.Lists.PlainTexts.{plain_newline, plain_with}
 use Rattle.keep_edit_spec.proofs.Lists.TextChanges.{begins_apart, begins_at_one, end_apart, end_apart_let, moved_next}
 use Rattle.keep_edit_spec.proofs.Lists.TextChanges.{none_with, one_of_all, rest_of_all}
 use Rattle.keep_edit_spec.specs.SaidLines.{SaysBefore}
+use Rattle.keep_edit_spec.specs.declared.line_kind.LineKind.{LineKind}
+use Rattle.keep_edit_spec.specs.declared.line_kind.LineKind.TheVariants.{LastInBody, OfDotted, WithHeader}
 use Rattle.keep_edit_spec.proofs.Lists.MadeChanges.{within_text, removes_there}
 
 -- a change that takes bytes, but not the one before a place, ends elsewhere
@@ -66,7 +69,7 @@ abbrev range : {bytes : List ℕ} {at : ℕ} → SaysBefore bytes at → TextCha
 range b = change_at b.from (suc (length b.line)) []
 
 module _ (profile : Profile) (limit : ℕ) (s : Document) (edits : List Edit) (changes : List TextChange)
-    (lines : List AddedAt) (now : Document) (r : IsRun profile limit s edits changes lines now) (c : TextChange)
+    (lines : List Added) (now : Document) (r : IsRun profile limit s edits changes lines now) (c : TextChange)
     (some : 0 < c.size) (within : c.at + c.size ≤ length (text s)) (left : All (λ x. IsBeside x c) changes)
     (d : TextChange) (right : All (λ x. IsBeside x d) changes) (beside : IsBeside c d)
     (lets : All (LetsCome (text s) (with_change changes c) d.at) (with_change changes c)) where
@@ -105,7 +108,7 @@ module _ (profile : Profile) (limit : ℕ) (s : Document) (edits : List Edit) (c
           (other x (All-head (λ y. IsBeside y c) x cs h) (All-head (λ y. y.at ≡ c.at → 0 < y.size) x cs k))
           (none_here cs (All-tail (λ y. IsBeside y c) x cs h) (All-tail (λ y. y.at ≡ c.at → 0 < y.size) x cs k))
 
-  line_comes : (path : List Part) (value : Value) → into_dotted now path ≡ false
+  line_comes : (path : List Part) (value : Value) → kind_of now path ≡ LastInBody
       → ((moved_past changes c).at + c.size ≢ (moved_past changes d).at)
       ⊎ ComesInPlace now (moved_past changes c) (insert path value) (moved_past changes d)
   line_comes path value ends = by (one_of_all (LetsCome (text s) all d.at) changes c lets)
@@ -122,7 +125,7 @@ module _ (profile : Profile) (limit : ℕ) (s : Document) (edits : List Edit) (c
               (let both : false ≡ true =
               sym e ∙ eq-eqb ((moved_past changes c).at + c.size) (moved_past changes d).at same in absurd cc))
           there true e = inr (record {
-            line = ap not ends;
+            line = ap is_last_in_body ends;
             some = some;
             takes = h.takes;
             next = eqb-true ((moved_past changes c).at + c.size) (moved_past changes d).at e;
@@ -209,19 +212,43 @@ not_after bytes e edits at (inr before) one same = before same
 -- two lines that are in order are so still
 order_now : (s : Document) (changes : List TextChange) (now : Document) (path other : List Part) (c d : TextChange)
     → Follow 0 changes → All (λ x. IsBeside x c) changes → All (λ x. IsBeside x d) changes
-    → first_new now path ≡ first_new s path → into_dotted now path ≡ into_dotted s path
-    → first_new now other ≡ first_new s other → into_dotted now other ≡ into_dotted s other
-    → IsAfter (added_at s path c (into_dotted s path)) (added_at s other d (into_dotted s other))
-    → IsAfter (added_at now path (moved_past changes c) (into_dotted now path))
-    (added_at now other (moved_past changes d) (into_dotted now other))
-order_now s changes now path other c d follow left right first to first' to' order is same =
-    let one : c.at ≡ d.at = begins_at_one changes c d follow left right same in
-    rw (first, first', to) (order (sym to' ∙ is) one)
+    → first_new now path ≡ first_new s path → kind_of now path ≡ kind_of s path
+    → first_new now other ≡ first_new s other → kind_of now other ≡ kind_of s other
+    → IsAfterLine (added_as s path c) (added_as s other d)
+    → IsAfterLine (added_as now path (moved_past changes c)) (added_as now other (moved_past changes d))
+order_now s changes now path other c d follow left right first kind first' kind' order =
+    subst (λ (a : LineKind). IsAfterAs a (added_as now path there) (added_as now other there')) (sym kind')
+    (by (kind_of s other) order)
+  where
+    there : TextChange
+    there = moved_past changes c
+
+    there' : TextChange
+    there' = moved_past changes d
+
+    one : there.at ≡ there'.at → c.at ≡ d.at
+    one same = begins_at_one changes c d follow left right same
+
+    by : (a : LineKind) → IsAfterAs a (added_as s path c) (added_as s other d)
+        → IsAfterAs a (added_as now path there) (added_as now other there')
+    by LastInBody h = λ same is. h (one same) (sym kind ∙ is)
+    by OfDotted h = λ same.
+        let was = h (one same) in (kind ∙ was.0, ap without_last first ∙ was.1 ∙ sym (ap without_last first'))
+    by WithHeader h = λ is.
+        let was = h (sym kind ∙ is) in
+        (λ same. was.0 (one same), λ same. was.1 (sym (ap without_last first) ∙ same ∙ ap without_last first'))
+
+-- a header that passes by the table of a line with a header does so still
+passes_now : (s now : Document) (path : List Part) (value : Value) (c d : TextChange) (keys : List (List ℕ))
+    → IsSeenStill s now (insert path value) → PassesTable keys (added_as s path c)
+    → PassesTable keys (added_as now path d)
+passes_now s now path value c d keys (first, kind) passes = λ is.
+    subst (PassesBy keys) (sym (ap without_last first)) (passes (sym kind ∙ is))
 
 -- ---- after an edit of a run
 
 module _ (profile : Profile) (limit : ℕ) (s : Document) (edits : List Edit) (changes : List TextChange)
-    (lines : List AddedAt) (now : Document) (r : IsRun profile limit s edits changes lines now) (e : Edit)
+    (lines : List Added) (now : Document) (r : IsRun profile limit s edits changes lines now) (e : Edit)
     (c : TextChange) where
   -- where newlines are alike
   same_newline : IsEditable profile limit (edited_document now e)
@@ -264,7 +291,7 @@ module _ (profile : Profile) (limit : ℕ) (s : Document) (edits : List Edit) (c
   placed_now : MakesChange profile limit s e c → All (λ x. IsBeside x c) changes → (path : List Part) (value : Value)
       (d : TextChange) → All (λ x. IsBeside x d) changes → IsBeside c d
       → All (LetsCome (text s) (with_change changes c) d.at) (with_change changes c)
-      → (is_header e ≡ true → d.at ≢ length (text s)) → is_insert e ≡ false → into_dotted now path ≡ false
+      → (is_header e ≡ true → d.at ≢ length (text s)) → is_insert e ≡ false → kind_of now path ≡ LastInBody
       → ((moved_past changes c).at + c.size ≢ (moved_past changes d).at)
       ⊎ ComesInPlace now (moved_past changes c) (insert path value) (moved_past changes d)
   placed_now makes left path value d right beside lets before other ends =
@@ -286,18 +313,17 @@ module _ (profile : Profile) (limit : ℕ) (s : Document) (edits : List Edit) (c
         → IsBeforeHeaders (text s) (seen s e ∷ edits) d.at → is_insert e ≡ false
         → ((moved_past changes c).at + c.size ≢ (moved_past changes d).at)
         ⊎ ComesInPlace now (moved_past changes c) (insert path value) (moved_past changes d)
-    line_placed lets before other = by (into_dotted s path) refl
+    line_placed lets before other = by (kind_of s path) refl
       where
         not_last : is_header e ≡ true → d.at ≢ length (text s)
         not_last head = not_after (text s) (seen s e) edits d.at before (header_seen s e ∙ head)
 
-        by : (b : Bool) → into_dotted s path ≡ b
+        -- one that comes in the place of none
+        elsewhere : kind_of s path ≢ LastInBody
             → ((moved_past changes c).at + c.size ≢ (moved_past changes d).at)
             ⊎ ComesInPlace now (moved_past changes c) (insert path value) (moved_past changes d)
-        by false is =
-            placed_now makes left path value d right beside lets not_last other (seen_there.1 ∙ is)
-        by true is =
-            let clear = none_with (takes_up_to d.at) changes c (k.0.stays is) in
+        elsewhere differs =
+            let clear = none_with (takes_up_to d.at) changes c (k.0.stays differs) in
             elim (takes_or_ends profile limit s e c r.first makes other) [
               | inl some ↦ inl
                   (end_apart changes c d r.follow left right clear.1 beside (ends_elsewhere d.at c some clear.0))
@@ -305,24 +331,54 @@ module _ (profile : Profile) (limit : ℕ) (s : Document) (edits : List Edit) (c
                   (header_apart s changes c left r.follow zero_size end d right (not_last head))
             ]
 
+        by : (a : LineKind) → kind_of s path ≡ a
+            → ((moved_past changes c).at + c.size ≢ (moved_past changes d).at)
+            ⊎ ComesInPlace now (moved_past changes c) (insert path value) (moved_past changes d)
+        by LastInBody is = placed_now makes left path value d right beside lets not_last other (seen_there.1 ∙ is)
+        by OfDotted is = elsewhere (λ last. (let both : OfDotted ≡ LastInBody = sym is ∙ last in absurd cc))
+        by WithHeader is = elsewhere (λ last. (let both : WithHeader ≡ LastInBody = sym is ∙ last in absurd cc))
+
     -- after another line
     lines_ordered : IsSeenStill s now e
         → ComesInOrder now (insert path value) (moved_past changes d) e (moved_past changes c)
     lines_ordered seen_now = by e refl
       where
+        passed : (f : Edit) → f ≡ e → LetsTable (added_as s path d) (seen s f)
+        passed f is =
+            subst (λ (f : Edit). LetsTable (added_as s path d) (seen s f)) (sym is)
+            (All-head (LetsTable (added_as s path d)) (seen s e) edits k.0.passed)
+
         by : (f : Edit) → f ≡ e → ComesInOrder now (insert path value) (moved_past changes d) f (moved_past changes c)
         by (insert other new) is =
-            let at_first : AddedAt = added_at s other c (into_dotted s other) in
-            let its : AddedAt = added_at s path d (into_dotted s path) in
+            let at_first : Added = added_as s other c in
+            let its : Added = added_as s path d in
             let still : IsSeenStill s now (insert other new) = subst (IsSeenStill s now) (sym is) seen_now in
             order_now s changes now other path c d r.follow left right still.0 still.1 seen_there.0 seen_there.1
-            (All-head (λ l. IsAfter l its) at_first lines
-            (subst (λ (f : Edit). All (λ l. IsAfter l its) (with_line s f c lines)) (sym is) k.0.after))
+            (All-head (λ l. IsAfterLine l its) at_first lines
+            (subst (λ (f : Edit). All (λ l. IsAfterLine l its) (with_line s f c lines)) (sym is) k.0.after))
         by (set other new) is = tt
         by (rename other name) is = tt
         by (remove other) is = tt
-        by (append_table keys) is = tt
-        by (append_element keys) is = tt
+        by (append_table keys) is =
+            passes_now s now path value d (moved_past changes d) keys seen_there (passed (append_table keys) is)
+        by (append_element keys) is =
+            passes_now s now path value d (moved_past changes d) keys seen_there (passed (append_element keys) is)
+
+  -- a header after a line
+  line_passed : IsSeenStill s now e → (keys : List (List ℕ)) → All (PassesTable keys) (with_line s e c lines)
+      → PassesLine now keys e (moved_past changes c)
+  line_passed seen_now keys all = by e refl
+    where
+      by : (f : Edit) → f ≡ e → PassesLine now keys f (moved_past changes c)
+      by (insert other new) is =
+          passes_now s now other new c (moved_past changes c) keys (subst (IsSeenStill s now) (sym is) seen_now)
+          (All-head (PassesTable keys) (added_as s other c) lines
+          (subst (λ (f : Edit). All (PassesTable keys) (with_line s f c lines)) (sym is) all))
+      by (set other new) is = tt
+      by (rename other name) is = tt
+      by (remove other) is = tt
+      by (append_table more) is = tt
+      by (append_element more) is = tt
 
   -- what another writes anew keeps its place
   pub still_placed : (f : Edit) (d : TextChange)
@@ -342,10 +398,14 @@ module _ (profile : Profile) (limit : ℕ) (s : Document) (edits : List Edit) (c
     ],
     lines_ordered path value d makes left right beside seen_f k seen_e,
   )
-  still_placed (append_table keys) d makes seen_e seen_f left right beside fine same k =
-      (header_placed (append_table keys) refl refl makes left d right beside fine same k, tt)
-  still_placed (append_element keys) d makes seen_e seen_f left right beside fine same k =
-      (header_placed (append_element keys) refl refl makes left d right beside fine same k, tt)
+  still_placed (append_table keys) d makes seen_e seen_f left right beside fine same k = (
+    header_placed (append_table keys) refl refl makes left d right beside fine same k.1,
+    line_passed seen_e keys k.0,
+  )
+  still_placed (append_element keys) d makes seen_e seen_f left right beside fine same k = (
+    header_placed (append_element keys) refl refl makes left d right beside fine same k.1,
+    line_passed seen_e keys k.0,
+  )
   still_placed (remove path) d makes seen_e seen_f left right beside fine same k = (λ new. absurd cc, tt)
   still_placed (set path value) d makes seen_e seen_f left right beside fine same k = (λ new. absurd cc, tt)
   still_placed (rename path name) d makes seen_e seen_f left right beside fine same k = (λ new. absurd cc, tt)

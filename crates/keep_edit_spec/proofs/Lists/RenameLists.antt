@@ -15,7 +15,7 @@ use Rattle.std.proofs.lemmas.List.Elements.{All-cons, All-head, All-nil, All-tai
 use Rattle.keep_types.specs.declared.leaf.Profile.{Profile}
 use Rattle.keep_syntax.specs.Tree.{Document}
 use Rattle.keep_path.specs.Path.{Part, beside}
-use Rattle.keep_edit_spec.specs.DottedLines.{AddedAt}
+use Rattle.keep_edit_spec.specs.InsertKinds.{Added}
 use Rattle.keep_edit_spec.specs.Edits.{Edit, append_element, append_table, edited_document, insert, remove, rename, set}
 use Rattle.keep_edit_spec.specs.Laws.{IsEditable}
 use Rattle.keep_edit_spec.specs.RenameLists.{AllowsKey, IsRenameIn, RunGoesOnRenamed}
@@ -133,11 +133,11 @@ module _ (profile : Profile) (limit : ℕ) (s : Document) (ms rest : List MadeEd
   some_bytes : MakesChange profile limit s e c → 0 < c.size
   some_bytes its = its.some
 
-  any_place : (edits : List Edit) (changes : List TextChange) (lines : List AddedAt)
+  any_place : (edits : List Edit) (changes : List TextChange) (lines : List Added)
       → KeepsPlace s edits changes lines e c
   any_place edits changes lines = tt
 
-  no_line : (lines : List AddedAt) → with_line s e c lines ≡ lines
+  no_line : (lines : List Added) → with_line s e c lines ≡ lines
   no_line lines = refl
 
   alone_rest : All (λ g. LeavesAlone g f) (seen_of s rest)

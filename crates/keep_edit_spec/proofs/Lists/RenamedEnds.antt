@@ -2,12 +2,14 @@
 --
 -- A header's line is known by what it says: its last mention, and no other, begins a body (`headed`). The new document
 -- says the same line by line, with the paths changed. So a header comes where one was, and begins the body of a path
--- that stays where it did (`heads_stay`, `begun_stay`). The lines between are of the same kinds, so bodies are as long
--- as they were (`lengths_stay`).
+-- that stays where it did (`heads_stay`), and it goes through such a path where it did (`through_stays`). So the last
+-- line of these is the same (`last_stays`). The lines between are of the same kinds, so bodies are as long as they were
+-- (`lengths_stay`).
 --
--- Theorems: `end_renamed`, `begins_renamed`; `headed`, `silent_starts`: what a header's line says.
-use Rattle.std.proofs.Common.{◌≡◌, ℕ, Bool, true, false, ◌&&◌, ◌||◌, List, [], ◌∷◌, ◌++◌, map, refl, sym, ap, ap₂}
-use Rattle.std.proofs.Common.{subst, ◌∙◌, Some, None}
+-- Theorems: `end_renamed`, `begins_renamed`, `through_renamed`; `bodies_renamed`: of each header by its number;
+-- `headed`, `silent_starts`: what a header's line says.
+use Rattle.std.proofs.Common.{◌≡◌, ℕ, zero, suc, ◌+◌, Bool, true, false, ◌&&◌, ◌||◌, List, [], ◌∷◌, ◌++◌, map, drop}
+use Rattle.std.proofs.Common.{refl, sym, ap, ap₂, subst, ◌∙◌, Some, None}
 use Rattle.std.specs.List.{list_any}
 use Rattle.std.specs.Option.{is_some}
 use Rattle.std.proofs.lemmas.List.{append-nil}
@@ -19,10 +21,10 @@ use Rattle.keep_meaning.specs.Marks.{header_path, header_prefixes}
 use Rattle.keep_meaning.specs.Marks as marks_of
 use Rattle.keep_meaning.specs.Meaning.{after_line, keys_of, keyval_mentions, line_mentions, lines, lines_mentions}
 use Rattle.keep_meaning.specs.Meaning.{mentions_in, statement_of}
-use Rattle.keep_meaning.specs.Nodes.{is_begun, is_define}
+use Rattle.keep_meaning.specs.Nodes.{has, is_begun, is_define, is_through, kinds_at}
 use Rattle.keep_edit_spec.specs.Edits.{end_of}
-use Rattle.keep_edit_spec.specs.Lines.{begins, body_length, is_header, last_line, more_lines}
-use Rattle.keep_edit_spec.proofs.Common.Moves.{moved}
+use Rattle.keep_edit_spec.specs.Lines.{begins, body_end, body_length, is_header, last_line, leads_through, more_lines}
+use Rattle.keep_edit_spec.proofs.Common.Moves.{mentions_moved, moved}
 use Rattle.keep_edit_spec.proofs.Common.Runs.{AllOf, IsDisjoint, all_left, all_map, all_right}
 use Rattle.keep_edit_spec.proofs.Lists.BodyEnds.{end_cons, end_in, end_or, length_after}
 use Rattle.keep_edit_spec.proofs.Lists.RemovedOwn.{last_or}
@@ -132,6 +134,32 @@ module _ (p b : List Part) where
       (lengths_stay (after_line r l) (after_line r' l') ls ls' h.1
       (all_right (IsDisjoint b) (line_mentions r l) rest clear))
 
+  -- behind the first lines
+  lengths_behind : (i : ℕ) (r r' : Reading) (ls ls' : List Line) → AreLinesMoved (moved_path p b) r r' ls ls'
+      → AllOf (IsDisjoint b) (lines_mentions r ls) → body_length (drop i ls') ≡ body_length (drop i ls)
+  lengths_behind i r r' [] [] h clear = refl
+  lengths_behind i r r' [] (l' ∷ ls') h clear = absurd h
+  lengths_behind i r r' (l ∷ ls) [] h clear = absurd h
+  lengths_behind zero r r' (l ∷ ls) (l' ∷ ls') h clear = lengths_stay r r' (l ∷ ls) (l' ∷ ls') h clear
+  lengths_behind (suc i) r r' (l ∷ ls) (l' ∷ ls') h clear =
+      lengths_behind i (after_line r l) (after_line r' l') ls ls' h.1
+      (all_right (IsDisjoint b) (line_mentions r l) (lines_mentions (after_line r l) ls) clear)
+
+  -- the last line that passes a test, where each line passes as it did
+  last_stays : (test : Reading → Line → Bool)
+      → ((r r' : Reading) (l l' : Line) → IsLineMoved (moved_path p b) r r' l l'
+      → AllOf (IsDisjoint b) (line_mentions r l) → test r' l' ≡ test r l)
+      → (r r' : Reading) (ls ls' : List Line) → AreLinesMoved (moved_path p b) r r' ls ls'
+      → AllOf (IsDisjoint b) (lines_mentions r ls) → last_line test r' ls' ≡ last_line test r ls
+  last_stays test same r r' [] [] h clear = refl
+  last_stays test same r r' [] (l' ∷ ls') h clear = absurd h
+  last_stays test same r r' (l ∷ ls) [] h clear = absurd h
+  last_stays test same r r' (l ∷ ls) (l' ∷ ls') h clear =
+      let rest : List Mention = lines_mentions (after_line r l) ls in
+      ap₂ last_or (same r r' l l' h.0 (all_left (IsDisjoint b) (line_mentions r l) rest clear))
+      (last_stays test same (after_line r l) (after_line r' l') ls ls' h.1
+      (all_right (IsDisjoint b) (line_mentions r l) rest clear))
+
   module _ (a : List Part) (keeps : Keeps (λ q. same_path q a)) where
     ends_stay : (r r' : Reading) (ls ls' : List Line) → AreLinesMoved (moved_path p b) r r' ls ls'
         → AllOf (IsDisjoint b) (lines_mentions r ls) → end_in a r' ls' ≡ end_in a r ls
@@ -149,18 +177,6 @@ module _ (p b : List Part) where
         ∙ ap (end_or (begins a r l) (body_length ls))
         (ends_stay (after_line r l) (after_line r' l') ls ls' h.1 later)
         ∙ sym (end_cons a r l ls)
-
-    begun_stay : (r r' : Reading) (ls ls' : List Line) → AreLinesMoved (moved_path p b) r r' ls ls'
-        → AllOf (IsDisjoint b) (lines_mentions r ls) → last_line (begins a) r' ls' ≡ last_line (begins a) r ls
-    begun_stay r r' [] [] h clear = refl
-    begun_stay r r' [] (l' ∷ ls') h clear = absurd h
-    begun_stay r r' (l ∷ ls) [] h clear = absurd h
-    begun_stay r r' (l ∷ ls) (l' ∷ ls') h clear =
-        let rest : List Mention = lines_mentions (after_line r l) ls in
-        ap₂ last_or
-        (heads_stay r r' l l' h.0 (all_left (IsDisjoint b) (line_mentions r l) rest clear) (λ q. same_path q a) keeps)
-        (begun_stay (after_line r l) (after_line r' l') ls ls' h.1
-        (all_right (IsDisjoint b) (line_mentions r l) rest clear))
 
 -- of a path that stays
 module _ (p b : List Part) (s s' : Document) (a : List Part) (h : IsMovedTo p b s s')
@@ -181,4 +197,27 @@ module _ (p b : List Part) (s s' : Document) (a : List Part) (h : IsMovedTo p b 
 
   -- the last line that begins its body
   pub begins_renamed : last_line (begins a) start (lines s') ≡ last_line (begins a) start (lines s)
-  begins_renamed = begun_stay p b a keeps_path start start (lines s) (lines s') h clear
+  begins_renamed =
+      last_stays p b (begins a)
+      (λ r r' l l' m apart. heads_stay p b r r' l l' m apart (λ q. same_path q a) keeps_path) start start (lines s)
+      (lines s') h clear
+
+  -- the last header that goes through it
+  through_stays : (r r' : Reading) (l l' : Line) → IsLineMoved (moved_path p b) r r' l l'
+      → AllOf (IsDisjoint b) (line_mentions r l) → leads_through a r' l' ≡ leads_through a r l
+  through_stays r r' l l' m apart_line =
+      let ms : List Mention = line_mentions r l in
+      let kinds : kinds_at a (map (moved (moved_path p b)) ms) ≡ kinds_at a ms =
+      ap (λ (q : List Part). kinds_at q (map (moved (moved_path p b)) ms)) (sym (disjoint_renamed p b a apart))
+      ∙ mentions_moved (λ q. strip b q ≡ None) (moved_path p b) (renamed_injective p b) a fresh ms apart_line in
+      ap₂ (λ (c d : Bool). c && d) (header_stays p b r r' l l' m apart_line)
+      (ap (has is_through a) m.mentioned ∙ ap (list_any is_through) kinds)
+
+  pub through_renamed : last_line (leads_through a) start (lines s') ≡ last_line (leads_through a) start (lines s)
+  through_renamed = last_stays p b (leads_through a) through_stays start start (lines s) (lines s') h clear
+
+-- the body of each header, by its number
+pub bodies_renamed : (p b : List Part) (s s' : Document) → IsMovedTo p b s s' → AllOf (IsDisjoint b) (mentions_in s)
+    → (i : ℕ) → body_end i (lines s') ≡ body_end i (lines s)
+bodies_renamed p b s s' h clear i =
+    ap (λ (n : ℕ). suc i + n) (lengths_behind p b (suc i) start start (lines s) (lines s') h clear)

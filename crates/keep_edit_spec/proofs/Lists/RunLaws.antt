@@ -14,7 +14,7 @@ use Rattle.std.proofs.lemmas.List.Elements.{All-head, All-tail}
 use Rattle.keep_syntax.specs.Tree.{Document, text}
 use Rattle.keep_path.specs.Path.{Part}
 use Rattle.keep_edit_spec.specs.Changed.{put}
-use Rattle.keep_edit_spec.specs.DottedLines.{AddedAt, added_at, into_dotted}
+use Rattle.keep_edit_spec.specs.InsertKinds.{Added, added_as}
 use Rattle.keep_edit_spec.specs.Edits.{Edit, append_element, append_table, edited_document, insert, remove, rename, set}
 use Rattle.keep_edit_spec.specs.Laws.{IsEditable, IsLawfulEdit}
 use Rattle.keep_edit_spec.specs.Runs.{IsOfPlace, IsSeenStill, LeavesAlone, MakesChange, NoneIsRun, RunGoesOn}
@@ -58,9 +58,9 @@ same_seen s now (append_table keys) h = refl
 same_seen s now (append_element keys) h = refl
 
 -- what holds of all lines holds of those before the last edit
-lines_before : (P : AddedAt → Type 0) (s : Document) (e : Edit) (c : TextChange) (lines : List AddedAt)
+lines_before : (P : Added → Type 0) (s : Document) (e : Edit) (c : TextChange) (lines : List Added)
     → All P (with_line s e c lines) → All P lines
-lines_before P s (insert path value) c lines h = All-tail P (added_at s path c (into_dotted s path)) lines h
+lines_before P s (insert path value) c lines h = All-tail P (added_as s path c) lines h
 lines_before P s (set path value) c lines h = h
 lines_before P s (rename path name) c lines h = h
 lines_before P s (remove path) c lines h = h

@@ -15,7 +15,7 @@ use Rattle.keep_types.specs.declared.leaf.Profile.{Profile}
 use Rattle.keep_syntax.specs.Tree.{Document, Value, text}
 use Rattle.keep_syntax.proofs.Shared.{one_document}
 use Rattle.keep_path.specs.Path.{Part}
-use Rattle.keep_edit_spec.specs.DottedLines.{AddedAt}
+use Rattle.keep_edit_spec.specs.InsertKinds.{Added}
 use Rattle.keep_edit_spec.specs.Edits.{Edit, append_element, append_table, edited_document, insert, remove, rename, set}
 use Rattle.keep_edit_spec.specs.Laws.{IsEditable}
 use Rattle.keep_edit_spec.specs.RunLists.{AreAtOnce, IsOneOf, IsSetIn, MadeEdit, RunGoesOnAgain}
@@ -91,7 +91,7 @@ each_of_others s P m ms rest one h =
 
 -- The lines are those of the others, if that one adds none.
 pub lines_apart : (s : Document) (m : MadeEdit) (later earlier : List MadeEdit)
-    → ((lines : List AddedAt) → with_line s m.edit m.change lines ≡ lines)
+    → ((lines : List Added) → with_line s m.edit m.change lines ≡ lines)
     → lines_of s (later ++ m ∷ earlier) ≡ lines_of s (later ++ earlier)
 lines_apart s m [] earlier none = none (lines_of s earlier)
 lines_apart s m (x ∷ later) earlier none =
@@ -133,9 +133,9 @@ beside_again x c d at size (inr (less, ends)) = inr (omega (arith, less, at), om
 -- an edit that takes bytes, and needs no place that is kept
 module _ (profile : Profile) (limit : ℕ) (s : Document) (e : Edit) (c : TextChange)
     (some : MakesChange profile limit s e c → 0 < c.size)
-    (kept : (edits : List Edit) (changes : List TextChange) (lines : List AddedAt)
+    (kept : (edits : List Edit) (changes : List TextChange) (lines : List Added)
     → KeepsPlace s edits changes lines e c)
-    (none : (lines : List AddedAt) → with_line s e c lines ≡ lines) where
+    (none : (lines : List Added) → with_line s e c lines ≡ lines) where
   abbrev one : MadeEdit
   one = made e c
 
@@ -242,11 +242,11 @@ module _ (profile : Profile) (limit : ℕ) (s : Document) (path : List Part) (va
   some_bytes : MakesChange profile limit s e c → 0 < c.size
   some_bytes sets = sets.some
 
-  any_place : (edits : List Edit) (changes : List TextChange) (lines : List AddedAt)
+  any_place : (edits : List Edit) (changes : List TextChange) (lines : List Added)
       → KeepsPlace s edits changes lines e c
   any_place edits changes lines = tt
 
-  no_line : (lines : List AddedAt) → with_line s e c lines ≡ lines
+  no_line : (lines : List Added) → with_line s e c lines ≡ lines
   no_line lines = refl
 
   abbrev SetLast : List MadeEdit → List MadeEdit → Type 0

@@ -7,8 +7,8 @@
 -- path of which the line says nothing (`kinds_beside`). Another path that can be inserted does not begin with that of
 -- the first new key, if its own has another (NewPaths); so its holder and its refusal stay (SaidOfPrefixes).
 --
--- Theorems: `kinds_replaced`; `kinds_beside`, `kinds_apart`; `only_dots`, `any_stays`, `node_stays`, `fact_stays`,
--- `elements_stay`; `holder_stays`, `refusal_stays`.
+-- Theorems: `kinds_replaced`, `count-append`, `none_counted`; `kinds_beside`, `kinds_apart`; `only_dots`, `any_stays`,
+-- `node_stays`, `fact_stays`, `elements_stay`; `holder_stays`, `refusal_stays`.
 use Rattle.std.proofs.Common.{◌≡◌, ◌≢◌, ℕ, ◌+◌, Bool, true, false, not, cond, ◌&&◌, ◌||◌, List, [], ◌∷◌, ◌++◌, map}
 use Rattle.std.proofs.Common.{take, drop, refl, sym, ap, ap₂, subst, ◌∙◌, append_assoc, arith, Option, None}
 use Rattle.std.specs.List.{count_by, filter_map, list_any}
@@ -52,16 +52,16 @@ kinds_replaced q before old new after same =
     ∙ sym (kinds_at-append q new after))
     ∙ sym (kinds_at-append q before (new ++ after))
 
-abbrev count_at : (MentionKind → Bool) → List Part → List Mention → ℕ
+abbrev pub count_at : (MentionKind → Bool) → List Part → List Mention → ℕ
 count_at test q ms = count_by test (kinds_at q ms)
 
-count-append : (test : MentionKind → Bool) (q : List Part) (xs ys : List Mention)
+pub count-append : (test : MentionKind → Bool) (q : List Part) (xs ys : List Mention)
     → count_at test q (xs ++ ys) ≡ count_at test q xs + count_at test q ys
 count-append test q xs ys =
     ap (count_by test) (kinds_at-append q xs ys)
     ∙ sum_by-append (λ (k : MentionKind). cond (test k) 1 0) (kinds_at q xs) (kinds_at q ys)
 
-none_counted : (test : MentionKind → Bool) (q : List Part) (ms : List Mention)
+pub none_counted : (test : MentionKind → Bool) (q : List Part) (ms : List Mention)
     → AllOf (λ m. test m.kind ≡ false) ms → count_at test q ms ≡ 0
 none_counted test q [] h = refl
 none_counted test q (m ∷ ms) h = by (is_at q m) refl (none_counted test q ms h.1)

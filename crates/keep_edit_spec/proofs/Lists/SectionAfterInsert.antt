@@ -8,7 +8,7 @@
 -- does (`starts`, `moves_whole`). The line says nothing at the table's path (AddedKeyval), and the text still ends in a
 -- newline. So the remove takes these lines (SectionAgain).
 --
--- Theorem: `section_after_insert`.
+-- Theorems: `section_after_insert`; `moves_whole`.
 use Rattle.std.proofs.Common.{◌≡◌, ℕ, suc, ◌+◌, ◌≤◌, Bool, true, false, List, [], ◌∷◌, ◌++◌, length, map, take, drop}
 use Rattle.std.proofs.Common.{refl, sym, ap, ap₂, subst, ◌∙◌, append_assoc, length-append, arith, Some, None, inl, inr}
 use Rattle.std.specs.Prelude.{nat_lt}
@@ -49,7 +49,7 @@ use Rattle.keep_edit_spec.proofs.Lists.SectionAgain as table
 -- ---- bytes that come beside others
 
 -- not at their end: so where these end is moved as where they begin
-moves_whole : (c d : TextChange) → c.size ≡ 0 → IsBeside c d → (d.at + d.size ≡ c.at → ⊥)
+pub moves_whole : (c d : TextChange) → c.size ≡ 0 → IsBeside c d → (d.at + d.size ≡ c.at → ⊥)
     → moved_by c (d.at + d.size) ≡ moved_by c d.at + d.size
 moves_whole c d adds (inl first) apart =
     let begin : nat_lt d.at c.at ≡ false = le-ltb d.at c.at (omega (arith, first, adds)) in

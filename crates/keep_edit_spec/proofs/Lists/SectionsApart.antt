@@ -5,7 +5,8 @@
 -- the next header (`by_earlier`). If after, all its lines are there (`by_later`). Where the headers' paths go once the
 -- first is gone, is given by a function (HeadersGo); the second's path goes there too.
 --
--- Theorems: `still_at`: where it is; `head_bytes`: a header's line has bytes; `seam_of`: a list that is cut twice.
+-- Theorems: `still_at`: where it is; `head_bytes`: a header's line has bytes; `seam_of`: a list that is cut twice;
+-- `none_split`: lines none of which passes.
 use Rattle.std.proofs.Common.{◌≡◌, ◌≢◌, ℕ, zero, suc, ◌+◌, ◌<◌, ◌≤◌, Bool, true, false, List, [], ◌∷◌, ◌++◌, length}
 use Rattle.std.proofs.Common.{map, take, drop, refl, sym, ap, ap₂, subst, ◌∙◌, append_assoc, arith, Option, Some, None}
 use Rattle.std.proofs.Common.{◌⊎◌, inl, inr}
@@ -110,7 +111,7 @@ none_or true None e = absurd cc
 none_or false None e = (refl, refl)
 none_or b (Some n) e = absurd cc
 
-none_split : (test : Reading → Line → Bool) (r : Reading) (a b : List Line) → last_line test r (a ++ b) ≡ None
+pub none_split : (test : Reading → Line → Bool) (r : Reading) (a b : List Line) → last_line test r (a ++ b) ≡ None
     → (last_line test r a ≡ None) × (last_line test (reading_after_lines r a) b ≡ None)
 none_split test r [] b e = (refl, e)
 none_split test r (l ∷ a) b e =

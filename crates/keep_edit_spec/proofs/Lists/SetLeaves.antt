@@ -2,22 +2,24 @@
 -- of all lines.
 --
 -- A set replaces the run of mentions at and under its path (`document_set`), so of any other path the same is said. It
--- changes the value of one line alone (`one_line_set`), which is a keyval as before: so the lengths of bodies and the
--- lines that begin them are the same (`length_same`, `end_same`, `begun_same`), and through each path the same lines
--- lead (`led_same`).
+-- changes the value of one line alone (`one_line_set`), which is a keyval as before: so the lengths of bodies are the
+-- same (`length_same`, `length_behind`, `end_same`), and so are the headers, which begin the same bodies and go through
+-- the same paths (`last_same`). Through each path the same lines lead by their own keys (`led_same`).
 --
--- Theorems: `set_kinds`, `set_ends`, `set_begins`, `set_led`.
-use Rattle.std.proofs.Common.{◌≡◌, ℕ, Bool, List, [], ◌∷◌, ◌++◌, refl, sym, ap, ap₂, subst, ◌∙◌, Option, Some, None}
+-- Theorems: `set_kinds`, `set_ends`, `set_begins`, `set_through`, `set_bodies`, `set_led`.
+use Rattle.std.proofs.Common.{◌≡◌, ℕ, zero, suc, ◌+◌, Bool, false, ◌&&◌, List, [], ◌∷◌, ◌++◌, drop, refl, sym, ap, ap₂}
+use Rattle.std.proofs.Common.{subst, ◌∙◌, Option, Some, None}
 use Rattle.keep_syntax.specs.Tree.{Name, Value, Content, keyval, Line, Document}
-use Rattle.keep_path.specs.Path.{Part, strip}
+use Rattle.keep_path.specs.Path.{Part, same_path, strip}
 use Rattle.keep_meaning.specs.Marks.{Mention, MentionKind, Reading, start}
-use Rattle.keep_meaning.specs.Meaning.{after_line, body_fact, entries_mentions, lines, mentions_in}
-use Rattle.keep_meaning.specs.Nodes.{kinds_at}
+use Rattle.keep_meaning.specs.Meaning.{after_line, body_fact, entries_mentions, line_mentions, lines, mentions_in}
+use Rattle.keep_meaning.specs.Nodes.{has, is_through, kinds_at}
 use Rattle.keep_edit_spec.specs.Changed.{Changed}
 use Rattle.keep_edit_spec.specs.Edits.{change, end_of, set}
-use Rattle.keep_edit_spec.specs.Lines.{begins, body_length, last_line, leads_dotted, plain_line}
+use Rattle.keep_edit_spec.specs.Lines.{begins, body_end, body_length, is_header, last_line, leads_dotted, leads_through}
+use Rattle.keep_edit_spec.specs.Lines.{plain_line}
 use Rattle.keep_edit_spec.proofs.Common.Runs.{AllOf, IsUnder, Rules, kinds_at-append, kinds_at-under}
-use Rattle.keep_edit_spec.proofs.Common.SetDocument.{LinesSet, document_set, one_line_set, under_run}
+use Rattle.keep_edit_spec.proofs.Common.SetDocument.{LinesSet, document_set, one_line_set, reading_of, under_run}
 use Rattle.keep_edit_spec.proofs.Common.SetLaw.{EachTo, IsSet, run, tag_of}
 use Rattle.keep_edit_spec.proofs.Lists.BodyEnds.{end_cons, end_in, end_or, length_after}
 use Rattle.keep_edit_spec.proofs.Lists.LedAlike.{AreLedAlike, same_lines}
@@ -85,15 +87,22 @@ module _ (name : Name) (v w : Value) (old now : Line) (was : old.content ≡ key
   ends_same s to (p ∷ ps) pre post e f =
       ap (end_in (p ∷ ps) start) f ∙ sym (end_same (p ∷ ps) start pre post) ∙ sym (ap (end_in (p ∷ ps) start) e)
 
-  begun_same : (a : List Part) (r : Reading) (pre post : List Line)
-      → last_line (begins a) r (pre ++ old ∷ post) ≡ last_line (begins a) r (pre ++ now ∷ post)
-  begun_same a r [] post = ap (from old) was ∙ sym (ap (from now) is)
-    where
-      from : Line → Content → Option ℕ
-      from l c =
-          let x : Line = record { before = l.before; content = c; after = l.after; comment = l.comment } in
-          last_or (begins a r x) (last_line (begins a) (after_line r x) post)
-  begun_same a r (x ∷ pre) post = ap (last_or (begins a r x)) (begun_same a (after_line r x) pre post)
+  length_behind : (i : ℕ) (pre post : List Line)
+      → body_length (drop i (pre ++ old ∷ post)) ≡ body_length (drop i (pre ++ now ∷ post))
+  length_behind zero [] post = length_same [] post
+  length_behind zero (x ∷ pre) post = length_same (x ∷ pre) post
+  length_behind (suc i) [] post = refl
+  length_behind (suc i) (x ∷ pre) post = length_behind i pre post
+
+  -- the last line that passes a test which no keyval does
+  last_same : (test : Reading → Line → Bool)
+      → ((r : Reading) (l : Line) (v : Value) → l.content ≡ keyval name v → test r l ≡ false)
+      → (r : Reading) (pre post : List Line)
+      → last_line test r (pre ++ old ∷ post) ≡ last_line test r (pre ++ now ∷ post)
+  last_same test none r [] post =
+      ap₂ last_or (none r old v was ∙ sym (none r now w is))
+      (ap (λ (x : Reading). last_line test x post) (reading_of r old name v was ∙ sym (reading_of r now name w is)))
+  last_same test none r (x ∷ pre) post = ap (last_or (test r x)) (last_same test none (after_line r x) pre post)
 
   led_same : (a : List Part) (r : Reading) (pre post : List Line)
       → AreLedAlike a r r (pre ++ old ∷ post) (pre ++ now ∷ post)
@@ -124,14 +133,38 @@ module _ (s : Document) (path : List Part) (new : Value) (x : Changed Document)
       ends_same h.content.name h.content.old h.content.now h.old h.now h.content.was h.content.is s x.to a h.pre h.post
       h.was h.is
 
+  last_is : (test : Reading → Line → Bool)
+      → ((r : Reading) (l : Line) (name : Name) (v : Value) → l.content ≡ keyval name v → test r l ≡ false)
+      → last_line test start (lines x.to) ≡ last_line test start (lines s)
+  last_is test none =
+      let h : LinesSet start path new (lines s) (lines x.to) = one_line in
+      ap (last_line test start) h.is
+      ∙ sym (last_same h.content.name h.content.old h.content.now h.old h.now h.content.was h.content.is test
+      (λ r l v e. none r l h.content.name v e) start h.pre h.post)
+      ∙ sym (ap (last_line test start) h.was)
+
   -- the last line that begins a body
   pub set_begins : (a : List Part) → last_line (begins a) start (lines x.to) ≡ last_line (begins a) start (lines s)
   set_begins a =
+      last_is (begins a)
+      (λ r l name v e. ap (λ (c : Content). is_header c && same_path (after_line r l).body a) e)
+
+  -- the last header that goes through the path
+  pub set_through : (a : List Part)
+      → last_line (leads_through a) start (lines x.to) ≡ last_line (leads_through a) start (lines s)
+  set_through a =
+      last_is (leads_through a)
+      (λ r l name v e. ap (λ (c : Content). is_header c && has is_through a (line_mentions r l)) e)
+
+  -- the body of each header, by its number
+  pub set_bodies : (i : ℕ) → body_end i (lines x.to) ≡ body_end i (lines s)
+  set_bodies i =
       let h : LinesSet start path new (lines s) (lines x.to) = one_line in
-      ap (last_line (begins a) start) h.is
-      ∙ sym (begun_same h.content.name h.content.old h.content.now h.old h.now h.content.was h.content.is a start h.pre
-      h.post)
-      ∙ sym (ap (last_line (begins a) start) h.was)
+      ap (λ (n : ℕ). suc i + n)
+      (ap (λ (ls : List Line). body_length (drop (suc i) ls)) h.is
+      ∙ sym (length_behind h.content.name h.content.old h.content.now h.old h.now h.content.was h.content.is (suc i)
+      h.pre h.post)
+      ∙ sym (ap (λ (ls : List Line). body_length (drop (suc i) ls)) h.was))
 
   -- which lines lead through the path, and from which bodies
   pub set_led : (a : List Part) → AreLedAlike a start start (lines s) (lines x.to)

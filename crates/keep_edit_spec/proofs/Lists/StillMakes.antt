@@ -4,24 +4,35 @@
 -- writes has bytes (GivenBytes). Others see the edit as before: an insert as one of the same first new key.
 --
 -- Theorem: `still_makes`.
-use Rattle.std.proofs.Common.{◌≡◌, ◌≢◌, ℕ, ◌+◌, Bool, true, false, not, List, refl, sym, ap, subst₂, ◌∙◌, arith}
-use Rattle.std.proofs.Common.{inl, inr}
+use Rattle.std.proofs.Common.{◌≡◌, ◌≢◌, ℕ, ◌+◌, Bool, true, false, List, refl, sym, ap, ◌∙◌, arith}
+use Rattle.std.proofs.Common.{inl, inr, length, subst, suc, take}
 use Rattle.keep_types.specs.declared.leaf.Profile.{Profile}
 use Rattle.keep_syntax.specs.Tree.{Document, Value}
 use Rattle.keep_path.specs.Path.{Part, beside}
+use Rattle.keep_meaning.specs.Meaning.{mentions_in}
 use Rattle.keep_edit_spec.specs.AddedLines.{AddsLine, AddsLineStill, first_new}
 use Rattle.keep_edit_spec.specs.ClearedLines.{ClearsLine}
-use Rattle.keep_edit_spec.specs.DottedLines.{AddsDotted, AddsLineTo, IsAfter, StillAdds, added_at}
-use Rattle.keep_edit_spec.specs.DottedLines.{into_dotted}
+use Rattle.keep_edit_spec.specs.BroughtHeaders.{BringsHeader, StillBrings}
+use Rattle.keep_edit_spec.specs.DottedLines.{AddsDotted, AddsLineTo, AreInOrder, StillAdds, added_at}
+use Rattle.keep_edit_spec.specs.InsertKinds.{AddsAs, IsAfterAs, added_as, is_last_in_body, kind_of}
 use Rattle.keep_edit_spec.specs.Edits.{Edit, append_element, append_table, edited_document, insert, place, remove}
 use Rattle.keep_edit_spec.specs.Edits.{rename, set}
 use Rattle.keep_edit_spec.specs.Laws.{IsEditable}
+use Rattle.keep_edit_spec.specs.Look.{holder}
 use Rattle.keep_edit_spec.specs.RemovedLines.{RemovesLine}
 use Rattle.keep_edit_spec.specs.RemovedSections.{RemovesSection}
 use Rattle.keep_edit_spec.specs.Runs.{AreApart, IsStillPlaced, LeavesAlone, MakesChange, StillMakesChange, ComesInPlace}
-use Rattle.keep_edit_spec.specs.Runs.{IsSeenStill, ends_body, seen}
+use Rattle.keep_edit_spec.specs.Runs.{IsSeenStill, PassesBy, PassesTable, ends_body, seen}
 use Rattle.keep_edit_spec.specs.TextChanges.{IsBeside, TextChange, moved}
+use Rattle.keep_edit_spec.specs.declared.line_kind.LineKind.{LineKind}
+use Rattle.keep_edit_spec.specs.declared.line_kind.LineKind.TheVariants.{LastInBody, OfDotted, WithHeader}
 use Rattle.keep_edit_spec.proofs.Lists.ApartPaths.{apart_renamed, renamed_apart}
+use Rattle.keep_edit_spec.proofs.Lists.BroughtAfterHeader.{brought_after_element, brought_after_table}
+use Rattle.keep_edit_spec.proofs.Lists.BroughtAfterLine.{brought_after_line}
+use Rattle.keep_edit_spec.proofs.Lists.BroughtAfterRemove.{brought_after_clear, brought_after_remove}
+use Rattle.keep_edit_spec.proofs.Lists.BroughtAfterRename.{brought_after_rename}
+use Rattle.keep_edit_spec.proofs.Lists.BroughtAfterSection.{brought_after_section}
+use Rattle.keep_edit_spec.proofs.Lists.BroughtAfterSet.{brought_after_set}
 use Rattle.keep_edit_spec.proofs.Lists.ClearAfterRename.{clear_after_rename}
 use Rattle.keep_edit_spec.proofs.Lists.DottedAfterClear.{dotted_after_clear}
 use Rattle.keep_edit_spec.proofs.Lists.DottedAfterHeader.{dotted_after_element, dotted_after_table}
@@ -34,6 +45,14 @@ use Rattle.keep_edit_spec.proofs.Lists.InsertAfterClear.{insert_after_clear}
 use Rattle.keep_edit_spec.proofs.Lists.InsertAfterRemove.{insert_after_remove}
 use Rattle.keep_edit_spec.proofs.Lists.InsertAfterRename.{insert_after_rename}
 use Rattle.keep_edit_spec.proofs.Lists.InsertAfterSet.{insert_after_set}
+use Rattle.keep_edit_spec.proofs.Lists.HeaderAfterBrought.{element_after_brought, table_after_brought}
+use Rattle.keep_edit_spec.proofs.Lists.LineAfterBrought.{dotted_after_brought, line_after_brought}
+use Rattle.keep_edit_spec.proofs.Lists.LineKinds.{as_kind, keys_of_line, kind_is, line_kind, seen_still, table_is}
+use Rattle.keep_edit_spec.proofs.Lists.RemoveAfterBrought.{clear_after_brought, remove_after_brought}
+use Rattle.keep_edit_spec.proofs.Lists.RenameAfterBrought.{rename_after_brought}
+use Rattle.keep_edit_spec.proofs.Lists.SectionAfterBrought.{section_after_brought}
+use Rattle.keep_edit_spec.proofs.Lists.SetAfterBrought.{set_after_brought}
+use Rattle.keep_edit_spec.proofs.Lists.StillBringsHeader.{still_brings_header}
 use Rattle.keep_edit_spec.proofs.Lists.RemoveAfterClear.{clear_after_clear, remove_after_clear}
 use Rattle.keep_edit_spec.proofs.Lists.RemoveAfterInsert.{clear_after_insert, remove_after_insert}
 use Rattle.keep_edit_spec.proofs.Lists.RemoveAfterRename.{remove_after_rename}
@@ -85,9 +104,9 @@ elsewhere : (s : Document) (c : TextChange) (f : Edit) (d : TextChange) → (Com
 elsewhere s c f d none (inl far) = far
 elsewhere s c f d none (inr here) = absurd (none here)
 
-no_header : (s : Document) (c : TextChange) (f : Edit) (d : TextChange) → ends_body s f ≡ false
+not_in_place : (s : Document) (c : TextChange) (f : Edit) (d : TextChange) → ends_body s f ≡ false
     → (c.at + c.size ≢ d.at) ⊎ ComesInPlace s c f d → c.at + c.size ≢ d.at
-no_header s c f d no_line =
+not_in_place s c f d no_line =
     elsewhere s c f d (λ here. (let both : true ≡ false = sym here.line ∙ no_line in absurd cc))
 
 -- Two removes that change lines beside one another are of two paths: of one path they would change one line.
@@ -115,44 +134,51 @@ remove_after profile limit s now path c d takes clears goes (inr (inr k)) = inr 
 abbrev MakesStill : Profile → ℕ → Document → Document → Edit → TextChange → Type 0
 MakesStill profile limit s now e c = MakesChange profile limit now e c × IsSeenStill s now e
 
--- whether dotted keys make the table of the line tells which of the two it is
-pub dotted_is : (dotted : Bool) (profile : Profile) (limit : ℕ) (s : Document) (path : List Part) (value : Value)
-    (c : TextChange) → AddsLineTo dotted profile limit s path value c → into_dotted s path ≡ dotted
-dotted_is true profile limit s path value c h = rw (into_dotted, h.bare) refl
-dotted_is false profile limit s path value c h = rw (into_dotted, h.ends) refl
+adds_still : (kind : LineKind) (profile : Profile) (limit : ℕ) (s now : Document) (path : List Part) (value : Value)
+    (c d : TextChange) → AddsAs kind profile limit s path value c
+    → AddsAs kind profile limit now path value d × (first_new now path ≡ first_new s path)
+    → MakesStill profile limit s now (insert path value) d
+adds_still kind profile limit s now path value c d was h =
+    ((kind, h.0), seen_still kind profile limit s now path value c d was h.0 h.1)
 
-adds_still : (dotted : Bool) (profile : Profile) (limit : ℕ) (s now : Document) (path : List Part) (value : Value)
-    (c d : TextChange) → AddsLineTo dotted profile limit s path value c
-    → StillAdds dotted profile limit s now path value d → MakesStill profile limit s now (insert path value) d
-adds_still dotted profile limit s now path value c d was h = (
-  (dotted, h.0),
-  (
-    h.1,
-    dotted_is dotted profile limit now path value d h.0 ∙ sym (dotted_is dotted profile limit s path value c was),
-  ),
-)
+-- an insert that brings its header still has the same first new key
+brings_still : (profile : Profile) (limit : ℕ) (s now : Document) (path : List Part) (value : Value) (c d : TextChange)
+    → BringsHeader profile limit s path value c → StillBrings profile limit s now path value d
+    → MakesStill profile limit s now (insert path value) d
+brings_still profile limit s now path value c d was h =
+    adds_still WithHeader profile limit s now path value c d was
+    (h.0, ap (λ (table : List Part). take (suc (length table)) path) h.1)
 
--- after an edit of another kind: a line of a table that dotted keys make comes in the place of none
-line_after : (dotted : Bool) (profile : Profile) (limit : ℕ) (s now : Document) (c : TextChange) (path : List Part)
-    (value : Value) (d : TextChange) → AddsLineTo dotted profile limit s path value d
+-- after an edit of another kind: only a line at the end of a body comes in the place of one that was taken
+line_after : (kind : LineKind) (profile : Profile) (limit : ℕ) (s now : Document) (c : TextChange) (path : List Part)
+    (value : Value) (d : TextChange) → AddsAs kind profile limit s path value d
     → (c.at + c.size ≢ d.at) ⊎ ComesInPlace s c (insert path value) d
     → (AddsLine profile limit s path value d → (c.at + c.size ≢ d.at) ⊎ ComesInPlace s c (insert path value) d
     → AddsLineStill profile limit s now path value (moved c d))
     → (AddsDotted profile limit s path value d → c.at + c.size ≢ d.at
     → StillAdds true profile limit s now path value (moved c d))
+    → (BringsHeader profile limit s path value d → c.at + c.size ≢ d.at
+    → StillBrings profile limit s now path value (moved c d))
     → MakesStill profile limit s now (insert path value) (moved c d)
-line_after false profile limit s now c path value d k place line to_table =
-    adds_still false profile limit s now path value d (moved c d) k (line k place)
-line_after true profile limit s now c path value d k place line to_table =
-    adds_still true profile limit s now path value d (moved c d) k
-    (to_table k (elsewhere s c (insert path value) d in_place place))
-  where
-    in_place : ComesInPlace s c (insert path value) d → ⊥
-    in_place here =
-        let none : not (into_dotted s path) ≡ true = here.line in
-        let no : not true ≡ true =
-        ap not (sym (dotted_is true profile limit s path value d k)) ∙ none in
-        absurd cc
+line_after LastInBody profile limit s now c path value d k place line to_table brings =
+    adds_still LastInBody profile limit s now path value d (moved c d) k (line k place)
+line_after OfDotted profile limit s now c path value d k place line to_table brings =
+    adds_still OfDotted profile limit s now path value d (moved c d) k
+    (to_table k (not_in_place s c (insert path value) d
+    (ap is_last_in_body (kind_is OfDotted profile limit s path value d k)) place))
+line_after WithHeader profile limit s now c path value d k place line to_table brings =
+    brings_still profile limit s now path value d (moved c d) k
+    (brings k (not_in_place s c (insert path value) d
+    (ap is_last_in_body (kind_is WithHeader profile limit s path value d k)) place))
+
+-- headers that are appended pass by the table of one with a header
+passes_table : (profile : Profile) (limit : ℕ) (s : Document) (keys : List (List ℕ)) (path : List Part) (value : Value)
+    (c : TextChange) → BringsHeader profile limit s path value c → PassesTable keys (added_as s path c)
+    → PassesBy keys (holder path (mentions_in s))
+passes_table profile limit s keys path value c h passes =
+    subst (PassesBy keys)
+    (table_is profile limit s path value c (keys_of_line WithHeader profile limit s path value c h))
+    (passes (kind_is WithHeader profile limit s path value c h))
 
 swapped : (path other : List Part) → AreApart path other → AreApart other path
 swapped path other apart = (apart.1, apart.0)
@@ -162,14 +188,15 @@ after_taken : (profile : Profile) (limit : ℕ) (s : Document) (path : List Part
     (d : TextChange) → IsEditable profile limit s → RemovesLine profile limit s path c → MakesChange profile limit s f d
     → LeavesAlone (remove path) (seen s f) → IsBeside c d → IsStillPlaced s (remove path) c f d
     → MakesStill profile limit s (edited_document s (remove path)) f (moved c d)
-after_taken profile limit s path c (insert other more) d fine h (dotted, k) alone beside placed =
+after_taken profile limit s path c (insert other more) d fine h (kind, k) alone beside placed =
     let newline = (placed.0 refl).0 in
-    line_after dotted profile limit s (edited_document s (remove path)) c other more d k ((placed.0 refl).1 refl)
+    line_after kind profile limit s (edited_document s (remove path)) c other more d k ((placed.0 refl).1 refl)
     (λ x place. elim place [
       | inl far ↦ insert_after_remove profile limit s path c other more d fine h x alone beside newline far
       | inr here ↦ insert_in_place profile limit s path c other more d fine h x alone newline here.next here.said
     ])
     (λ x far. dotted_after_remove profile limit s path c other more d fine h x alone beside newline far)
+    (λ x far. brought_after_remove profile limit s path c other more d fine h x alone beside newline far)
 after_taken profile limit s path c (remove other) d fine h k alone beside placed =
     let differs : path ≢ other = other_path profile limit s path c other d fine (inl h) k beside in (
       remove_after profile limit s (edited_document s (remove path)) other c d
@@ -188,12 +215,12 @@ after_taken profile limit s path c (rename other more) d fine h k alone beside p
 )
 after_taken profile limit s path c (append_table more) d fine h k alone beside placed = (
   table_after_remove profile limit s path c more d fine h k (placed.0 refl).0
-      (no_header s c (append_table more) d refl ((placed.0 refl).1 refl)),
+      (not_in_place s c (append_table more) d refl ((placed.0 refl).1 refl)),
   tt,
 )
 after_taken profile limit s path c (append_element more) d fine h k alone beside placed = (
   element_after_remove profile limit s path c more d fine h k (placed.0 refl).0
-      (no_header s c (append_element more) d refl ((placed.0 refl).1 refl)),
+      (not_in_place s c (append_element more) d refl ((placed.0 refl).1 refl)),
   tt,
 )
 
@@ -202,12 +229,13 @@ after_cleared : (profile : Profile) (limit : ℕ) (s : Document) (path : List Pa
     (d : TextChange) → IsEditable profile limit s → ClearsLine profile limit s path c → MakesChange profile limit s f d
     → LeavesAlone (remove path) (seen s f) → IsBeside c d → IsStillPlaced s (remove path) c f d
     → MakesStill profile limit s (edited_document s (remove path)) f (moved c d)
-after_cleared profile limit s path c (insert other more) d fine h (dotted, k) alone beside placed =
+after_cleared profile limit s path c (insert other more) d fine h (kind, k) alone beside placed =
     let newline = (placed.0 refl).0 in
-    line_after dotted profile limit s (edited_document s (remove path)) c other more d k ((placed.0 refl).1 refl)
+    line_after kind profile limit s (edited_document s (remove path)) c other more d k ((placed.0 refl).1 refl)
     (λ x place. insert_after_clear profile limit s path c other more d fine h x alone beside newline
     (elsewhere s c (insert other more) d (λ here. clear_gives profile limit s path c fine h here.takes) place))
     (λ x far. dotted_after_clear profile limit s path c other more d fine h x alone beside newline far)
+    (λ x far. brought_after_clear profile limit s path c other more d fine h x alone beside newline far)
 after_cleared profile limit s path c (remove other) d fine h k alone beside placed =
     let differs : path ≢ other = other_path profile limit s path c other d fine (inr (inl h)) k beside in (
       remove_after profile limit s (edited_document s (remove path)) other c d
@@ -226,12 +254,12 @@ after_cleared profile limit s path c (rename other more) d fine h k alone beside
 )
 after_cleared profile limit s path c (append_table more) d fine h k alone beside placed = (
   table_after_clear profile limit s path c more d fine h k (placed.0 refl).0
-      (no_header s c (append_table more) d refl ((placed.0 refl).1 refl)),
+      (not_in_place s c (append_table more) d refl ((placed.0 refl).1 refl)),
   tt,
 )
 after_cleared profile limit s path c (append_element more) d fine h k alone beside placed = (
   element_after_clear profile limit s path c more d fine h k (placed.0 refl).0
-      (no_header s c (append_element more) d refl ((placed.0 refl).1 refl)),
+      (not_in_place s c (append_element more) d refl ((placed.0 refl).1 refl)),
   tt,
 )
 
@@ -241,11 +269,12 @@ after_section : (profile : Profile) (limit : ℕ) (s : Document) (path : List Pa
     → MakesChange profile limit s f d
     → LeavesAlone (remove path) (seen s f) → IsBeside c d → IsStillPlaced s (remove path) c f d
     → MakesStill profile limit s (edited_document s (remove path)) f (moved c d)
-after_section profile limit s path c (insert other more) d fine h (dotted, k) alone beside placed =
+after_section profile limit s path c (insert other more) d fine h (kind, k) alone beside placed =
     let newline = (placed.0 refl).0 in
-    line_after dotted profile limit s (edited_document s (remove path)) c other more d k ((placed.0 refl).1 refl)
+    line_after kind profile limit s (edited_document s (remove path)) c other more d k ((placed.0 refl).1 refl)
     (λ x place. insert_after_section profile limit s path c other more d fine h x alone beside newline)
     (λ x far. dotted_after_section profile limit s path c other more d fine h x alone beside newline far)
+    (λ x far. brought_after_section profile limit s path c other more d fine h x alone beside newline far)
 after_section profile limit s path c (remove other) d fine h k alone beside placed =
     let differs : path ≢ other = other_path profile limit s path c other d fine (inr (inr h)) k beside in (
       remove_after profile limit s (edited_document s (remove path)) other c d
@@ -265,54 +294,161 @@ after_section profile limit s path c (rename other more) d fine h k alone beside
 )
 after_section profile limit s path c (append_table more) d fine h k alone beside placed = (
   table_after_section profile limit s path c more d fine h k (placed.0 refl).0
-      (no_header s c (append_table more) d refl ((placed.0 refl).1 refl)),
+      (not_in_place s c (append_table more) d refl ((placed.0 refl).1 refl)),
   tt,
 )
 after_section profile limit s path c (append_element more) d fine h k alone beside placed = (
   element_after_section profile limit s path c more d fine h k (placed.0 refl).0
-      (no_header s c (append_element more) d refl ((placed.0 refl).1 refl)),
+      (not_in_place s c (append_element more) d refl ((placed.0 refl).1 refl)),
   tt,
 )
 
-pub still_makes : StillMakesChange
-still_makes profile limit s (insert path value) c (insert other more) d fine (to, h) (dotted, k) alone beside placed =
-    adds_still dotted profile limit s (edited_document s (insert path value)) other more d (moved c d) k
-    (still_adds_line_to profile limit s path value c to other more d dotted fine h k (record {
-      other = alone;
-      table = subst₂
-          (λ (a b : Bool). IsAfter (added_at s path c a) (added_at s other d b))
-          (dotted_is to profile limit s path value c h) (dotted_is dotted profile limit s other more d k) placed.1;
-    }))
-still_makes profile limit s (insert path value) c (remove other) d fine (to, h) k alone beside placed = (
+-- ---- after an insert that adds a line
+
+-- two lines that are in order, neither of which brings a header
+in_order : (to dotted : Bool) (s : Document) (path other : List Part) (c d : TextChange)
+    → kind_of s path ≡ line_kind to → first_new s path ≢ first_new s other
+    → IsAfterAs (line_kind dotted) (added_as s path c) (added_as s other d)
+    → AreInOrder (added_at s path c to) (added_at s other d dotted)
+in_order to false s path other c d kind differs order = record { other = differs; table = λ is same. absurd cc }
+in_order to true s path other c d kind differs order = record {
+  other = differs;
+  table = λ is same. (is_dotted to (sym kind ∙ (order same).0), (order same).1);
+}
+  where
+    is_dotted : (b : Bool) → line_kind b ≡ OfDotted → b ≡ true
+    is_dotted true e = refl
+    is_dotted false e = absurd cc
+
+-- after one that brings no header
+after_line : (to : Bool) (profile : Profile) (limit : ℕ) (s : Document) (path : List Part) (value : Value)
+    (c : TextChange) (kind : LineKind) (other : List Part) (more : Value) (d : TextChange)
+    → IsEditable profile limit s → AddsLineTo to profile limit s path value c → AddsAs kind profile limit s other more d
+    → first_new s path ≢ first_new s other → IsAfterAs kind (added_as s path c) (added_as s other d)
+    → MakesStill profile limit s (edited_document s (insert path value)) (insert other more) (moved c d)
+after_line to profile limit s path value c LastInBody other more d fine h k alone order =
+    adds_still LastInBody profile limit s (edited_document s (insert path value)) other more d (moved c d) k
+    (still_adds_line_to profile limit s path value c to other more d false fine h k
+    (in_order to false s path other c d
+    (kind_is (line_kind to) profile limit s path value c (as_kind to profile limit s path value c h)) alone order))
+after_line to profile limit s path value c OfDotted other more d fine h k alone order =
+    adds_still OfDotted profile limit s (edited_document s (insert path value)) other more d (moved c d) k
+    (still_adds_line_to profile limit s path value c to other more d true fine h k
+    (in_order to true s path other c d
+    (kind_is (line_kind to) profile limit s path value c (as_kind to profile limit s path value c h)) alone order))
+after_line to profile limit s path value c WithHeader other more d fine h k alone order =
+    brings_still profile limit s (edited_document s (insert path value)) other more d (moved c d) k
+    (brought_after_line profile limit s path value c to other more d fine h k alone)
+
+after_line_to : (to : Bool) (profile : Profile) (limit : ℕ) (s : Document) (path : List Part) (value : Value)
+    (c : TextChange) (f : Edit) (d : TextChange) → IsEditable profile limit s
+    → AddsLineTo to profile limit s path value c → MakesChange profile limit s f d
+    → LeavesAlone (seen s (insert path value)) (seen s f) → IsBeside c d
+    → IsStillPlaced s (insert path value) c f d
+    → MakesStill profile limit s (edited_document s (insert path value)) f (moved c d)
+after_line_to to profile limit s path value c (insert other more) d fine h (kind, k) alone beside placed =
+    after_line to profile limit s path value c kind other more d fine h k alone
+    (subst (λ (a : LineKind). IsAfterAs a (added_as s path c) (added_as s other d))
+    (kind_is kind profile limit s other more d k) placed.1)
+after_line_to to profile limit s path value c (remove other) d fine h k alone beside placed = (
   remove_after profile limit s (edited_document s (insert path value)) other c d
       (λ x. remove_after_insert profile limit s path value c to other d fine h x alone beside)
       (λ x. clear_after_insert profile limit s path value c to other d fine h x alone beside)
       (λ x. section_after_insert profile limit s path value c to other d fine h x alone beside) k,
   tt,
 )
-still_makes profile limit s (insert path value) c (set other more) d fine (to, h) k alone beside placed =
+after_line_to to profile limit s path value c (set other more) d fine h k alone beside placed =
     (set_after_insert profile limit s path value c to other more d fine h k alone beside, tt)
-still_makes profile limit s (insert path value) c (rename other more) d fine (to, h) k alone beside placed = (
+after_line_to to profile limit s path value c (rename other more) d fine h k alone beside placed = (
   rename_after_insert profile limit s path value c to other more d fine h k alone.0
       (apart_renamed (first_new s path) other more alone.0 alone.1) beside,
   tt,
 )
-still_makes profile limit s (insert path value) c (append_table more) d fine (to, h) k alone beside placed =
+after_line_to to profile limit s path value c (append_table more) d fine h k alone beside placed =
     (table_after_insert profile limit s path value c to more d fine h k alone (placed.0 refl).0, tt)
-still_makes profile limit s (insert path value) c (append_element more) d fine (to, h) k alone beside placed =
+after_line_to to profile limit s path value c (append_element more) d fine h k alone beside placed =
     (element_after_insert profile limit s path value c to more d fine h k alone (placed.0 refl).0, tt)
+
+-- after one that brings a header
+after_header : (profile : Profile) (limit : ℕ) (s : Document) (path : List Part) (value : Value) (c : TextChange)
+    (kind : LineKind) (other : List Part) (more : Value) (d : TextChange) → IsEditable profile limit s
+    → BringsHeader profile limit s path value c → AddsAs kind profile limit s other more d
+    → first_new s path ≢ first_new s other → IsAfterAs kind (added_as s path c) (added_as s other d)
+    → MakesStill profile limit s (edited_document s (insert path value)) (insert other more) (moved c d)
+after_header profile limit s path value c LastInBody other more d fine h k alone order =
+    adds_still LastInBody profile limit s (edited_document s (insert path value)) other more d (moved c d) k
+    (line_after_brought profile limit s path value c other more d fine h k alone
+    (λ same. order same (kind_is WithHeader profile limit s path value c h)))
+after_header profile limit s path value c OfDotted other more d fine h k alone order =
+    adds_still OfDotted profile limit s (edited_document s (insert path value)) other more d (moved c d) k
+    (dotted_after_brought profile limit s path value c other more d fine h k alone
+    (λ same.
+    (let both : WithHeader ≡ OfDotted = sym (kind_is WithHeader profile limit s path value c h) ∙ (order same).0 in
+    absurd cc)))
+after_header profile limit s path value c WithHeader other more d fine h k alone order =
+    let others = order (kind_is WithHeader profile limit s path value c h) in
+    brings_still profile limit s (edited_document s (insert path value)) other more d (moved c d) k
+    (still_brings_header profile limit s path value c other more d fine h k (record {
+      table = λ same. others.1
+          (table_is profile limit s path value c (keys_of_line WithHeader profile limit s path value c h) ∙ same
+          ∙ sym (table_is profile limit s other more d (keys_of_line WithHeader profile limit s other more d k)));
+      at = others.0;
+    }))
+
+after_brought : (profile : Profile) (limit : ℕ) (s : Document) (path : List Part) (value : Value) (c : TextChange)
+    (f : Edit) (d : TextChange) → IsEditable profile limit s → BringsHeader profile limit s path value c
+    → MakesChange profile limit s f d → LeavesAlone (seen s (insert path value)) (seen s f) → IsBeside c d
+    → IsStillPlaced s (insert path value) c f d
+    → MakesStill profile limit s (edited_document s (insert path value)) f (moved c d)
+after_brought profile limit s path value c (insert other more) d fine h (kind, k) alone beside placed =
+    after_header profile limit s path value c kind other more d fine h k alone
+    (subst (λ (a : LineKind). IsAfterAs a (added_as s path c) (added_as s other d))
+    (kind_is kind profile limit s other more d k) placed.1)
+after_brought profile limit s path value c (remove other) d fine h k alone beside placed = (
+  remove_after profile limit s (edited_document s (insert path value)) other c d
+      (λ x. remove_after_brought profile limit s path value c other d fine h x alone beside)
+      (λ x. clear_after_brought profile limit s path value c other d fine h x alone beside)
+      (λ x. section_after_brought profile limit s path value c other d fine h x alone beside) k,
+  tt,
+)
+after_brought profile limit s path value c (set other more) d fine h k alone beside placed =
+    (set_after_brought profile limit s path value c other more d fine h k alone beside, tt)
+after_brought profile limit s path value c (rename other more) d fine h k alone beside placed = (
+  rename_after_brought profile limit s path value c other more d fine h k alone.0
+      (apart_renamed (first_new s path) other more alone.0 alone.1) beside,
+  tt,
+)
+after_brought profile limit s path value c (append_table more) d fine h k alone beside placed = (
+  table_after_brought profile limit s path value c more d fine h k alone
+      (passes_table profile limit s more path value c h placed.1) (placed.0 refl).0,
+  tt,
+)
+after_brought profile limit s path value c (append_element more) d fine h k alone beside placed = (
+  element_after_brought profile limit s path value c more d fine h k alone
+      (passes_table profile limit s more path value c h placed.1) (placed.0 refl).0,
+  tt,
+)
+
+pub still_makes : StillMakesChange
+still_makes profile limit s (insert path value) c f d fine (LastInBody, h) k alone beside placed =
+    after_line_to false profile limit s path value c f d fine h k alone beside placed
+still_makes profile limit s (insert path value) c f d fine (OfDotted, h) k alone beside placed =
+    after_line_to true profile limit s path value c f d fine h k alone beside placed
+still_makes profile limit s (insert path value) c f d fine (WithHeader, h) k alone beside placed =
+    after_brought profile limit s path value c f d fine h k alone beside placed
 still_makes profile limit s (remove path) c f d fine (inl h) k alone beside placed =
     after_taken profile limit s path c f d fine h k alone beside placed
 still_makes profile limit s (remove path) c f d fine (inr (inl h)) k alone beside placed =
     after_cleared profile limit s path c f d fine h k alone beside placed
 still_makes profile limit s (remove path) c f d fine (inr (inr h)) k alone beside placed =
     after_section profile limit s path c f d fine h k alone beside placed
-still_makes profile limit s (set path value) c (insert other more) d fine h (dotted, k) alone beside placed =
+still_makes profile limit s (set path value) c (insert other more) d fine h (kind, k) alone beside placed =
     let newline = (placed.0 refl).0 in
-    line_after dotted profile limit s (edited_document s (set path value)) c other more d k ((placed.0 refl).1 refl)
+    line_after kind profile limit s (edited_document s (set path value)) c other more d k ((placed.0 refl).1 refl)
     (λ x place. insert_after_set profile limit s path value c other more d fine h x alone beside newline
     (elsewhere s c (insert other more) d (λ here. set_gives profile limit s path value c fine h here.takes) place))
     (λ x far. dotted_after_set profile limit s path value c other more d fine h x alone beside newline far)
+    (λ x far. brought_after_set profile limit s path value c other more d fine h x alone beside newline far)
 still_makes profile limit s (set path value) c (remove other) d fine h k alone beside placed = (
   remove_after profile limit s (edited_document s (set path value)) other c d
       (λ x. remove_after_set profile limit s path value c other d fine h x alone beside)
@@ -329,23 +465,24 @@ still_makes profile limit s (set path value) c (rename other more) d fine h k al
 )
 still_makes profile limit s (set path value) c (append_table more) d fine h k alone beside placed = (
   table_after_set profile limit s path value c more d fine h k alone (placed.0 refl).0
-      (no_header s c (append_table more) d refl ((placed.0 refl).1 refl)),
+      (not_in_place s c (append_table more) d refl ((placed.0 refl).1 refl)),
   tt,
 )
 still_makes profile limit s (set path value) c (append_element more) d fine h k alone beside placed = (
   element_after_set profile limit s path value c more d fine h k alone (placed.0 refl).0
-      (no_header s c (append_element more) d refl ((placed.0 refl).1 refl)),
+      (not_in_place s c (append_element more) d refl ((placed.0 refl).1 refl)),
   tt,
 )
-still_makes profile limit s (rename path name) c (insert other more) d fine h (dotted, k) alone side placed =
+still_makes profile limit s (rename path name) c (insert other more) d fine h (kind, k) alone side placed =
     let newline = (placed.0 refl).0 in
     let renamed : AreApart (beside path name) (first_new s other) =
     renamed_apart path name (first_new s other) alone.0 alone.1 in
-    line_after dotted profile limit s (edited_document s (rename path name)) c other more d k
+    line_after kind profile limit s (edited_document s (rename path name)) c other more d k
     ((placed.0 refl).1 refl)
     (λ x place. insert_after_rename profile limit s path name c other more d fine h x alone.0 renamed side newline
     (elsewhere s c (insert other more) d (λ here. rename_gives profile limit s path name c fine h here.takes) place))
     (λ x far. dotted_after_rename profile limit s path name c other more d fine h x alone.0 renamed side newline far)
+    (λ x far. brought_after_rename profile limit s path name c other more d fine h x alone.0 renamed side newline far)
 still_makes profile limit s (rename path name) c (remove other) d fine h k alone beside placed = (
   remove_after profile limit s (edited_document s (rename path name)) other c d
       (λ x. remove_after_rename profile limit s path name c other d fine h x alone.0
@@ -365,23 +502,25 @@ still_makes profile limit s (rename path name) c (rename other more) d fine h k 
     (still_renames profile limit s path name c other more d fine h k alone beside, tt)
 still_makes profile limit s (rename path name) c (append_table more) d fine h k alone beside placed = (
   table_after_rename profile limit s path name c more d fine h k alone.0 alone.1 (placed.0 refl).0
-      (no_header s c (append_table more) d refl ((placed.0 refl).1 refl)),
+      (not_in_place s c (append_table more) d refl ((placed.0 refl).1 refl)),
   tt,
 )
 still_makes profile limit s (rename path name) c (append_element more) d fine h k alone beside placed = (
   element_after_rename profile limit s path name c more d fine h k alone.0 alone.1 (placed.0 refl).0
-      (no_header s c (append_element more) d refl ((placed.0 refl).1 refl)),
+      (not_in_place s c (append_element more) d refl ((placed.0 refl).1 refl)),
   tt,
 )
-still_makes profile limit s (append_table keys) c (insert other more) d fine h (dotted, k) alone beside placed =
+still_makes profile limit s (append_table keys) c (insert other more) d fine h (kind, k) alone beside placed =
     let newline = (placed.0 refl).0 in
-    line_after dotted profile limit s (edited_document s (append_table keys)) c other more d k
+    line_after kind profile limit s (edited_document s (append_table keys)) c other more d k
     ((placed.0 refl).1 refl)
     (λ x place. insert_after_table profile limit s keys c other more d fine h x alone
     (λ e. elsewhere s c (insert other more) d (λ here. omega (arith, here.some, h.adds)) place
     (omega (arith, e, h.adds))) newline)
     (λ x far. dotted_after_table profile limit s keys c other more d fine h x alone
     (λ e. far (omega (arith, e, h.adds))) newline)
+    (λ x far. brought_after_table profile limit s keys c other more d fine h x alone
+    (passes_table profile limit s keys other more d x placed.1) (λ e. far (omega (arith, e, h.adds))) newline)
 still_makes profile limit s (append_table keys) c (remove other) d fine h k alone beside placed = (
   remove_after profile limit s (edited_document s (append_table keys)) other c d
       (λ x. remove_after_table profile limit s keys c other d fine h x)
@@ -397,15 +536,17 @@ still_makes profile limit s (append_table keys) c (append_table more) d fine h k
     (still_appends_table profile limit s keys c more d fine h k alone, tt)
 still_makes profile limit s (append_table keys) c (append_element more) d fine h k alone beside placed =
     (element_after_table profile limit s keys c more d fine h k alone, tt)
-still_makes profile limit s (append_element keys) c (insert other more) d fine h (dotted, k) alone beside placed =
+still_makes profile limit s (append_element keys) c (insert other more) d fine h (kind, k) alone beside placed =
     let newline = (placed.0 refl).0 in
-    line_after dotted profile limit s (edited_document s (append_element keys)) c other more d k
+    line_after kind profile limit s (edited_document s (append_element keys)) c other more d k
     ((placed.0 refl).1 refl)
     (λ x place. insert_after_element profile limit s keys c other more d fine h x alone
     (λ e. elsewhere s c (insert other more) d (λ here. omega (arith, here.some, h.adds)) place
     (omega (arith, e, h.adds))) newline)
     (λ x far. dotted_after_element profile limit s keys c other more d fine h x alone
     (λ e. far (omega (arith, e, h.adds))) newline)
+    (λ x far. brought_after_element profile limit s keys c other more d fine h x alone
+    (passes_table profile limit s keys other more d x placed.1) (λ e. far (omega (arith, e, h.adds))) newline)
 still_makes profile limit s (append_element keys) c (remove other) d fine h k alone beside placed = (
   remove_after profile limit s (edited_document s (append_element keys)) other c d
       (λ x. remove_after_element profile limit s keys c other d fine h x)

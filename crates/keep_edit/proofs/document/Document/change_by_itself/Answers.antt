@@ -1,6 +1,6 @@
 use Rattle.std.proofs.Common.{refl, subst, subst₂, sym}
 use Rattle.keep_syntax.specs.Tree.{Document, Value}
-use Rattle.keep_edit_spec.specs.DottedLines.{AddsLineTo}
+use Rattle.keep_edit_spec.specs.InsertKinds.{AddsAs}
 use Rattle.keep_edit_plan.specs.Answers.{IsSpanOf}
 use Rattle.keep_edit_plan.specs.TextEdits.{MakesChangeHere, change_of}
 use Rattle.keep_edit.specs.Reading.{IsTextOfTree, IsTextOfValue, ProfiledText, limit}
@@ -11,11 +11,11 @@ use Rattle.keep_edit.proofs.document.Document.change_by_itself.Goals as goal
 pub returns-in-Insert-clause-made : goal.returns-in-Insert-clause-made
 returns-in-Insert-clause-made c =
     let line = c.in_ok-line.line in
-    line_in_run c.args.self.now c.args.edit.now c.in-Insert.path c.in-Insert.value line.text_edit line.is_dotted
+    line_in_run c.args.self.now c.args.edit.now c.in-Insert.path c.in-Insert.value line.text_edit line.kind
     c.in-Insert.is
     (subst (λ (now : ProfiledText). (s : Document) → IsTextOfTree now s → (v : Value)
     → IsTextOfValue c.in-Insert.value v
-    → AddsLineTo line.is_dotted now.profile limit s c.in-Insert.path v (change_of line.text_edit)) c.requires
+    → AddsAs line.kind now.profile limit s c.in-Insert.path v (change_of line.text_edit)) c.requires
     c.in_ok-line.ensures.added)
     (subst (λ (now : ProfiledText). IsSpanOf now.text line.text_edit.place) c.requires c.in_ok-line.ensures.within)
     c.line.ensures.value
@@ -26,7 +26,7 @@ returns c =
     let x = c.args.edit.now in
     let change = c.in_ok-change.change in
     record {
-      made = subst₂ (λ t dotted. MakesItselfHere now x t dotted) (sym c.other.ensures.0) (sym c.other.ensures.1)
+      made = subst₂ (λ t line. MakesItselfHere now x t line) (sym c.other.ensures.0) (sym c.other.ensures.1)
           (other_in_run now x change c.in_default.not-Insert
           (subst (λ d. MakesChangeHere d x change) c.as_ref.ensures c.in_ok-change.ensures));
       planner = refl;

@@ -1,4 +1,4 @@
-use Rattle.std.proofs.Common.{Some, false, subst, subst₂, sym}
+use Rattle.std.proofs.Common.{None, Some, subst, subst₂, sym}
 use Rattle.keep_edit_plan.specs.TextEdits.{MakesSetHere}
 use Rattle.keep_edit.specs.Runs.{MakesInRunHere, outline}
 use Rattle.keep_edit.proofs.InRuns.{by_itself, by_set}
@@ -16,7 +16,7 @@ returns-clause-made c =
     let now = c.args.self.now in
     let x = c.args.edit.now in
     let change = c.in_ok-change.change in
-    subst₂ (λ t dotted. MakesInRunHere now x (outline x c.args.seen) t dotted) (sym c.other-2.ensures.0)
+    subst₂ (λ t line. MakesInRunHere now x (outline x c.args.seen) t line) (sym c.other-2.ensures.0)
     (sym c.other-2.ensures.1)
-    (subst (λ seen. MakesInRunHere now x (outline x seen) change false) (sym c.in-Entry.is)
+    (subst (λ seen. MakesInRunHere now x (outline x seen) change None) (sym c.in-Entry.is)
     (by_set now x (Some change) (subst (λ d. MakesSetHere d x change) c.as_ref.ensures c.in_ok-change.ensures)))

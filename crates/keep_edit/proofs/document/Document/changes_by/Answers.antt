@@ -1,5 +1,5 @@
 use Rattle.std.proofs.Common.{◌≡◌, ◌+◌, ◌<◌, ℕ, All, List, suc, length, refl, sym, subst}
-use Rattle.std.proofs.Common.{subst₂, ◌∙◌, arith}
+use Rattle.std.proofs.Common.{false, subst₂, ◌∙◌, arith}
 use Rattle.std.proofs.lemmas.List.Elements.{All-append, All-nil, All-weaker}
 use Rattle.keep_edit_spec.specs.TextChanges.{TextChange}
 use Rattle.keep_edit_plan.specs.TextEdits.{change_of}
@@ -8,7 +8,7 @@ use Rattle.keep_edit.specs.Runs.{LeavesAlone, MakesInRunHere}
 use Rattle.keep_edit.specs.Seen.{IsSeen}
 use Rattle.keep_edit.specs.declared.outline.Outline.{Outline}
 use Rattle.keep_edit.proofs.AgainSteps.{made_once_more}
-use Rattle.keep_edit.proofs.KindLaws.{placed_of_kind}
+use Rattle.keep_edit.proofs.KindLaws.{bare_of_kind, placed_of_kind}
 use Rattle.keep_edit.proofs.RunSteps.{AreMadeTo, all_made, all_within, more_changes, no_changes}
 use Rattle.keep_edit.proofs.SeenLaws.{more_seen, was_added}
 use Rattle.keep_edit.proofs.document.Document.changes_by.Goals as goal
@@ -20,8 +20,8 @@ loop-number-init c =
     let first = c.args.first in
     let now = c.args.self.now in
     let (no_outlines, none) = c.new-so_far.ensures in (
-      subst₂ (λ os cs. AreMadeTo edits first first now os cs c.new-lines.result.tables) (sym no_outlines) (sym none)
-          (no_changes edits first now c.new-lines.result.tables),
+      subst₂ (λ os cs. AreMadeTo edits first first now os cs c.new-lines.result) (sym no_outlines) (sym none)
+          (no_changes edits first now c.new-lines.result),
       subst (All (IsSeen c.new-keys.result)) (sym no_outlines) (All-nil (IsSeen c.new-keys.result)),
       c.new-planner.ensures ∙ c.as_ref.ensures,
     )
@@ -115,9 +115,9 @@ loop-number-preserved-in-Some c =
     let one : suc number ≡ number + 1 = omega arith in
     let put = c.put_again.ensures.changes c.if-not-put_again.false in
     let pushed = c.put_again.ensures.outlines c.if-not-put_again.false in (
-      subst₂ (λ (n : ℕ) (os : List Outline). AreMadeTo edits first n now os new c.loop-number.lines.tables) one
+      subst₂ (λ (n : ℕ) (os : List Outline). AreMadeTo edits first n now os new c.loop-number.lines) one
           (sym pushed)
-          (made_once_more edits first number now outlines changes new c.loop-number.lines.tables x x a seen_then so_far
+          (made_once_more edits first number now outlines changes new c.loop-number.lines x x a seen_then so_far
           low (sym c.index-edits-number.is) c.in-Some.ensures.again
           (c.allow_again.ensures.allowed c.if-not-allow_again.false) seen put),
       subst (All seen_now) (sym pushed)
@@ -139,8 +139,8 @@ loop-number-preserved c =
     let changes = c.loop-number.so_far.changes in
     let made = c.in-Some-change_in_run.made in
     let change = made.change in
-    let tables = c.loop-number.lines.tables in
-    let next = c.keep_line.new.self.tables in
+    let adds = c.loop-number.lines in
+    let next = c.keep_line.new.self in
     let (so_far, seen, plans) = c.loop-number.invariant in
     let low : number < length edits = omega (arith, c.loop-number-test.true, c.min-end.ensures) in
     let one : suc number ≡ number + 1 = omega arith in
@@ -156,20 +156,21 @@ loop-number-preserved c =
     was_added (IsSeen c.add.new.self o) c.add.result
     c.add.ensures.seen
     (sym c.unwrap_or.ensures ∙ c.if-not-unwrap_or.false) in
+    let still : All (IsSeen c.add.new.self) outlines =
+    All-weaker (IsSeen c.loop-number.keys) (IsSeen c.add.new.self) c.add.ensures.others outlines seen in
     let (beside, with_it) = c.add-in-loop-number.ensures.changes c.if-not-add.false in
     let pushed = c.add-in-loop-number.ensures.outlines c.if-not-add.false in (
       subst (λ (n : ℕ). AreMadeTo edits first n now c.add-in-loop-number.new.self.outlines.items
           c.add-in-loop-number.new.self.changes next) one
           (subst₂ (λ (os : List Outline) (cs : List TextChange). AreMadeTo edits first (suc number) now os cs next)
           (sym pushed) (sym with_it)
-          (more_changes edits first number now outlines changes tables next x x o change made.is_dotted so_far low
+          (more_changes edits first number now outlines changes adds next x x o change made.line false so_far low
           (sym c.index-edits-number.is)
-          (subst (λ a. MakesInRunHere now x a change made.is_dotted) (sym c.of-outline.ensures)
+          (subst (λ a. MakesInRunHere now x a change made.line) (sym c.of-outline.ensures)
           c.in-Some-change_in_run.ensures.made)
           alone beside
-          (placed_of_kind c.add.new.self outlines now.text changes o (change_of change).at
-          (All-weaker (IsSeen c.loop-number.keys) (IsSeen c.add.new.self)
-          c.add.ensures.others outlines seen) here) (c.keep_line.ensures c.if-not-keep_line.false))),
+          (placed_of_kind c.add.new.self outlines now.text changes o (change_of change).at still here)
+          (bare_of_kind c.add.new.self outlines o false still here) (c.keep_line.ensures c.if-not-keep_line.false))),
       subst (All (IsSeen c.add.new.self)) (sym pushed)
           (more_seen (IsSeen c.loop-number.keys) (IsSeen c.add.new.self) outlines o
           c.add.ensures.others here seen),

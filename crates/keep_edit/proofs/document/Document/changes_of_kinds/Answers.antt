@@ -13,7 +13,8 @@ use Rattle.keep_edit.specs.SeenPaths.{IsSeen}
 use Rattle.keep_edit.specs.declared.outline.Outline.{Outline}
 use Rattle.keep_edit.proofs.AgainSteps.{each_put, made_once_more}
 use Rattle.keep_edit.proofs.KindLaws.{placed_plain}
-use Rattle.keep_edit.proofs.RunSteps.{AreMadeTo, IsPlaced, all_made, all_within, more_changes, no_changes}
+use Rattle.keep_edit.proofs.RunSteps.{AreMadeTo, IsBare, IsPlaced, all_made, all_within, more_changes}
+use Rattle.keep_edit.proofs.RunSteps.{no_changes}
 use Rattle.keep_edit.proofs.SeenPathLaws.{headless}
 use Rattle.keep_edit.proofs.SeenLaws.{more_seen, was_added}
 use Rattle.keep_edit.proofs.document.Document.changes_of_kinds.Goals as goal
@@ -32,8 +33,8 @@ loop-number-init c =
     let first = c.args.first in
     let now = c.args.self.now in
     let (no_outlines, none) = c.new-so_far.ensures in (
-      subst₂ (λ os cs. AreMadeTo edits first first now os cs c.new-lines.result.tables) (sym no_outlines) (sym none)
-          (no_changes edits first now c.new-lines.result.tables),
+      subst₂ (λ os cs. AreMadeTo edits first first now os cs c.new-lines.result) (sym no_outlines) (sym none)
+          (no_changes edits first now c.new-lines.result),
       subst (All (IsSeen c.new-paths.result)) (sym no_outlines) (All-nil (IsSeen c.new-paths.result)),
       λ yes. absurd cc,
       λ yes. subst (All (λ d. IsPlain d.new)) (sym none) (All-nil (λ (d : TextChange). IsPlain d.new)),
@@ -140,9 +141,9 @@ loop-number-preserved-in-Some c =
     let one : suc number ≡ number + 1 = omega arith in
     let put = c.put_again.ensures.changes c.if-not-put_again.false in
     let pushed = c.put_again.ensures.outlines c.if-not-put_again.false in (
-      subst₂ (λ (n : ℕ) (os : List Outline). AreMadeTo edits first n now os new c.loop-number.lines.tables) one
+      subst₂ (λ (n : ℕ) (os : List Outline). AreMadeTo edits first n now os new c.loop-number.lines) one
           (sym pushed)
-          (made_once_more edits first number now outlines changes new c.loop-number.lines.tables x x a seen_then so_far
+          (made_once_more edits first number now outlines changes new c.loop-number.lines x x a seen_then so_far
           low (sym c.index-edits-number.is) c.in-Some.ensures.again
           (c.allow_again.ensures.allowed c.if-not-allow_again.false) seen put),
       subst (All seen_now) (sym pushed)
@@ -168,8 +169,8 @@ loop-number-preserved c =
     let changes = c.loop-number.so_far.changes in
     let made = c.in-Some-change_in_run.made in
     let change = made.change in
-    let tables = c.loop-number.lines.tables in
-    let next = c.keep_line.new.self.tables in
+    let adds = c.loop-number.lines in
+    let next = c.keep_line.new.self in
     let (so_far, seen, was_text, were_plain, plans) = c.loop-number.invariant in
     let low : number < length edits = omega (arith, c.loop-number-test.true, c.min-end.ensures) in
     let one : suc number ≡ number + 1 = omega arith in
@@ -209,22 +210,27 @@ loop-number-preserved c =
           text_plain (w.is_text_plain-is ∙ w.if-not-is_text_plain.false),
           were_plain (w.keeps_place.ensures.plain w.if-not-keeps_place.false),
         ),
-        subst (IsPlaceKept now.text changes o (change_of change).at) w.has_header.ensures
+        subst (IsPlaceKept now.text changes o (change_of change).at) w.has_header-else-not-is_text_plain.ensures
             (w.keeps_place.ensures.kept w.if-not-keeps_place.false),
       )
       | else-writes_anew w ↦ absurd (let was = w.if-writes_anew.false in cc)
     ]) in
+    let bare : IsBare outlines o c.has_header.result =
+    λ line none.
+    All-weaker (IsSeen c.loop-number.paths) (λ y. runs.is_header (outlined y) ≡ false)
+    (λ y k. headless c.add.new.self (sym c.has_header.ensures ∙ none) y (c.add.ensures.others y k)) outlines seen in
     let (beside, with_it) = c.add-in-loop-number.ensures.changes c.if-not-add.false in
     let pushed = c.add-in-loop-number.ensures.outlines c.if-not-add.false in (
       subst (λ (n : ℕ). AreMadeTo edits first n now c.add-in-loop-number.new.self.outlines.items
           c.add-in-loop-number.new.self.changes next) one
           (subst₂ (λ (os : List Outline) (cs : List TextChange). AreMadeTo edits first (suc number) now os cs next)
           (sym pushed) (sym with_it)
-          (more_changes edits first number now outlines changes tables next x x o change made.is_dotted so_far low
+          (more_changes edits first number now outlines changes adds next x x o change made.line
+          c.has_header.result so_far low
           (sym c.index-edits-number.is)
-          (subst (λ a. MakesInRunHere now x a change made.is_dotted) (sym c.of-outline.ensures)
+          (subst (λ a. MakesInRunHere now x a change made.line) (sym c.of-outline.ensures)
           c.in-Some-change_in_run.ensures.made)
-          alone beside placed (c.keep_line.ensures c.if-not-keep_line.false))),
+          alone beside placed bare (c.keep_line.ensures c.if-not-keep_line.false))),
       subst (All (IsSeen c.add.new.self)) (sym pushed)
           (more_seen (IsSeen c.loop-number.paths) (IsSeen c.add.new.self) outlines o
           c.add.ensures.others here seen),
