@@ -154,8 +154,10 @@ class Run:
 
     def brought(self):
         """New keys of tables that no header defines, each of which brings the header, mostly one of each; in half of the lists some
-        are of several keys. Now and then a table comes again, or something else is between."""
+        are of several keys, and in a third of them many are set later. Now and then a table comes again, or something else is
+        between."""
         random, paths, several = self.random, self.with_implicit(), self.random.choice((0, 0.3))
+        later, given = random.choice((0, 0, 0.4)), []
         if not paths:
             return self.inserts()
         random.shuffle(paths)
@@ -163,7 +165,11 @@ class Run:
         for number in range(self.many):
             table = paths[number % len(paths)] if random.random() < 0.995 else random.choice(paths)
             table = table if random.random() < 0.995 else random.choice([b"", *(path for path, _ in self.entries)])
-            edits.append(edit_of(b"insert", self.new_path(table, number, several), value_of(random)))
+            if given and random.random() < later:
+                edits.append(edit_of(b"set", random.choice(given), value_of(random)))
+                continue
+            given.append(self.new_path(table, number, several))
+            edits.append(edit_of(b"insert", given[-1], value_of(random)))
         return edits
 
     def items(self):

@@ -7,8 +7,8 @@
 -- its value, so the outlines stay.
 --
 -- Theorems: `each_instead`: what holds of each change holds with one where another was; `line_here`, `inserted_again`.
-use Rattle.std.proofs.Common.{◌≡◌, ◌≢◌, ◌<◌, ◌∷◌, ◌++◌, [], ℕ, suc, List, take, length, get_or, string_bytes, refl, sym}
-use Rattle.std.proofs.Common.{ap, subst, ◌∙◌, All, Bool, IsUtf8, inl, inr, None, false, true}
+use Rattle.std.proofs.Common.{◌≡◌, ◌<◌, ◌∷◌, ◌++◌, [], ℕ, suc, List, take, length, get_or, string_bytes, refl, sym}
+use Rattle.std.proofs.Common.{ap, subst, ◌∙◌, All, IsUtf8, inl, inr, None, false, true}
 use Rattle.std.specs.Prelude.{◌⊎◌, IsTrue}
 use Rattle.std.proofs.lemmas.Str.{IsUtf8-string_bytes}
 use Rattle.keep_types.specs.declared.leaf.Profile.TheVariants.{Wide}
@@ -16,7 +16,6 @@ use Rattle.keep_syntax.specs.Tree.{Document, Value, text}
 use Rattle.keep_path.specs.Path.{Part}
 use Rattle.keep_edit_spec.specs.AddedLines.{first_new}
 use Rattle.keep_edit_spec.specs.Changed.{put}
-use Rattle.keep_edit_spec.specs.DottedLines.{AddsLineTo}
 use Rattle.keep_edit_spec.specs.InsertKinds.{AddsAs}
 use Rattle.keep_edit_spec.specs.declared.line_kind.LineKind.{LineKind}
 use Rattle.keep_edit_spec.specs.declared.line_kind.LineKind.TheVariants.{LastInBody, OfDotted, WithHeader}
@@ -106,7 +105,7 @@ module _ (s : Document) (edits : List Edit) (n : ℕ) (old now : ProfiledText) (
   r : IsRunInsertedAgain now.profile limit before h.ms again.path again.more replaced.before (change_of was)
       (change_of t) replaced.after
   r =
-      run_goes_on_inserted now.profile limit before h.ms again.path again.value again.more again.dotted replaced.before
+      run_goes_on_inserted now.profile limit before h.ms again.path again.value again.more again.kind replaced.before
       (change_of was) (change_of t) replaced.after (editable now before read) h.at_once (again.added before read)
       (h.changes_are ∙ replaced.was) (again.adds before read) (plain alike)
 
@@ -128,15 +127,16 @@ module _ (s : Document) (edits : List Edit) (n : ℕ) (old now : ProfiledText) (
   allowed : refusal now.profile limit h.made.tree e ≡ None
   allowed = subst (λ (u : Document). refusal now.profile limit u e ≡ None) h.tree_is r.allowed
 
-  given : (dotted : Bool) → AddsLineTo dotted now.profile limit before again.path again.more (change_of t)
+  given : (kind : LineKind) → AddsAs kind now.profile limit before again.path again.more (change_of t)
       → IsGivenValue Wide again.more
-  given true adds = adds.given
-  given false adds = adds.given
+  given LastInBody adds = adds.given
+  given OfDotted adds = adds.given
+  given WithHeader adds = adds.given
 
   lawful : IsLawfulEdit now.profile limit h.made.tree e
   lawful =
       set_lawful now.profile limit h.made.tree again.path again.more so_far.editable
-      (given again.dotted (again.adds before read)) allowed
+      (given again.kind (again.adds before read)) allowed
 
   same : edited_document h.made.tree e ≡ document_after before ms
   same = ap (λ (u : Document). edited_document u e) (sym h.tree_is) ∙ r.same
@@ -227,33 +227,21 @@ AddsAt now path given t kind =
     (s : Document) → IsTextOfTree now s → (v : Value) → IsTextOfValue given v
     → AddsAs kind now.profile limit s path v (change_of t)
 
--- the line with the value that was given before, and that with the value that is set; neither brings a header
+-- the line with the value that was given before, and that with the value that is set
 pub line_here : (now : ProfiledText) (x : Edit) (path : List Part) (given value : List ℕ) (was t : TextEdit)
-    (kind : LineKind) → kind ≢ WithHeader → x ≡ edit.Set path value → AddsAt now path given was kind
-    → IsAcceptedValue Wide given → AddsAt now path value t kind → IsAcceptedValue Wide value → IsSpanOf now.text t.place
+    (kind : LineKind) → x ≡ edit.Set path value → AddsAt now path given was kind → IsAcceptedValue Wide given
+    → AddsAt now path value t kind → IsAcceptedValue Wide value → IsSpanOf now.text t.place
     → InsertsAgainHere now x was t
-line_here now x path given value was t LastInBody other is added (v, given_is) adds (w, value_is) within = record {
+line_here now x path given value was t kind is added (v, given_is) adds (w, value_is) within = record {
   path = path;
   value = v;
   more = w;
-  dotted = false;
+  kind = kind;
   is = subst (λ (y : Edit). IsEdit y (law.set path w)) (sym is) (w, value_is, refl);
   added = λ s read. added s read v given_is;
   adds = λ s read. adds s read w value_is;
   within = within;
 }
-line_here now x path given value was t OfDotted other is added (v, given_is) adds (w, value_is) within = record {
-  path = path;
-  value = v;
-  more = w;
-  dotted = true;
-  is = subst (λ (y : Edit). IsEdit y (law.set path w)) (sym is) (w, value_is, refl);
-  added = λ s read. added s read v given_is;
-  adds = λ s read. adds s read w value_is;
-  within = within;
-}
-line_here now x path given value was t WithHeader other is added (v, given_is) adds (w, value_is) within =
-    absurd (other refl)
 
 pub inserted_again : (edits : List Edit) (first end : ℕ) (now : ProfiledText) (outlines : List Outline)
     (changes new : List TextChange) (adds : AddedLines) (d x : Edit) (was t : TextEdit)

@@ -1,13 +1,14 @@
 -- Edits of a list that are made at once, and one more that does again what one of them did: its change comes in the
 -- place of that one's.
-use Rattle.std.specs.Prelude.{◌≡◌, ◌⊎◌, ⊤, Bool, true, List, [], ◌∷◌, string_bytes}
+use Rattle.std.specs.Prelude.{◌≡◌, ◌⊎◌, ⊤, true, List, [], ◌∷◌, string_bytes}
 use Rattle.keep_syntax.specs.Tree.{Document, Value}
 use Rattle.keep_path.specs.Path.{Part}
-use Rattle.keep_edit_spec.specs.DottedLines.{AddsLineTo}
 use Rattle.keep_edit_spec.specs.Edits as law
+use Rattle.keep_edit_spec.specs.InsertKinds.{AddsAs}
 use Rattle.keep_edit_spec.specs.Runs as runs
 use Rattle.keep_edit_spec.specs.Runs.{IsPlain}
 use Rattle.keep_edit_spec.specs.TextChanges.{TextChange}
+use Rattle.keep_edit_spec.specs.declared.line_kind.LineKind.{LineKind}
 use Rattle.keep_edit_plan.specs.TextEdits.{HasInstead, IsReplaced, change_of}
 use Rattle.keep_edit_plan.specs.declared.edit.Edit.{Edit}
 use Rattle.keep_edit_plan.specs.declared.text_edit.TextEdit.{TextEdit}
@@ -20,15 +21,15 @@ use Rattle.keep_edit.specs.declared.again.Again.TheVariants as again
 use Rattle.keep_edit.specs.declared.outline.Outline.{Outline}
 
 -- The edit sets the value at a path. An insert of some value there adds a line to the document of this text by the
--- first change, and an insert of this value by the second; the table of both is made by dotted keys, or of neither.
+-- first change, and an insert of this value by the second; both lines are of one kind.
 pub record InsertsAgainHere (now : ProfiledText) (x : Edit) (was t : TextEdit) : Type 0 where
   pub path : List Part
   pub value : Value
   pub more : Value
   pub is : IsEdit x (law.set path more)
-  pub dotted : Bool
-  pub added : (s : Document) → IsTextOfTree now s → AddsLineTo dotted now.profile limit s path value (change_of was)
-  pub adds : (s : Document) → IsTextOfTree now s → AddsLineTo dotted now.profile limit s path more (change_of t)
+  pub kind : LineKind
+  pub added : (s : Document) → IsTextOfTree now s → AddsAs kind now.profile limit s path value (change_of was)
+  pub adds : (s : Document) → IsTextOfTree now s → AddsAs kind now.profile limit s path more (change_of t)
   pub within : IsSpanOf now.text t.place
 
 -- So the edit does it again, after edits with these outlines and changes; a line that is added is one of theirs if the

@@ -1,23 +1,11 @@
 //! A value that is set after an edit of those that are made at once has inserted it on a line of its own.
-ghost use Rattle.std.specs.Prelude.{◌≡◌, ◌≢◌, IfSome, IsTrue};
+ghost use Rattle.std.specs.Prelude.{◌≡◌, IfSome};
 ghost use Rattle.keep_edit.specs.Again.{InsertsAgainHere};
-ghost use Rattle.keep_edit_spec.specs.declared.line_kind.LineKind.TheVariants.{WithHeader};
 
 use crate::at_once::AtOnce;
 use crate::document::Document;
 use crate::outline::Steps;
 use keep_edit_plan::{Edit, Planner, TextEdit};
-use keep_edit_spec::LineKind;
-
-/// Whether two lines are of one kind, and bring no header.
-fn are_alike(line: LineKind, other: LineKind) -> bool
-    ensures { IsTrue result → (other ≡ line) × (line ≢ WithHeader) }
-{
-    matches!(
-        (line, other),
-        (LineKind::LastInBody, LineKind::LastInBody) | (LineKind::OfDotted, LineKind::OfDotted)
-    )
-}
 
 impl Document {
     /// The line that these edits are known to add at a path, and the line with the value that an edit sets there. With
@@ -45,7 +33,7 @@ impl Document {
         let alloc = self.alloc();
         let earlier = planner.line(alloc, path, given)?;
         let line = planner.line(alloc, path, value)?;
-        if !are_alike(earlier.kind, line.kind) {
+        if earlier.kind != line.kind {
             return None;
         }
         Some((number, earlier.text_edit, line.text_edit))

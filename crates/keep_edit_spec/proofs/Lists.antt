@@ -198,3 +198,6 @@ pub mod BroughtAfterSection
 pub mod BroughtAfterHeader
 pub mod BroughtAfterLine
 pub mod BroughtBeside
+pub mod BroughtTexts
+pub mod BroughtValue
+pub mod GivenTexts

@@ -1,16 +1,17 @@
 -- Lists of edits that are made at once, where the value of a line that one of them adds is set later: the line is added
 -- once, with the later value.
-use Rattle.std.specs.Prelude.{◌≡◌, ◌⊎◌, ℕ, Bool, IsTrue, List, ◌∷◌, ◌++◌, None, All}
+use Rattle.std.specs.Prelude.{◌≡◌, ◌⊎◌, ℕ, IsTrue, List, ◌∷◌, ◌++◌, None, All}
 use Rattle.keep_types.specs.declared.leaf.Profile.{Profile}
 use Rattle.keep_syntax.specs.Tree.{Document, Value}
 use Rattle.keep_path.specs.Path.{Part}
-use Rattle.keep_edit_spec.specs.DottedLines.{AddsLineTo}
 use Rattle.keep_edit_spec.specs.Edits.{edited_document, insert, set}
+use Rattle.keep_edit_spec.specs.InsertKinds.{AddsAs}
 use Rattle.keep_edit_spec.specs.Laws.{IsEditable}
 use Rattle.keep_edit_spec.specs.Refusals.{refusal}
 use Rattle.keep_edit_spec.specs.RunLists.{AreAtOnce, MadeEdit, changes_of, document_after, made, seen_of}
 use Rattle.keep_edit_spec.specs.Runs.{IsPlain, is_insert}
 use Rattle.keep_edit_spec.specs.TextChanges.{TextChange}
+use Rattle.keep_edit_spec.specs.declared.line_kind.LineKind.{LineKind}
 
 -- the first is one of the third, and the fourth have the second in its place
 pub record IsExchanged (m by : MadeEdit) (ms others : List MadeEdit) : Type 0 where
@@ -37,9 +38,9 @@ pub record IsRunInsertedAgain (profile : Profile) (limit : ℕ) (s : Document) (
 abbrev pub RunGoesOnInserted : Type 0
 RunGoesOnInserted =
     (profile : Profile) (limit : ℕ) (s : Document) (ms : List MadeEdit) (path : List Part) (value more : Value)
-    (to : Bool) (before : List TextChange) (c d : TextChange) (after : List TextChange)
+    (kind : LineKind) (before : List TextChange) (c d : TextChange) (after : List TextChange)
     → IsEditable profile limit s → AreAtOnce profile limit s ms
-    → AddsLineTo to profile limit s path value c → changes_of ms ≡ before ++ c ∷ after
-    → AddsLineTo to profile limit s path more d
+    → AddsAs kind profile limit s path value c → changes_of ms ≡ before ++ c ∷ after
+    → AddsAs kind profile limit s path more d
     → IsPlain d.new ⊎ All (λ e. IsTrue (is_insert e)) (seen_of s ms)
     → IsRunInsertedAgain profile limit s ms path more before c d after

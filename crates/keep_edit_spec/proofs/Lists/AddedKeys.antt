@@ -6,7 +6,7 @@
 -- the other, its keys are fewer, and each key that they have less has two bytes or more with the point after it
 -- (`fewer`); newlines differ by one byte.
 --
--- Theorems: `line_text_is`; `same_keys`, `same_line`; `as_long`.
+-- Theorems: `keyval_text`, `line_text_is`; `same_keys`, `same_line`; `as_long`.
 use Rattle.std.proofs.Common.{◌≡◌, ℕ, suc, ◌+◌, ◌<◌, ◌≤◌, List, [], ◌∷◌, ◌++◌, length, map, take, drop, refl}
 use Rattle.std.proofs.Common.{sym, ap, subst, ◌∙◌, append_assoc, length-append, arith, inl, inr}
 use Rattle.std.proofs.lemmas.Bool.{cases_lt}
@@ -14,12 +14,13 @@ use Rattle.std.proofs.lemmas.List.{append-nil, map-append}
 use Rattle.std.proofs.lemmas.List.Elements.{filter_map-append}
 use Rattle.keep_types.specs.declared.leaf.Profile.{Profile}
 use Rattle.keep_token.specs.Encoded.{encoded_key}
-use Rattle.keep_syntax.specs.Tree.{Value, Name, Document, name_leaves, text_of, value_leaves, value_text}
+use Rattle.keep_syntax.specs.Tree.{Written, Value, Name, Document, ended_leaves, keyval, name_leaves, text_of}
+use Rattle.keep_syntax.specs.Tree.{value_leaves, value_text}
 use Rattle.keep_path.specs.Path.{Part, key}
 use Rattle.keep_meaning.specs.Meaning.{lines}
 use Rattle.keep_edit_spec.specs.Edits.{name_with}
 use Rattle.keep_edit_spec.specs.Laws.{IsEditable}
-use Rattle.keep_edit_spec.specs.Lines.{newline_of, reading_at}
+use Rattle.keep_edit_spec.specs.Lines.{new_line, newline_of, reading_at}
 use Rattle.keep_edit_spec.specs.Look.{key_text, keys_in}
 use Rattle.keep_edit_spec.specs.TextChanges.{TextChange}
 use Rattle.keep_edit_spec.proofs.Common.LineEnds.{newline_ends}
@@ -39,7 +40,7 @@ keys_text keys = text_of (name_leaves (name_with keys))
 -- ---- keys at the end of a path
 
 -- Two paths that are the same end in the same keys, if these begin at one step.
-same_keys : (path a b : List Part) (ks ls : List (List ℕ)) → path ≡ a ++ map key ks → path ≡ b ++ map key ls
+pub same_keys : (path a b : List Part) (ks ls : List (List ℕ)) → path ≡ a ++ map key ks → path ≡ b ++ map key ls
     → length a ≡ length b → ks ≡ ls
 same_keys path a b ks ls one other long =
     sym (keys_after a ks one) ∙ ap (λ (n : ℕ). keys_in (drop n path)) long ∙ keys_after b ls other
@@ -94,6 +95,19 @@ nearly_as_long a b (k ∷ ks) (l ∷ ls) some other is low high = elim (cases_lt
 
 -- ---- the line
 
+pub keyval_text : (keys : List (List ℕ)) (value : Value) (newline : Written)
+    → text_of (ended_leaves (new_line newline (keyval (name_with keys) value)))
+    ≡ keys_text keys ++ (value_text value ++ newline.text)
+keyval_text keys value newline =
+    let name : Name = name_with keys in
+    text_of-append ((name_leaves name ++ value_leaves value) ++ []) (newline ∷ [])
+    ∙ ap (λ (t : List ℕ). t ++ (newline.text ++ []))
+    (text_of-append (name_leaves name ++ value_leaves value) []
+    ∙ append-nil (text_of (name_leaves name ++ value_leaves value))
+    ∙ text_of-append (name_leaves name) (value_leaves value))
+    ∙ ap (λ (t : List ℕ). (keys_text keys ++ value_text value) ++ t) (append-nil newline.text)
+    ∙ append_assoc (keys_text keys) (value_text value) newline.text
+
 module _ (profile : Profile) (limit : ℕ) (s : Document) (path : List Part) (value : Value) (c : TextChange)
     (h : AddsKeyval profile limit s path value c) where
   abbrev keys : List (List ℕ)
@@ -103,16 +117,7 @@ module _ (profile : Profile) (limit : ℕ) (s : Document) (path : List Part) (va
   newline = (newline_of s).text
 
   pub line_text_is : c.new ≡ keys_text keys ++ (value_text value ++ newline)
-  line_text_is =
-      let name : Name = name_with keys in
-      h.puts.line
-      ∙ text_of-append ((name_leaves name ++ value_leaves value) ++ []) (newline_of s ∷ [])
-      ∙ ap (λ (t : List ℕ). t ++ (newline ++ []))
-      (text_of-append (name_leaves name ++ value_leaves value) []
-      ∙ append-nil (text_of (name_leaves name ++ value_leaves value))
-      ∙ text_of-append (name_leaves name) (value_leaves value))
-      ∙ ap (λ (t : List ℕ). (keys_text keys ++ value_text value) ++ t) (append-nil newline)
-      ∙ append_assoc (keys_text keys) (value_text value) newline
+  line_text_is = h.puts.line ∙ keyval_text keys value (newline_of s)
 
   line_long : length c.new ≡ length (keys_text keys) + (length (value_text value) + length newline)
   line_long =

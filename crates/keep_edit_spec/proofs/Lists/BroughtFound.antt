@@ -7,9 +7,9 @@
 -- them is the same (`alike_behind`). So a change that is found in another line is the one before, moved by the new
 -- lines (`found_stays`, by LineMore).
 --
--- Theorems: `its`, `path_clear`, `path_apart`, `path_differs`, `table_differs`; `made_place`, `to_is`, `found_stays`;
--- `act_none`, `still_nested`; `header_none`, `rename_none`; `kinds_stay`: at a path apart from that of the first new
--- key.
+-- Theorems: `own_place`, `its`, `path_clear`, `path_apart`, `path_differs`, `table_differs`; `made_place`, `to_is`,
+-- `before_is`, `found_stays`; `act_none`, `still_nested`; `header_none`, `rename_none`; `kinds_stay`: at a path apart
+-- from that of the first new key.
 use Rattle.std.proofs.Common.{◌≡◌, ◌≢◌, ℕ, zero, suc, ◌+◌, List, [], ◌∷◌, ◌++◌, map, take, drop, refl, sym, ap}
 use Rattle.std.proofs.Common.{ap₂, subst, ◌∙◌, arith, Option, Some, None, false}
 use Rattle.std.specs.Prelude.{position}
@@ -178,7 +178,7 @@ module _ (profile : Profile) (limit : ℕ) (s : Document) (path : List Part) (va
   abbrev name : Name
   name = name_with (h.text ∷ h.more)
 
-  own_place : table ++ step 0 (Some name) ≡ path
+  pub own_place : table ++ step 0 (Some name) ≡ path
   own_place = ap (λ (ks : List (List ℕ)). table ++ map key ks) (means profile limit s path value c h) ∙ sym h.new
 
   pub its : IsOwnLine inside.body path statement.content
@@ -251,7 +251,7 @@ module _ (profile : Profile) (limit : ℕ) (s : Document) (path : List Part) (va
   abbrev before_new : Reading
   before_new = reading_after_lines start (map line_of (take n s.ended))
 
-  before_is : before_new ≡ r
+  pub before_is : before_new ≡ r
   before_is =
       ap (reading_after_lines start) (sym lines_before) ∙ reading_there profile limit s path value c fine h
 

@@ -1,27 +1,25 @@
 -- If one of some edits that are made at once adds a line, so are the others with an insert of another value there in
 -- its place; and they make what a later set of the value makes after all of them.
 --
--- Right after the insert the set replaces the line's value (ValueAdded), behind keys that are as long as in the first
--- document (AddedKeys). The insert leaves each later edit alone, whose change is beside the whole line, so the set
+-- Right after the insert the set replaces the line's value, behind what is as long as in the first document
+-- (GivenTexts). The insert leaves each later edit alone, whose change is beside the whole line, so the set
 -- makes its change still (`set_there`, by induction on the later edits). With the later value in the text of the line
 -- this is the text that the other edits make, and a text is that of one document (`same_document`). The insert is found
 -- by its change, which no other edit makes (`found_there`, by OneInsert).
 --
 -- Theorem: `run_goes_on_inserted`.
-use Rattle.std.proofs.Common.{◌≡◌, ◌≢◌, ℕ, suc, ◌+◌, ◌≤◌, Bool, true, false, List, [], ◌∷◌, ◌++◌, length, take, All}
+use Rattle.std.proofs.Common.{◌≡◌, ◌≢◌, ℕ, ◌+◌, ◌≤◌, List, [], ◌∷◌, ◌++◌, length, take, All}
 use Rattle.std.proofs.Common.{refl, sym, ap, ap₂, subst, subst₂, ◌∙◌, arith, length-append, None, ◌⊎◌, inl, inr}
 use Rattle.std.specs.Prelude.{IsTrue}
 use Rattle.std.proofs.lemmas.List.Elements.{All-head, All-nil, All-tail, All-weaker}
-use Rattle.std.proofs.lemmas.Option.{same_Some}
 use Rattle.keep_types.specs.declared.leaf.Profile.{Profile}
-use Rattle.keep_syntax.specs.Tree.{Document, Value, bom_leaves, text, text_of, value_text}
+use Rattle.keep_syntax.specs.Tree.{Document, Value, text, value_text}
 use Rattle.keep_syntax.proofs.Shared.{one_document}
 use Rattle.keep_path.specs.Path.{Part}
 use Rattle.keep_edit_spec.specs.AddedLines.{first_new}
 use Rattle.keep_edit_spec.specs.Changed.{put}
-use Rattle.keep_edit_spec.specs.DottedLines.{AddsLineTo}
 use Rattle.keep_edit_spec.specs.Edits.{Edit, edited_document, insert, set}
-use Rattle.keep_edit_spec.specs.InsertKinds.{kind_of}
+use Rattle.keep_edit_spec.specs.InsertKinds.{AddsAs, kind_of}
 use Rattle.keep_edit_spec.specs.InsertLists.{RunGoesOnInserted}
 use Rattle.keep_edit_spec.specs.Laws.{IsEditable}
 use Rattle.keep_edit_spec.specs.Lines.{newline_of}
@@ -32,23 +30,20 @@ use Rattle.keep_edit_spec.specs.Runs.{LetsCome, MakesChange, is_insert, seen}
 use Rattle.keep_edit_spec.specs.SetValues.{SetsValue}
 use Rattle.keep_edit_spec.specs.TextChanges.{Follow, IsBeside, TextChange, change_at, moved_by_all, moved_past}
 use Rattle.keep_edit_spec.specs.TextChanges.{place_of_change, text_with, with_change}
+use Rattle.keep_edit_spec.specs.declared.line_kind.LineKind.{LineKind}
 use Rattle.keep_edit_spec.proofs.EditLaws.{change_put, set_lawful}
-use Rattle.keep_edit_spec.proofs.Lists.AddedKeys.{as_long, keys_text, line_text_is, same_line}
-use Rattle.keep_edit_spec.proofs.Lists.AddedKeyval.{AddsKeyval, keyval_of, keys as keys_of_line}
-use Rattle.keep_edit_spec.proofs.Lists.DottedLine as dotted
 use Rattle.keep_edit_spec.proofs.Lists.ExchangedChanges.{IsAmong, IsAmongFirst, IsAmongMore, IsFoundThere}
 use Rattle.keep_edit_spec.proofs.Lists.ExchangedChanges.{found_other, found_own, goes_among, moved_there, put_among}
 use Rattle.keep_edit_spec.proofs.Lists.ExchangedChanges.{put_part, starts_there, text_after, text_parts, text_to}
 use Rattle.keep_edit_spec.proofs.Lists.ExchangedEdits.{alone_more, beside_more, beside_of, changes_more, each_more}
 use Rattle.keep_edit_spec.proofs.Lists.ExchangedEdits.{left_more, placed_more, set_still}
-use Rattle.keep_edit_spec.proofs.Lists.LineKinds.{as_kind, kind_is, line_kind, line_of}
-use Rattle.keep_edit_spec.proofs.Lists.MadeChanges.{within_text}
-use Rattle.keep_edit_spec.proofs.Lists.NewPaths.{any_keys}
+use Rattle.keep_edit_spec.proofs.Lists.GivenTexts.{IsGiven, given, given_alike, given_as_long, same_place}
+use Rattle.keep_edit_spec.proofs.Lists.GivenTexts.{set_right_after}
+use Rattle.keep_edit_spec.proofs.Lists.LineKinds.{as_of_kind, keys_of_line, kind_is}
+use Rattle.keep_edit_spec.proofs.Lists.MadeChanges.{added, within_text}
 use Rattle.keep_edit_spec.proofs.Lists.OneInsert.{only_insert}
-use Rattle.keep_edit_spec.proofs.Lists.Places.{at_is, width}
 use Rattle.keep_edit_spec.proofs.Lists.RunLists.{run_is_known}
 use Rattle.keep_edit_spec.proofs.Lists.TextChanges.{all_with}
-use Rattle.keep_edit_spec.proofs.Lists.ValueAdded.{set_after}
 
 -- what holds of all holds of the one
 of_one : (s : Document) (P : Edit → Type 0) (m : MadeEdit) (later earlier : List MadeEdit)
@@ -57,69 +52,46 @@ of_one s P m [] earlier h = All-head P (seen s m.edit) (seen_of s earlier) h
 of_one s P m (x ∷ later) earlier h =
     of_one s P m later earlier (All-tail P (seen s x.edit) (seen_of s (later ++ m ∷ earlier)) h)
 
--- Two inserts of one path add their lines at one place.
-same_at : (profile : Profile) (limit : ℕ) (s : Document) (path : List Part) (value more : Value) (to : Bool)
-    (c d : TextChange) → AddsLineTo to profile limit s path value c → AddsLineTo to profile limit s path more d
-    → c.at ≡ d.at
-same_at profile limit s path value more false c d h k =
-    let number : h.number ≡ k.number = same_Some h.number k.number (sym h.ends ∙ k.ends) in
-    at_is profile limit s path value c h
-    ∙ ap (λ (n : ℕ). length (text_of (bom_leaves s.bom)) + width (take n s.ended)) number
-    ∙ sym (at_is profile limit s path more d k)
-same_at profile limit s path value more true c d h k =
-    let number : h.number ≡ k.number = same_Some h.number k.number (sym h.last ∙ k.last) in
-    dotted.at_is profile limit s path value c h
-    ∙ ap (λ (n : ℕ). length (text_of (bom_leaves s.bom)) + width (take (suc n) s.ended)) number
-    ∙ sym (dotted.at_is profile limit s path more d k)
-
 module _ (profile : Profile) (limit : ℕ) (s : Document) (path : List Part) (value : Value) (c : TextChange)
-    (more : Value) (d : TextChange) (to : Bool) (fine : IsEditable profile limit s)
-    (h : AddsLineTo to profile limit s path value c) (k : AddsLineTo to profile limit s path more d) where
+    (more : Value) (d : TextChange) (kind : LineKind) (fine : IsEditable profile limit s)
+    (h : AddsAs kind profile limit s path value c) (k : AddsAs kind profile limit s path more d) where
   abbrev m : MadeEdit
   m = made (insert path value) c
 
   abbrev by : MadeEdit
   by = made (insert path more) d
 
-  abbrev line : AddsKeyval profile limit s path value c
-  line = keyval_of profile limit s path value c to fine h
+  abbrev its : IsGiven s value c
+  its = given kind profile limit s path value c fine h
 
-  abbrev other_line : AddsKeyval profile limit s path more d
-  other_line = keyval_of profile limit s path more d to fine k
-
-  -- each inserts as one of its kind
-  makes_line : (w : Value) (x : TextChange) → AddsLineTo to profile limit s path w x
-      → MakesChange profile limit s (insert path w) x
-  makes_line w x its = (line_kind to, as_kind to profile limit s path w x its)
-
-  kind : kind_of s path ≡ line_kind to
-  kind = kind_is (line_kind to) profile limit s path value c (as_kind to profile limit s path value c h)
+  abbrev its_more : IsGiven s more d
+  its_more = given kind profile limit s path more d fine k
 
   -- ---- the two lines
 
   none : c.size ≡ 0
-  none = line.puts.adds
+  none = (added profile limit s path value c (kind, h)).adds
 
   no_size : d.size ≡ 0
-  no_size = other_line.puts.adds
+  no_size = (added profile limit s path more d (kind, k)).adds
 
   abbrev keys : List ℕ
-  keys = keys_text (keys_of_line profile limit s path value c line)
+  keys = its.before
 
   abbrev newline : List ℕ
   newline = (newline_of s).text
 
   at : c.at ≡ d.at
-  at = same_at profile limit s path value more to c d h k
+  at = same_place profile limit s path value more c d kind h k
 
   c_is : c.new ≡ keys ++ (value_text value ++ newline)
-  c_is = line_text_is profile limit s path value c line
+  c_is = its.text
 
   d_is : d.new ≡ keys ++ (value_text more ++ newline)
   d_is =
-      line_text_is profile limit s path more d other_line
-      ∙ ap (λ (ks : List (List ℕ)). keys_text ks ++ (value_text more ++ newline))
-      (sym (same_line profile limit s path value more c d fine line other_line at))
+      its_more.text
+      ∙ ap (λ (t : List ℕ). t ++ (value_text more ++ newline))
+      (sym (given_alike profile limit s path value more c d kind fine h k))
 
   -- the other insert after the edits before it
   alone_first : (earlier : List MadeEdit)
@@ -166,18 +138,19 @@ module _ (profile : Profile) (limit : ℕ) (s : Document) (path : List Part) (va
       let moved_more : TextChange = moved_past (changes_of earlier) d in
       let (made_now, still) = run.later (insert path value) c makes alone beside placed in
       let (made_more, still_more) =
-      run.later (insert path more) d (makes_line more d k) (alone_first earlier alone) (beside_first earlier beside)
+      run.later (insert path more) d (kind, k) (alone_first earlier alone) (beside_first earlier beside)
       (placed_first earlier placed) in
-      let line_now : AddsKeyval profile limit now path value moved =
-      keyval_of profile limit now path value moved to run.editable
-      (line_of to profile limit now path value moved (still.1 ∙ kind) made_now) in
-      let long : length (keys_text (keys_of_line profile limit now path value moved line_now)) ≡ length keys =
-      as_long profile limit now s path value moved c run.editable fine line_now line refl in
+      let own : kind_of now path ≡ kind = still.1 ∙ kind_is kind profile limit s path value c h in
+      let line_now : AddsAs kind profile limit now path value moved =
+      as_of_kind kind profile limit now path value moved own made_now in
+      let long : length (given kind profile limit now path value moved run.editable line_now).before ≡ length keys =
+      sym (given_as_long kind profile limit s now path value c moved fine run.editable h line_now refl still.0) in
       record {
         among = first.among;
         sets = subst₂ (λ (n m : ℕ). SetsValue profile limit (edited_document now (insert path value)) path more
             (change_at (n + m) (length (value_text value)) (value_text more))) (sym first.start) long
-            (set_after profile limit now path value moved line_now run.editable made_now more moved_more made_more);
+            (set_right_after kind profile limit now path value moved run.editable line_now more moved_more
+            (as_of_kind kind profile limit now path more moved_more own made_more));
       }
 
   few : length keys + length (value_text value) ≤ length c.new
@@ -211,8 +184,8 @@ module _ (profile : Profile) (limit : ℕ) (s : Document) (path : List Part) (va
         among = goes.among;
         sets = subst (λ (n : ℕ). SetsValue profile limit (edited_document now x.edit) path more
             (change_at n (length (value_text value)) (value_text more))) moves
-            (set_still profile limit s now path value more (any_keys profile limit s path value c to h) (there start)
-            run.editable before.sets x.edit e x.change makes
+            (set_still profile limit s now path value more (keys_of_line kind profile limit s path value c h)
+            (there start) run.editable before.sets x.edit e x.change makes
             (of_one s (λ f. LeavesAlone f (seen s x.edit)) m later earlier alone) made_now as_seen side);
       }
 
@@ -222,7 +195,7 @@ module _ (profile : Profile) (limit : ℕ) (s : Document) (path : List Part) (va
       → IsPlain d.new ⊎ All (λ e. IsTrue (is_insert e)) (seen_of s (later ++ m ∷ earlier))
       → AreAtOnce profile limit s (later ++ m ∷ earlier) → AreAtOnce profile limit s (later ++ by ∷ earlier)
   at_once [] earlier plain (makes, (alone, (beside, (placed, others)))) = (
-    makes_line more d k,
+    (kind, k),
     (alone_first earlier alone, (beside_first earlier beside, (placed_first earlier placed, others))),
   )
   at_once (x ∷ later) earlier plain (makes, (alone, (beside, (placed, others)))) =
@@ -300,7 +273,7 @@ module _ (profile : Profile) (limit : ℕ) (s : Document) (path : List Part) (va
     starts =
         starts_there (text s) it.among.before it.among.after c
         (let in_text : c.at + c.size ≤ length (text s) =
-        within_text profile limit s (insert path value) c fine (makes_line value c h) in omega (arith, in_text))
+        within_text profile limit s (insert path value) c fine (kind, h) in omega (arith, in_text))
         (subst (Follow 0) it.among.is run.follow)
 
     text_then : text (edited_document now (set path more)) ≡ text (document_after s others)
@@ -390,22 +363,21 @@ module _ (profile : Profile) (limit : ℕ) (s : Document) (path : List Part) (va
           }
 
 pub run_goes_on_inserted : RunGoesOnInserted
-run_goes_on_inserted profile limit s ms path value more to before c d after fine all adds is makes plain =
-    let same : c.at ≡ d.at = same_at profile limit s path value more to c d adds makes in
+run_goes_on_inserted profile limit s ms path value more kind before c d after fine all adds is makes plain =
+    let same : c.at ≡ d.at = same_place profile limit s path value more c d kind adds makes in
     let found : IsFound path more ms before c d after =
-    found_there profile limit s path value c more d fine
-    (line_kind to, as_kind to profile limit s path value c adds) same ms before after all is in
+    found_there profile limit s path value c more d fine (kind, adds) same ms before after all is in
     let own : Value = found.value in
     let others : List MadeEdit = found.later ++ made (insert path more) d ∷ found.earlier in
     let ours : AreAtOnce profile limit s (found.later ++ made (insert path own) c ∷ found.earlier) =
     subst (AreAtOnce profile limit s) found.all all in
-    let its : AddsLineTo to profile limit s path own c =
+    let its : AddsAs kind profile limit s path own c =
     of_kind own (its_own found.later found.earlier own ours) in
     let still : AreAtOnce profile limit s others =
-    at_once profile limit s path own c more d to fine its makes found.later found.earlier
+    at_once profile limit s path own c more d kind fine its makes found.later found.earlier
     (subst (λ (l : List MadeEdit). IsPlain d.new ⊎ All (λ e. IsTrue (is_insert e)) (seen_of s l)) found.all plain)
     ours in
-    let there_set = set_there profile limit s path own c more d to fine its makes found.later found.earlier ours in
+    let there_set = set_there profile limit s path own c more d kind fine its makes found.later found.earlier ours in
     record {
       value = own;
       others = others;
@@ -415,16 +387,14 @@ run_goes_on_inserted profile limit s ms path value more to before c d after fine
       allowed = subst (λ (l : List MadeEdit). refusal profile limit (document_after s l) (set path more) ≡ None)
           (sym found.all) there_set.sets.allowed;
       same = ap (λ (l : List MadeEdit). edited_document (document_after s l) (set path more)) found.all
-          ∙ same_document profile limit s path own c more d to fine its makes
+          ∙ same_document profile limit s path own c more d kind fine its makes
           (found.later ++ made (insert path own) c ∷ found.earlier) others there_set ours still;
       still = still;
     }
   where
     -- an insert there adds its line to a table of the same kind
-    of_kind : (w : Value) → MakesChange profile limit s (insert path w) c → AddsLineTo to profile limit s path w c
-    of_kind w =
-        line_of to profile limit s path w c
-        (kind_is (line_kind to) profile limit s path value c (as_kind to profile limit s path value c adds))
+    of_kind : (w : Value) → MakesChange profile limit s (insert path w) c → AddsAs kind profile limit s path w c
+    of_kind w = as_of_kind kind profile limit s path w c (kind_is kind profile limit s path value c adds)
 
     its_own : (later earlier : List MadeEdit) (w : Value)
         → AreAtOnce profile limit s (later ++ made (insert path w) c ∷ earlier)

@@ -5,8 +5,8 @@
 -- which is the holder of the path (`table_is`). A line that brings no header is of the kind that tells whether dotted
 -- keys make its table (`line_kind`).
 --
--- Theorems: `kind_is`, `keys_of_line`, `table_is`, `seen_still`; `as_kind`, `line_of`.
-use Rattle.std.proofs.Common.{◌≡◌, ℕ, Bool, true, false, List, refl, sym, ap, ◌∙◌}
+-- Theorems: `kind_is`, `keys_of_line`, `table_is`, `seen_still`, `as_of_kind`; `as_kind`.
+use Rattle.std.proofs.Common.{◌≡◌, ℕ, Bool, true, false, List, refl, sym, ap, subst, ◌∙◌}
 use Rattle.keep_types.specs.declared.leaf.Profile.{Profile}
 use Rattle.keep_syntax.specs.Tree.{Document, Value}
 use Rattle.keep_path.specs.Path.{Part, key, without_last}
@@ -53,6 +53,14 @@ seen_still kind profile limit s now path value c d was h first = (
   kind_is kind profile limit now path value d h ∙ sym (kind_is kind profile limit s path value c was),
 )
 
+-- an insert adds a line of the kind that the document says it is of
+pub as_of_kind : (kind : LineKind) (profile : Profile) (limit : ℕ) (s : Document) (path : List Part) (value : Value)
+    (c : TextChange) → kind_of s path ≡ kind → MakesChange profile limit s (insert path value) c
+    → AddsAs kind profile limit s path value c
+as_of_kind kind profile limit s path value c is (own, h) =
+    subst (λ (a : LineKind). AddsAs a profile limit s path value c)
+    (sym (kind_is own profile limit s path value c h) ∙ is) h
+
 -- ---- lines that bring no header
 
 abbrev pub line_kind : Bool → LineKind
@@ -63,19 +71,3 @@ pub as_kind : (to : Bool) (profile : Profile) (limit : ℕ) (s : Document) (path
     (c : TextChange) → AddsLineTo to profile limit s path value c → AddsAs (line_kind to) profile limit s path value c
 as_kind true profile limit s path value c h = h
 as_kind false profile limit s path value c h = h
-
--- an insert there, if the document says that the line is of that kind
-pub line_of : (to : Bool) (profile : Profile) (limit : ℕ) (s : Document) (path : List Part) (value : Value)
-    (c : TextChange) → kind_of s path ≡ line_kind to → MakesChange profile limit s (insert path value) c
-    → AddsLineTo to profile limit s path value c
-line_of to profile limit s path value c is (kind, h) =
-    by to kind (sym is ∙ kind_is kind profile limit s path value c h) h
-  where
-    by : (to : Bool) (kind : LineKind) → line_kind to ≡ kind → AddsAs kind profile limit s path value c
-        → AddsLineTo to profile limit s path value c
-    by true OfDotted same h = h
-    by false LastInBody same h = h
-    by true LastInBody same h = absurd cc
-    by true WithHeader same h = absurd cc
-    by false OfDotted same h = absurd cc
-    by false WithHeader same h = absurd cc

@@ -1,11 +1,14 @@
 -- A set of the value of a line that an insert has just added: what it replaces, and that it is not refused.
 --
--- Nothing was at the path before, so the search for the value found nothing (`none_found`). With the new line it finds
--- nothing in the lines before that, and then the line's whole value (`lines_there`). It replaces that one's text, which
--- comes right after the keys (`place_after`). It is not refused: the path has the value that was inserted, and what
--- encloses it is as before (`encloses`), so another value there is as deep as if it was inserted (`allowed_after`).
+-- Nothing was at the path before, so the search for the value found nothing (`none_found`). With the new lines it finds
+-- nothing in the lines before them (`lines_there`), and then the whole value of the line of the path (`own_there`). It
+-- replaces that one's text, which comes right after the keys (`place_there`). It is not refused: the path has the value
+-- that was inserted, and what encloses it is as before (`encloses`), so another value there is as deep as if it was
+-- inserted (`allowed_after`).
 --
--- Theorems: `set_after`; `has_then`, `no_value`: the path of any insert of new keys has a value then, and had none.
+-- Theorems: `set_after`; `set_there`: after any insert of new keys, by where the search finds the value in the new
+-- lines; `next_there`, `own_there`: a search past a line, and in the line of the path; `has_then`, `no_value`: the path
+-- of any insert of new keys has a value then, and had none.
 use Rattle.std.proofs.Common.{◌≡◌, ℕ, zero, suc, ◌+◌, ◌≤◌, Bool, true, false, not, ◌&&◌, List, [], ◌∷◌}
 use Rattle.std.proofs.Common.{◌++◌, length, map, take, drop, refl, sym, ap, ap₂, subst, ◌∙◌, append_assoc}
 use Rattle.std.proofs.Common.{length-append, arith, Option, Some, None}
@@ -14,8 +17,8 @@ use Rattle.std.proofs.lemmas.Bool.{ltb-false, not-false}
 use Rattle.std.proofs.lemmas.List.{append-nil}
 use Rattle.keep_types.specs.declared.leaf.Profile.{Profile}
 use Rattle.keep_types.specs.declared.leaf.Profile.TheVariants.{Wide}
-use Rattle.keep_syntax.specs.Tree.{Value, Line, Ended, Document, bom_leaves, ended_leaves, keyval, text_of, value_depth}
-use Rattle.keep_syntax.specs.Tree.{value_text}
+use Rattle.keep_syntax.specs.Tree.{Written, Content, Name, Value, Line, Ended, Document, bom_leaves, ended_leaves}
+use Rattle.keep_syntax.specs.Tree.{keyval, name_leaves, text_of, value_depth, value_text}
 use Rattle.keep_syntax.specs.Numbered as syntax
 use Rattle.keep_syntax.specs.Profiles.{is_allowed_in}
 use Rattle.keep_path.specs.Path.{Part, key, strip}
@@ -26,9 +29,9 @@ use Rattle.keep_edit_spec.specs.declared.fault.EditFault.TheVariants as fault
 use Rattle.keep_edit_spec.specs.AddedLines.{first_new}
 use Rattle.keep_edit_spec.specs.Changed.{Changed, framed_change, or_else, place_of, within}
 use Rattle.keep_edit_spec.specs.Edits.{changed_or_same, edited_document, insert, name_with, nested, place, set}
-use Rattle.keep_edit_spec.specs.Laws.{IsEditable, IsLawfulEdit}
-use Rattle.keep_edit_spec.specs.Lines.{Page, ended_text, in_content, in_document, in_line, in_lines, page_text}
-use Rattle.keep_edit_spec.specs.Lines.{with_page}
+use Rattle.keep_edit_spec.specs.Laws.{IsEditable, IsGivenValue, IsLawfulEdit}
+use Rattle.keep_edit_spec.specs.Lines.{Page, ended_text, in_content, in_document, in_line, in_lines, newline_of}
+use Rattle.keep_edit_spec.specs.Lines.{page_text, plain_line, with_page}
 use Rattle.keep_edit_spec.specs.Look.{enclosing, holder, is_bracket_at, is_index, is_table, item_number}
 use Rattle.keep_edit_spec.specs.Refusals.{first_that_holds, has_value, is_too_deep, refusal, refusal_by}
 use Rattle.keep_edit_spec.specs.Runs.{MakesChange}
@@ -51,7 +54,7 @@ use Rattle.keep_edit_spec.proofs.Lists.MadeChanges.{IsAdded, added, change_lawfu
 use Rattle.keep_edit_spec.proofs.Lists.NewHolder.{nothing_under, path_new}
 use Rattle.keep_edit_spec.proofs.Lists.NewPaths.{InsertsKeys, first_path, unsaid}
 use Rattle.keep_edit_spec.proofs.Lists.OneValue.{at_end}
-use Rattle.keep_edit_spec.proofs.Lists.Places.{item_none}
+use Rattle.keep_edit_spec.proofs.Lists.Places.{item_none, width}
 use Rattle.keep_edit_spec.proofs.Lists.SetAllowed.{node_alone, unrefused, value_of}
 use Rattle.keep_edit_spec.proofs.Lists.SomeBytes.{value_has_bytes}
 use Rattle.keep_edit_spec.proofs.Rename.RenamedParts.{strip_self}
@@ -69,14 +72,14 @@ or_none None p h = (refl, h)
 or_none (Some c) p h = absurd cc
 
 -- something was found, after these bytes, and gives place to these
-record IsThere (o : Option (Changed Page)) (before old new : List ℕ) : Type 0 where
-  next : Changed Page
-  is : o ≡ Some next
-  left : next.before ≡ before
-  gone : next.old ≡ old
-  comes : next.new ≡ new
+pub record IsThere (o : Option (Changed Page)) (before old new : List ℕ) : Type 0 where
+  pub next : Changed Page
+  pub is : o ≡ Some next
+  pub left : next.before ≡ before
+  pub gone : next.old ≡ old
+  pub comes : next.new ≡ new
 
-module _ (f : Reading → Line → Option (Changed Line)) (x : Ended) (d : Changed Line) (last : Line) where
+module _ (f : Reading → Line → Option (Changed Line)) (last : Line) where
   -- a line seen from the lines from it on, and lines seen from those with one more before them
   abbrev with_line : Ended → List Ended → Line → Page
   with_line e es l = record { ended = record { line = l; newline = e.newline } ∷ es; last = last }
@@ -87,10 +90,10 @@ module _ (f : Reading → Line → Option (Changed Line)) (x : Ended) (d : Chang
   abbrev with_first : Ended → Page → Page
   with_first e b = record { ended = e ∷ b.ended; last = b.last }
 
-  -- the line is the first
-  first_there : (r : Reading) (es : List Ended) → f r x.line ≡ Some d
+  -- in the first line
+  first_there : (x : Ended) (d : Changed Line) (r : Reading) (es : List Ended) → f r x.line ≡ Some d
       → IsThere (in_lines f r (x ∷ es) last) d.before d.old d.new
-  first_there r es found = record {
+  first_there x d r es found = record {
     next = framed_change (with_line x es) [] (after_text x es) d;
     is = ap (λ (o : Option (Changed Line)). or_else (within (with_line x es) [] (after_text x es) o)
         (within (with_first x) (text_of (ended_leaves x)) [] (in_lines f (after_line r x.line) es last))) found;
@@ -99,8 +102,8 @@ module _ (f : Reading → Line → Option (Changed Line)) (x : Ended) (d : Chang
     comes = refl;
   }
 
-  -- and it is after a line in which nothing is found
-  next_there : (r : Reading) (e : Ended) (es : List Ended) (before old new : List ℕ) → f r e.line ≡ None
+  -- after a line in which nothing is found
+  pub next_there : (r : Reading) (e : Ended) (es : List Ended) (before old new : List ℕ) → f r e.line ≡ None
       → IsThere (in_lines f (after_line r e.line) es last) before old new
       → IsThere (in_lines f r (e ∷ es) last) (text_of (ended_leaves e) ++ before) old new
   next_there r e es before old new none k = record {
@@ -113,30 +116,86 @@ module _ (f : Reading → Line → Option (Changed Line)) (x : Ended) (d : Chang
     comes = k.comes;
   }
 
-  lines_there : (r : Reading) (n : ℕ) (es : List Ended) → n ≤ length es → in_lines f r es last ≡ None
-      → f (reading_after_lines r (map line_of (take n es))) x.line ≡ Some d
-      → IsThere (in_lines f r (take n es ++ x ∷ drop n es) last) (ended_text (take n es) ++ d.before) d.old d.new
-  lines_there r zero [] few none found = first_there r [] found
-  lines_there r zero (e ∷ es) few none found = first_there r (e ∷ es) found
-  lines_there r (suc m) [] few none found = absurd (let k : suc m ≤ 0 = few in omega (arith, k))
-  lines_there r (suc m) (e ∷ es) few none found =
+  -- after the first of the lines in which nothing was found, where other lines come after these
+  lines_there : (r : Reading) (n : ℕ) (es to : List Ended) (before old new : List ℕ) → n ≤ length es
+      → in_lines f r es last ≡ None
+      → IsThere (in_lines f (reading_after_lines r (map line_of (take n es))) to last) before old new
+      → IsThere (in_lines f r (take n es ++ to) last) (ended_text (take n es) ++ before) old new
+  lines_there r zero [] to before old new few none there = there
+  lines_there r zero (e ∷ es) to before old new few none there = there
+  lines_there r (suc m) [] to before old new few none there = absurd (let k : suc m ≤ 0 = few in omega (arith, k))
+  lines_there r (suc m) (e ∷ es) to before old new few none there =
       let k : suc m ≤ suc (length es) = few in
       let first : List ℕ = text_of (ended_leaves e) in
-      let more : List Ended = take m es ++ x ∷ drop m es in
+      let more : List Ended = take m es ++ to in
       let (here, rest) =
       or_none (within (with_line e es) [] (after_text e es) (f r e.line))
       (within (with_first e) first [] (in_lines f (after_line r e.line) es last)) none in
-      let later : IsThere (in_lines f (after_line r e.line) more last) (ended_text (take m es) ++ d.before) d.old
-      d.new =
-      lines_there (after_line r e.line) m es (omega (arith, k))
-      (within_none (with_first e) first [] (in_lines f (after_line r e.line) es last) rest) found in
-      let spelled : first ++ (ended_text (take m es) ++ d.before) ≡ ended_text (e ∷ take m es) ++ d.before =
-      sym (append_assoc first (ended_text (take m es)) d.before)
-      ∙ ap (λ (t : List ℕ). t ++ d.before)
+      let later : IsThere (in_lines f (after_line r e.line) more last) (ended_text (take m es) ++ before) old new =
+      lines_there (after_line r e.line) m es to before old new (omega (arith, k))
+      (within_none (with_first e) first [] (in_lines f (after_line r e.line) es last) rest) there in
+      let spelled : first ++ (ended_text (take m es) ++ before) ≡ ended_text (e ∷ take m es) ++ before =
+      sym (append_assoc first (ended_text (take m es)) before)
+      ∙ ap (λ (t : List ℕ). t ++ before)
       (sym (text_of-append (ended_leaves e) (flat_map ended_leaves (take m es)))) in
-      subst (λ (t : List ℕ). IsThere (in_lines f r (e ∷ more) last) t d.old d.new) spelled
-      (next_there r e more (ended_text (take m es) ++ d.before) d.old d.new
+      subst (λ (t : List ℕ). IsThere (in_lines f r (e ∷ more) last) t old new) spelled
+      (next_there r e more (ended_text (take m es) ++ before) old new
       (within_none (with_line e es) [] (after_text e es) (f r e.line) here) later)
+
+-- ---- in the line of the path
+
+module _ (path : List Part) (name : Name) (value more : Value) where
+  abbrev written : List ℕ
+  written = text_of (name_leaves name)
+
+  abbrev own_line : Line
+  own_line = plain_line (keyval name value)
+
+  -- what the set makes of the line, after such bytes
+  abbrev made : List ℕ → Changed Line
+  made before =
+      record {
+        to = plain_line (keyval name more);
+        before = before;
+        old = value_text value;
+        new = value_text more;
+        after = [];
+      }
+
+  line_made : (r : Reading) → r.body ++ step 0 (Some name) ≡ path
+      → in_line (replacement more) path r own_line ≡ Some (made written)
+  line_made r is =
+      let own : strip (r.body ++ step 0 (Some name)) path ≡ Some [] =
+      ap (λ (p : List Part). strip p path) is ∙ strip_self path in
+      let content : in_content (replacement more) r.body path (keyval name value)
+      ≡ within (keyval name) written [] (in_value (replacement more) [] value) =
+      rw (own, in_content) refl in
+      ap (within (λ (x : Content). record own_line { content = x }) [] [])
+      (content ∙ ap (within (keyval name) written []) (at_end (replacement more) value))
+      ∙ ap (λ (t : List ℕ). Some (made t)) (append-nil written)
+
+  -- the search finds its whole value
+  pub own_there : (newline : Written) (r : Reading) (es : List Ended) (last : Line)
+      → r.body ++ step 0 (Some name) ≡ path
+      → (let x : Ended = record { line = own_line; newline = newline } in
+      IsThere (in_lines (in_line (replacement more) path) r (x ∷ es) last) written (value_text value)
+      (value_text more))
+  own_there newline r es last is =
+      first_there (in_line (replacement more) path) last (record { line = own_line; newline = newline })
+      (made written) r es (line_made r is)
+
+-- the place of what the search finds in a document
+place_there : (s : Document) (path : List Part) (more : Value) (before old : List ℕ) (at : ℕ)
+    → IsThere (in_lines (in_line (replacement more) path) start s.ended s.last) before old (value_text more)
+    → length (text_of (bom_leaves s.bom)) + length before ≡ at
+    → place s (set path more) ≡ place_of_change (change_at at (length old) (value_text more))
+place_there s path more before old at found begins =
+    let bom : List ℕ = text_of (bom_leaves s.bom) in
+    let there : length (bom ++ found.next.before) ≡ at =
+    omega (arith, length-append bom found.next.before, ap (λ (t : List ℕ). length t) found.left, begins) in
+    ap (λ (o : Option (Changed Page)). place_of (changed_or_same s (in_document s o))) found.is
+    ∙ ap₂ (λ (z : ℕ) (t : List ℕ). record { start = z; end = z + length found.next.old; new = t }) there found.comes
+    ∙ ap (λ (t : List ℕ). record { start = at; end = at + length t; new = value_text more }) found.gone
 
 -- ---- what an insert is not refused for
 
@@ -152,6 +211,10 @@ last_two false false false false true h = absurd cc
 last_two false false false false false h = (refl, refl)
 
 -- ---- the value of an insert of new keys
+
+all_there : {A : Type 0} (P : A → Type 0) (l r : List A) (x : A) → AllOf P (l ++ x ∷ r) → P x
+all_there P [] r x h = h.0
+all_there P (y ∷ l) r x h = all_there P l r x h.1
 
 module _ (profile : Profile) (limit : ℕ) (s : Document) (path : List Part) (value : Value)
     (h : InsertsKeys profile limit s path value) where
@@ -184,28 +247,51 @@ module _ (profile : Profile) (limit : ℕ) (s : Document) (path : List Part) (va
       let own : source ms (insert path value) path ≡ given [] = rw (no_item, strip_self path, source) refl in
       ap value_of (lawful.tree path ∙ ap (fact_from ms (mentions_of_value value)) own) ∙ value_fact-body value.body
 
--- ---- after an insert that adds a line
+  -- ---- before it nothing is found at the path
 
-all_there : {A : Type 0} (P : A → Type 0) (l r : List A) (x : A) → AllOf P (l ++ x ∷ r) → P x
-all_there P [] r x h = h.0
-all_there P (y ∷ l) r x h = all_there P l r x h.1
+  abbrev first : List Part
+  first = first_new s path
+
+  goes_on : strip first path ≡ Some (map key h.more)
+  goes_on =
+      ap (strip first) (path_goes_on s path h.text h.more h.new) ∙ strip-append first (map key h.more)
+
+  abbrev Found : Value → Changed Document → Type 0
+  Found more = IsFoundIn (replacement more) (Valid_document s) 0 path (mentions_in s) (syntax.values s)
+
+  not_found : (more : Value) (o : Changed Document) (k : Found more o) (rest : List Part) → k.more ≡ rest → ⊥
+  not_found more o k (p ∷ ps) e =
+      let none : None ≡ Some k.done = ap (λ (q : List Part). replacement more q k.value) (sym e) ∙ k.by in
+      absurd cc
+  not_found more o k [] e =
+      let own : path ≡ k.mention.path =
+      k.place ∙ ap (λ (q : List Part). k.mention.path ++ q) e ∙ append-nil k.mention.path in
+      let apart : strip first k.mention.path ≡ None =
+      all_there (IsDisjoint first) k.earlier k.later k.mention
+      (subst (AllOf (IsDisjoint first)) k.mentioned none_there) in
+      let both : Some (map key h.more) ≡ None = sym goes_on ∙ ap (strip first) own ∙ apart in
+      absurd cc
+
+  none_by : (more : Value) (o : Option (Changed Document)) → EachOf (Found more) o → o ≡ None
+  none_by more None k = refl
+  none_by more (Some o) k = absurd (not_found more o k k.more refl)
+
+  none_found : (more : Value) → in_lines (in_line (replacement more) path) start s.ended s.last ≡ None
+  none_found more =
+      within_none (with_page s) (text_of (bom_leaves s.bom)) []
+      (in_lines (in_line (replacement more) path) start s.ended s.last)
+      (none_by more (nested (replacement more) path s) (found_nested (replacement more) path s))
+
+-- ---- after an insert of new keys
 
 module _ (profile : Profile) (limit : ℕ) (s : Document) (path : List Part) (value : Value) (c : TextChange)
-    (h : AddsKeyval profile limit s path value c) (fine : IsEditable profile limit s)
+    (h : InsertsKeys profile limit s path value) (fine : IsEditable profile limit s)
     (makes : MakesChange profile limit s (insert path value) c) where
   abbrev ms : List Mention
   ms = mentions_in s
 
   abbrev now : Document
   now = edited_document s (insert path value)
-
-  abbrev first : List Part
-  first = first_new s path
-
-  goes_on : strip first path ≡ Some (map key h.inserts.more)
-  goes_on =
-      ap (strip first) (path_goes_on s path h.inserts.text h.inserts.more h.inserts.new)
-      ∙ strip-append first (map key h.inserts.more)
 
   -- ---- the facts
 
@@ -218,17 +304,17 @@ module _ (profile : Profile) (limit : ℕ) (s : Document) (path : List Part) (va
       let clear : strip path q ≡ None =
       short_disjoint path q (omega (arith, ap length is, length-append q (k ∷ qs))) in
       ap bracket_of (lawful.tree q)
-      ∙ brackets_stay ms path value q (no_item profile limit s path value h.inserts) clear
+      ∙ brackets_stay ms path value q (no_item profile limit s path value h) clear
 
   allowed_after : (more : Value) → refusal profile limit s (insert path more) ≡ None
       → refusal profile limit now (set path more) ≡ None
   allowed_after more allowed =
-      let valued : has_value path (mentions_in now) ≡ true = has_then profile limit s path value h.inserts lawful in
+      let valued : has_value path (mentions_in now) ≡ true = has_then profile limit s path value h lawful in
       let a : List Part = holder path ms in
       let (shallow, suits) =
       last_two (not (is_node path ms) && list_any is_index (drop (length a) path)) (is_node path ms)
       (not (is_table a ms)) (is_too_deep limit path more ms) (not (is_allowed_in profile more))
-      (rw (no_item profile limit s path value h.inserts, refusal_by) at allowed) in
+      (rw (no_item profile limit s path value h, refusal_by) at allowed) in
       let few : enclosing path ms + value_depth more ≤ limit =
       ltb-false limit (enclosing path ms + value_depth more) shallow in
       let same : enclosing path (mentions_in now) ≡ enclosing path ms =
@@ -240,114 +326,49 @@ module _ (profile : Profile) (limit : ℕ) (s : Document) (path : List Part) (va
         suits = not-false (is_allowed_in profile more) suits;
       })
 
-  -- ---- the value
+  -- ---- the value, where it is found in the lines that come before line n
 
-  abbrev Found : Value → Changed Document → Type 0
-  Found more = IsFoundIn (replacement more) (Valid_document s) 0 path ms (syntax.values s)
+  module _ (n : ℕ) (to : List Ended) (few : n ≤ length s.ended)
+      (is : now ≡ record { bom = s.bom; ended = take n s.ended ++ to; last = s.last })
+      (at : c.at ≡ length (text_of (bom_leaves s.bom)) + width (take n s.ended)) (more : Value)
+      (before : List ℕ) where
+    abbrev search : Reading → List Ended → Option (Changed Page)
+    search r es = in_lines (in_line (replacement more) path) r es s.last
 
-  not_found : (more : Value) (o : Changed Document) (k : Found more o) (rest : List Part) → k.more ≡ rest → ⊥
-  not_found more o k (p ∷ ps) e =
-      let none : None ≡ Some k.done = ap (λ (q : List Part). replacement more q k.value) (sym e) ∙ k.by in
-      absurd cc
-  not_found more o k [] e =
-      let own : path ≡ k.mention.path =
-      k.place ∙ ap (λ (q : List Part). k.mention.path ++ q) e ∙ append-nil k.mention.path in
-      let apart : strip first k.mention.path ≡ None =
-      all_there (IsDisjoint first) k.earlier k.later k.mention
-      (subst (AllOf (IsDisjoint first)) k.mentioned (none_there profile limit s path value h.inserts)) in
-      let both : Some (map key h.inserts.more) ≡ None = sym goes_on ∙ ap (strip first) own ∙ apart in
-      absurd cc
+    pub set_there : IsThere (search (reading_after_lines start (map line_of (take n s.ended))) to) before
+        (value_text value) (value_text more)
+        → IsGivenValue Wide more → refusal profile limit s (insert path more) ≡ None
+        → SetsValue profile limit now path more
+        (change_at (c.at + length before) (length (value_text value)) (value_text more))
+    set_there found suits allowed =
+        let first : List ℕ = ended_text (take n s.ended) in
+        let found_all : IsThere (search start (take n s.ended ++ to)) (first ++ before) (value_text value)
+        (value_text more) =
+        lines_there (in_line (replacement more) path) s.last start n s.ended to before (value_text value)
+        (value_text more) few (none_found profile limit s path value h more) found in
+        record {
+          given = suits;
+          allowed = allowed_after more allowed;
+          some = value_has_bytes Wide value (added profile limit s path value c makes).given.valid;
+          is = ap (λ (d : Document). place d (set path more)) is
+              ∙ place_there (record { bom = s.bom; ended = take n s.ended ++ to; last = s.last }) path more
+              (first ++ before) (value_text value) (c.at + length before) found_all
+              (omega (arith, length-append first before, at));
+        }
 
-  none_by : (more : Value) (o : Option (Changed Document)) → EachOf (Found more) o → o ≡ None
-  none_by more None k = refl
-  none_by more (Some o) k = absurd (not_found more o k k.more refl)
-
-  none_found : (more : Value) → nested (replacement more) path s ≡ None
-  none_found more = none_by more (nested (replacement more) path s) (found_nested (replacement more) path s)
-
-  abbrev keys : List (List ℕ)
-  keys = line.keys profile limit s path value c h
-
-  abbrev written : List ℕ
-  written = keys_text keys
-
-  abbrev x : Ended
-  x = line.x profile limit s path value c h
-
-  abbrev r : Reading
-  r = line.r profile limit s path value c h
-
-  -- what the set makes of the line
-  abbrev made : Value → Changed Line
-  made more =
-      record {
-        to = record { before = []; content = keyval (name_with keys) more; after = []; comment = None };
-        before = written ++ [];
-        old = value_text value;
-        new = value_text more;
-        after = [];
-      }
-
-  line_made : (more : Value) → in_line (replacement more) path r x.line ≡ Some (made more)
-  line_made more =
-      let own : strip (r.body ++ step 0 (Some (name_with keys))) path ≡ Some [] =
-      ap (λ (p : List Part). strip p path) (line.own_path profile limit s path value c h) ∙ strip_self path in
-      let content : in_content (replacement more) r.body path (keyval (name_with keys) value)
-      ≡ within (keyval (name_with keys)) written [] (in_value (replacement more) [] value) =
-      rw (own, in_content) refl in
-      ap (within (λ c. record x.line { content = c }) [] [])
-      (content ∙ ap (within (keyval (name_with keys)) written []) (at_end (replacement more) value))
-
-  there : (more : Value)
-      → IsThere (in_lines (in_line (replacement more) path) start (take h.n s.ended ++ x ∷ drop h.n s.ended)
-      s.last) (ended_text (take h.n s.ended) ++ (written ++ [])) (value_text value) (value_text more)
-  there more =
-      lines_there (in_line (replacement more) path) x (made more) s.last start h.n s.ended h.few
-      (within_none (with_page s) (text_of (bom_leaves s.bom)) []
-      (in_lines (in_line (replacement more) path) start s.ended s.last) (none_found more))
-      (line_made more)
-
-  place_after : (more : Value) → place now (set path more) ≡ place_of_change
-      (change_at (c.at + length written) (length (value_text value)) (value_text more))
-  place_after more =
-      let bom : List ℕ = text_of (bom_leaves s.bom) in
-      let earlier : List ℕ = ended_text (take h.n s.ended) in
-      let found = there more in
-      let at : length (bom ++ found.next.before) ≡ c.at + length written =
-      omega (
-        arith,
-        length-append bom found.next.before,
-        ap length found.left,
-        length-append earlier (written ++ []),
-        length-append written [],
-        h.puts.at,
-      ) in
-      ap (λ (d : Document). place d (set path more)) h.puts.is
-      ∙ ap (λ (o : Option (Changed Page)).
-      place_of (changed_or_same (record {
-        bom = s.bom;
-        ended = take h.n s.ended ++ x ∷ drop h.n s.ended;
-        last = s.last;
-      }) (in_document (record {
-        bom = s.bom;
-        ended = take h.n s.ended ++ x ∷ drop h.n s.ended;
-        last = s.last;
-      }) o))) found.is
-      ∙ ap₂ (λ (z : ℕ) (t : List ℕ). record { start = z; end = z + length found.next.old; new = t }) at found.comes
-      ∙ ap (λ (t : List ℕ). record {
-        start = c.at + length written;
-        end = c.at + length written + length t;
-        new = value_text more;
-      }) found.gone
-
-  pub set_after : (more : Value) (d : TextChange) → MakesChange profile limit s (insert path more) d
-      → SetsValue profile limit now path more
-      (change_at (c.at + length written) (length (value_text value)) (value_text more))
-  set_after more d makes_more =
-      let new : IsAdded profile limit s path more d = added profile limit s path more d makes_more in
-      record {
-        given = new.given;
-        allowed = allowed_after more new.allowed;
-        some = value_has_bytes Wide value (added profile limit s path value c makes).given.valid;
-        is = place_after more;
-      }
+-- that adds a line
+pub set_after : (profile : Profile) (limit : ℕ) (s : Document) (path : List Part) (value : Value) (c : TextChange)
+    → (h : AddsKeyval profile limit s path value c) → IsEditable profile limit s
+    → MakesChange profile limit s (insert path value) c
+    → (more : Value) (d : TextChange) → MakesChange profile limit s (insert path more) d
+    → SetsValue profile limit (edited_document s (insert path value)) path more
+    (change_at (c.at + length (keys_text (line.keys profile limit s path value c h))) (length (value_text value))
+    (value_text more))
+set_after profile limit s path value c h fine makes more d makes_more =
+    let keys : List (List ℕ) = line.keys profile limit s path value c h in
+    let new : IsAdded profile limit s path more d = added profile limit s path more d makes_more in
+    set_there profile limit s path value c h.inserts fine makes h.n
+    (line.x profile limit s path value c h ∷ drop h.n s.ended) h.few h.puts.is h.puts.at more (keys_text keys)
+    (own_there path (name_with keys) value more (newline_of s) (line.r profile limit s path value c h)
+    (drop h.n s.ended) s.last (line.own_path profile limit s path value c h))
+    new.given new.allowed
