@@ -7,19 +7,22 @@
 -- Theorems: `follow_order`: the list is in order for the search; `place_found`: where that ends; `left_of_beside`,
 -- `right_of_beside`, `room_beside`: the two leave room exactly if none overlaps; `all_insert`, `insert_change`: the
 -- list with one edit more; `none_written`, `next_change`, `one_written`: what is written before the first edit and with
--- one more; `one_takes`: an edit that replaces the byte before a place; `no_taker`: one that does not; `all_further`,
--- `all_changes`, `change_at_edit`: what holds of each edit; `has_change`: the change of one; `set_in_place`,
--- `set_instead`, `follow_replaced`, `both_same`: one in the place of another.
+-- one more; `takes_it`: an edit that replaces the byte before a place; `others_take_not`, `none_takes`, `one_alone`,
+-- `alone_takes`, `all_if_alone`: only one does; `all_further`, `all_changes`, `all_of_one`, `change_at_edit`: what
+-- holds of each edit; `has_change`: the change of one; `set_in_place`, `set_instead`, `follow_replaced`, `both_same`:
+-- one in the place of another.
 use Rattle.std.proofs.Common.{◌≡◌, ℕ, zero, suc, ◌+◌, ◌-◌, ◌<◌, ◌≤◌, true, false, List, [], ◌∷◌, ◌++◌, length}
 use Rattle.std.proofs.Common.{get_or, take, drop, insert, set, map, slice_range, string_bytes, All, leb}
 use Rattle.std.proofs.Common.{IsUtf8, IsCharBoundary, refl, sym, ap, ◌∙◌, subst, append_assoc, drop-cons, add-one}
 use Rattle.std.proofs.Common.{Bool, Some, not, slice_get}
-use Rattle.std.specs.Prelude.{◌&&◌}
-use Rattle.std.proofs.Common.{◌==◌, ◌≢◌, nat_lt, arith, leb-true, leb-false, lt-ltb, le-ltb, ◌⊎◌, inl, inr}
+use Rattle.std.specs.Prelude.{◌&&◌, ◌||◌}
+use Rattle.std.proofs.Common.{◌==◌, ◌≢◌, nat_lt, arith, leb-true, leb-false, lt-ltb, le-ltb, ltb, ◌⊎◌, inl, inr}
 use Rattle.std.proofs.lemmas.List.{drop-take, get_or-map, length-map, take_more}
-use Rattle.std.proofs.lemmas.List.Elements.{All-append, All-cons, All-drop, All-map, All-nil, All-take}
+use Rattle.std.proofs.lemmas.List.Elements.{All-append, All-cons, All-drop, All-head, All-map, All-nil, All-tail}
+use Rattle.std.proofs.lemmas.List.Elements.{All-take, All-weaker}
+use Rattle.std.proofs.lemmas.List.Folds.{list_any-append}
 use Rattle.std.specs.List.{list_any}
-use Rattle.std.proofs.lemmas.Bool.{and_right, cases_lt, eq-eqb, ne_eqb, or_right}
+use Rattle.std.proofs.lemmas.Bool.{and_right, cases_lt, eq-eqb, ltb-false, ltb-true, ne_eqb, or_right}
 use Rattle.std.proofs.lemmas.List.Sorted.{IsNonDecreasingBy-from_all_adjacent}
 use Rattle.std.proofs.lemmas.Str.{IsCharBoundary-start}
 use Rattle.std.proofs.Math.Seq.{take-length}
@@ -27,7 +30,8 @@ use Rattle.std.specs.List.Sorted.{IsNonDecreasingBy, IsPartitionPoint}
 use Rattle.keep_edit_spec.specs.Runs.{takes_up_to}
 use Rattle.keep_edit_spec.specs.TextChanges.{Follow, IsBeside, TextChange, text_with, with_change}
 use Rattle.keep_edit_plan.specs.declared.text_edit.TextEdit.{TextEdit}
-use Rattle.keep_edit_plan.specs.TextEdits.{HasChange, HasInstead, IsChangeIn, IsOrdered, IsReplaced, change_of}
+use Rattle.keep_edit_plan.specs.TextEdits.{HasChange, HasInstead, IsChangeIn, IsOrdered, IsReplaced, TakesAlone}
+use Rattle.keep_edit_plan.specs.TextEdits.{change_of}
 
 -- ---- the order
 
@@ -228,25 +232,14 @@ module _ (bytes : List ℕ) (all : List TextEdit) (out : List ℕ) (from i : ℕ
 
 -- ---- an edit that replaces the byte before a place
 
-takes_it : (place : ℕ) (t : TextEdit) → t.place.start < t.place.end → t.place.end ≡ place
+pub takes_it : (place : ℕ) (t : TextEdit) → t.place.start < t.place.end → t.place.end ≡ place
     → takes_up_to place (change_of t) ≡ true
 takes_it place t some end =
     let size : 0 < t.place.end - t.place.start = omega (arith, some) in
     let ends : t.place.start + (t.place.end - t.place.start) ≡ place = omega (arith, some, end) in
     rw (lt-ltb 0 (t.place.end - t.place.start) size) (eq-eqb (t.place.start + (t.place.end - t.place.start)) place ends)
 
-pub one_takes : (place : ℕ) (ts : List TextEdit) (n : ℕ) (t : TextEdit) → n < length ts → t ≡ get_or ts n t
-    → t.place.start < t.place.end → t.place.end ≡ place → list_any (takes_up_to place) (map change_of ts) ≡ true
-one_takes place [] n t lt is some end = absurd (omega (arith, lt))
-one_takes place (x ∷ ts) zero t lt is some end =
-    let here : takes_up_to place (change_of x) ≡ true =
-    subst (λ (y : TextEdit). takes_up_to place (change_of y) ≡ true) is (takes_it place t some end) in
-    rw here refl
-one_takes place (x ∷ ts) (suc n) t lt is some end =
-    let rest = one_takes place ts n t (omega (arith, lt)) is some end in
-    or_right (takes_up_to place (change_of x)) (list_any (takes_up_to place) (map change_of ts)) rest
-
-pub no_taker : (place : ℕ) (t : TextEdit) → IsOrdered t → (t.place.start < t.place.end → t.place.end ≢ place)
+no_taker : (place : ℕ) (t : TextEdit) → IsOrdered t → (t.place.start < t.place.end → t.place.end ≢ place)
     → takes_up_to place (change_of t) ≡ false
 no_taker place t ordered other = elim (cases_lt t.place.start t.place.end) [
   | inl less ↦
@@ -257,6 +250,95 @@ no_taker place t ordered other = elim (cases_lt t.place.start t.place.end) [
       let size : t.place.end - t.place.start ≡ 0 = omega (arith, none) in
       rw size refl
 ]
+
+-- Only the last that begins before the place can be such an edit: each earlier one ends where that begins, or before,
+-- and the others begin at the place, or after it.
+module _ (place : ℕ) (ts : List TextEdit) (after : ℕ) (follow : Follow 0 (map change_of ts))
+    (ordered : All IsOrdered ts) (within : after ≤ length ts)
+    (point : IsPartitionPoint (λ (t : TextEdit). ltb (start_of t) place ≡ true)
+    (λ (t : TextEdit). ltb (start_of t) place ≡ false) ts after) where
+  taker_is_last : (k : ℕ) (d : TextEdit) → k < length ts → start_of (get_or ts k d) < (get_or ts k d).place.end
+      → (get_or ts k d).place.end ≡ place → k + 1 ≡ after
+  taker_is_last k d w some end = by (cases_lt (k + 1) after) (cases_lt k after)
+    where
+      by : (k + 1 < after) ⊎ (after ≤ k + 1) → (k < after) ⊎ (after ≤ k) → k + 1 ≡ after
+      by (inl more) _ =
+          let last : k + 1 < length ts = omega (arith, more, within) in
+          absurd (omega (
+            arith,
+            follow_apart 0 ts k (k + 1) d follow (omega arith) last,
+            ltb-true (start_of (get_or ts (k + 1) d)) place (point.0 (k + 1) d (omega arith) more),
+            some,
+            end,
+          ))
+      by (inr _) (inr past) =
+          absurd (omega (arith, ltb-false (start_of (get_or ts k d)) place (point.1 k d past w), some, end))
+      by (inr low) (inl high) = omega (arith, low, high)
+
+  -- No other takes that byte, nor does that one, if it ends elsewhere.
+  pub others_take_not : (k : ℕ) (d : TextEdit) → k < length ts → (k + 1 ≡ after → (get_or ts k d).place.end ≢ place)
+      → takes_up_to place (change_of (get_or ts k d)) ≡ false
+  others_take_not k d w other =
+      no_taker place (get_or ts k d) (ordered k d w)
+      (λ some. λ end. other (taker_is_last k d w some end) end)
+
+  pub none_takes : ((k : ℕ) (d : TextEdit) → k < length ts → k + 1 ≡ after → (get_or ts k d).place.end ≢ place)
+      → All (λ c. takes_up_to place c ≡ false) (map change_of ts)
+  none_takes other =
+      All-map (λ c. takes_up_to place c ≡ false) change_of ts (λ k d w. others_take_not k d w (other k d w))
+
+-- one that takes that byte where no other does
+pub one_alone : (place : ℕ) (ts : List TextEdit) (i : ℕ) (d : TextEdit) → i < length ts
+    → takes_up_to place (change_of (get_or ts i d)) ≡ true
+    → ((k : ℕ) (e : TextEdit) → k < length ts → k ≢ i → takes_up_to place (change_of (get_or ts k e)) ≡ false)
+    → TakesAlone place (map change_of ts) (change_of (get_or ts i d))
+one_alone place [] i d less takes others = absurd (omega (arith, less))
+one_alone place (t ∷ ts) zero d less takes others = record {
+  before = [];
+  after = map change_of ts;
+  is = refl;
+  takes = takes;
+  earlier = All-nil (λ c. takes_up_to place c ≡ false);
+  later = All-map (λ c. takes_up_to place c ≡ false) change_of ts
+      (λ k e w. others (suc k) e (omega (arith, w)) (λ same. omega (arith, same)));
+}
+one_alone place (t ∷ ts) (suc i) d less takes others =
+    let r = one_alone place ts i d (omega (arith, less)) takes
+    (λ k e w other. others (suc k) e (omega (arith, w)) (λ same. other (omega (arith, same)))) in
+    let first : takes_up_to place (change_of t) ≡ false =
+    others zero t (omega (arith, less)) (λ same. omega (arith, same)) in
+    record {
+      before = change_of t ∷ r.before;
+      after = r.after;
+      is = ap (λ (cs : List TextChange). change_of t ∷ cs) r.is;
+      takes = r.takes;
+      earlier = All-cons (λ c. takes_up_to place c ≡ false) (change_of t) r.before first r.earlier;
+      later = r.later;
+    }
+
+module _ (place : ℕ) (changes : List TextChange) (c : TextChange) (alone : TakesAlone place changes c) where
+  pub alone_takes : list_any (takes_up_to place) changes ≡ true
+  alone_takes =
+      let here : (takes_up_to place c || list_any (takes_up_to place) alone.after) ≡ true = rw alone.takes refl in
+      ap (list_any (takes_up_to place)) alone.is
+      ∙ list_any-append (takes_up_to place) alone.before (c ∷ alone.after)
+      ∙ or_right (list_any (takes_up_to place) alone.before) (list_any (takes_up_to place) (c ∷ alone.after)) here
+
+  -- What holds of each change that doesn't take the byte, and of the one that does, holds of all.
+  pub all_if_alone : (P : TextChange → Type 0) → ((d : TextChange) → takes_up_to place d ≡ false → P d) → P c
+      → All P changes
+  all_if_alone P others one =
+      subst (All P) (sym alone.is)
+      (All-append P alone.before (c ∷ alone.after)
+      (All-weaker (λ d. takes_up_to place d ≡ false) P others alone.before alone.earlier)
+      (All-cons P c alone.after one
+      (All-weaker (λ d. takes_up_to place d ≡ false) P others alone.after alone.later)))
+
+-- what holds of all changes holds of one of them
+pub all_of_one : (P : TextChange → Type 0) (before : List TextChange) (c : TextChange) (after : List TextChange)
+    → All P (before ++ c ∷ after) → P c
+all_of_one P [] c after all = All-head P c after all
+all_of_one P (b ∷ before) c after all = all_of_one P before c after (All-tail P b (before ++ c ∷ after) all)
 
 -- ---- edits in a row
 

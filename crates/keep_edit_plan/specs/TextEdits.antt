@@ -1,5 +1,6 @@
 -- Edits of one text, and what changes of the text they are.
-use Rattle.std.specs.Prelude.{◌≡◌, ◌+◌, ◌-◌, ◌≤◌, ◌++◌, ◌∷◌, [], ℕ, List, None, IsCharBoundary, string_bytes}
+use Rattle.std.specs.Prelude.{◌≡◌, ◌+◌, ◌-◌, ◌≤◌, ◌++◌, ◌∷◌, [], ℕ, All, List, None, IsCharBoundary, false, true}
+use Rattle.std.specs.Prelude.{string_bytes}
 use Rattle.keep_syntax.specs.Tree.{Document, Value, text}
 use Rattle.keep_path.specs.Path.{Part}
 use Rattle.keep_meaning.specs.Meaning.{mentions_in}
@@ -8,7 +9,7 @@ use Rattle.keep_edit_spec.specs.Edits as law
 use Rattle.keep_edit_spec.specs.Edits.{edited_document, place}
 use Rattle.keep_edit_spec.specs.EntryEdits.{CanHold, MakesSet}
 use Rattle.keep_edit_spec.specs.Refusals.{refusal}
-use Rattle.keep_edit_spec.specs.Runs.{MakesChange}
+use Rattle.keep_edit_spec.specs.Runs.{MakesChange, takes_up_to}
 use Rattle.keep_edit_spec.specs.SetValues.{SetsValue}
 use Rattle.keep_edit_spec.specs.TextChanges.{TextChange, change_at}
 use Rattle.keep_edit_plan.specs.Answers.{IsMadeAt, IsSpanOf}
@@ -34,6 +35,15 @@ pub record HasChange (changes : List TextChange) (c : TextChange) : Type 0 where
   pub before : List TextChange
   pub after : List TextChange
   pub is : changes ≡ before ++ c ∷ after
+
+-- one of the changes, which takes the byte before this one, and no other does
+pub record TakesAlone (at : ℕ) (changes : List TextChange) (c : TextChange) : Type 0 where
+  pub before : List TextChange
+  pub after : List TextChange
+  pub is : changes ≡ before ++ c ∷ after
+  pub takes : takes_up_to at c ≡ true
+  pub earlier : All (λ d. takes_up_to at d ≡ false) before
+  pub later : All (λ d. takes_up_to at d ≡ false) after
 
 -- the change comes in the place of one that takes the same bytes
 pub record IsReplaced (old : List TextChange) (d : TextChange) (new : List TextChange) : Type 0 where

@@ -1,12 +1,13 @@
 //! Edits of one text.
-ghost use Rattle.std.specs.Prelude.{◌≡◌, ◌<◌, ◌≤◌, [], All, IfOk, IfSome, IsTrue, OnErr, Some, false, if◌then◌else◌};
-ghost use Rattle.std.specs.Prelude.{length, map, slice_get, string_bytes};
+ghost use Rattle.std.specs.Prelude.{◌≡◌, ◌<◌, ◌≤◌, [], All, IfOk, IfSome, IsTrue, None, OnErr, Some, false};
+ghost use Rattle.std.specs.Prelude.{if◌then◌else◌, length, map, slice_get, string_bytes};
 ghost use Rattle.std.specs.Bool.{Decides};
 ghost use Rattle.std.specs.List.{list_any};
 ghost use Rattle.keep_edit_spec.specs.Runs.{LeavesPlace, LetsCome, takes_up_to};
 ghost use Rattle.keep_edit_spec.specs.TextChanges.{IsBeside, text_with, with_change};
 ghost use Rattle.keep_edit_plan.specs.SaidSpans.{Leaves};
-ghost use Rattle.keep_edit_plan.specs.TextEdits.{HasChange, HasInstead, IsChangeIn, IsOrdered, IsReplaced, change_of};
+ghost use Rattle.keep_edit_plan.specs.TextEdits.{HasChange, HasInstead, IsChangeIn, IsOrdered, IsReplaced, TakesAlone};
+ghost use Rattle.keep_edit_plan.specs.TextEdits.{change_of};
 
 use crate::said::said_line;
 use crate::text_edit::TextEdit;
@@ -148,12 +149,7 @@ impl TextEdits {
     pub fn take_up_to(&self, place: usize) -> bool
         ensures { result ≡ list_any (takes_up_to place) self.now }
     {
-        for edit in self.edits.iter() {
-            if edit.place.start < edit.place.end && edit.place.end == place {
-                return true;
-            }
-        }
-        false
+        self.taking_up_to(place).is_some()
     }
 
     /// Whether a new line can come at this place: no edit takes the byte before it, but for one that takes a line in
@@ -162,15 +158,23 @@ impl TextEdits {
         requires { All (IsChangeIn text.now) self.now }
         ensures { IsTrue result → All (LetsCome text.now self.now place) self.now }
     {
-        for edit in self.edits.iter() {
-            if edit.place.start < edit.place.end
-                && edit.place.end == place
-                && !self.frees_place(text, edit)
-            {
-                return false;
-            }
+        match self.taking_up_to(place) {
+            Some(edit) => self.frees_place(text, edit),
+            None => true,
         }
-        true
+    }
+
+    /// The edit that replaces the byte before this place. Only the last that begins before the place can: each earlier
+    /// one ends where that begins, or before.
+    fn taking_up_to(&self, place: usize) -> Option<&TextEdit>
+        ensures one { IfSome result (λ edit. TakesAlone place self.now (change_of edit.now)) }
+        ensures other { result ≡ None → All (λ c. takes_up_to place c ≡ false) self.now }
+    {
+        let after = self.edits.partition_point(|edit| edit.place.start < place);
+        if after == 0 || self.edits[after - 1].place.end != place {
+            return None;
+        }
+        Some(&self.edits[after - 1])
     }
 
     /// Whether an edit writes nothing, and the line before its place says something and stays as it is, and nothing
