@@ -64,6 +64,13 @@ class Run:
             key += b"." + b".".join(random.choice(KEYS) for _ in range(random.choice((1, 1, 2, 3))))
         return table + b"." + key if table else key
 
+    def insert_or_set(self, given, later, table, number, several):
+        """With a chance of `later` the set of a path that was given; else the insert of a new key of a table, which is given then."""
+        if given and self.random.random() < later:
+            return edit_of(b"set", self.random.choice(given), value_of(self.random))
+        given.append(self.new_path(table, number, several))
+        return edit_of(b"insert", given[-1], value_of(self.random))
+
     def inserts(self):
         """New keys, nearly all of tables with a header; now and then a key that was given before, or of anything else. In a third
         of the lists many of them are set later; in half of them some inserts give several keys, and now and then two the same
@@ -74,12 +81,9 @@ class Run:
         for number in range(self.many):
             if edits and random.random() < 0.003:
                 edits.append(random.choice(edits))
-            elif given and random.random() < later:
-                edits.append(edit_of(b"set", random.choice(given), value_of(random)))
-            else:
-                table = random.choice(tables if random.random() < 0.995 else [b"", *(path for path, _ in self.entries)])
-                given.append(self.new_path(table, number, several))
-                edits.append(edit_of(b"insert", given[-1], value_of(random)))
+                continue
+            table = random.choice(tables if random.random() < 0.995 else [b"", *(path for path, _ in self.entries)])
+            edits.append(self.insert_or_set(given, later, table, number, several))
         return edits
 
     def with_dotted(self):
@@ -121,13 +125,9 @@ class Run:
         tables += random.choice(([], [], [b"", b"dot", b"dots[0]"]))
         for number in range(self.many):
             table = random.choice(tables if random.random() < 0.998 else [b"", *(path for path, _ in self.entries)])
-            if given and random.random() < later:
-                edits.append(edit_of(b"set", random.choice(given), value_of(random)))
-                continue
             if given and random.random() < 0.02:
                 table = random.choice(given).rpartition(b".")[0]
-            given.append(self.new_path(table, number, several))
-            edits.append(edit_of(b"insert", given[-1], value_of(random)))
+            edits.append(self.insert_or_set(given, later, table, number, several))
         return edits
 
     def with_implicit(self):
@@ -165,11 +165,7 @@ class Run:
         for number in range(self.many):
             table = paths[number % len(paths)] if random.random() < 0.995 else random.choice(paths)
             table = table if random.random() < 0.995 else random.choice([b"", *(path for path, _ in self.entries)])
-            if given and random.random() < later:
-                edits.append(edit_of(b"set", random.choice(given), value_of(random)))
-                continue
-            given.append(self.new_path(table, number, several))
-            edits.append(edit_of(b"insert", given[-1], value_of(random)))
+            edits.append(self.insert_or_set(given, later, table, number, several))
         return edits
 
     def items(self):

@@ -3,11 +3,12 @@
 //! The changes of such edits keep the order of the list. So of lines that come at one byte the later one has to come
 //! after the earlier: one that ends a body does so, but behind no header; one of a table that dotted keys make only
 //! after lines of that table; and one header comes behind all other lines, as the last there.
-ghost use Rattle.std.specs.Prelude.{◌≡◌, IsTrue, Some};
+ghost use Rattle.std.specs.Prelude.{◌≡◌, IsTrue, Some, false};
 ghost use Rattle.std.specs.Bool.{Decides};
 ghost use Rattle.keep_edit_plan.specs.TextEdits.{change_of};
-ghost use Rattle.keep_edit.specs.AddedLines.{IsEndKept, IsHeaderKept, IsTableKept, lines_at};
+ghost use Rattle.keep_edit.specs.AddedLines.{IsEndKept, IsHeaderKept, IsKnownAt, IsTableKept, lines_at};
 ghost use Rattle.keep_edit.specs.Runs.{IsLineKept};
+ghost use Rattle.keep_edit_spec.specs.InsertKinds.{Added};
 ghost use Rattle.keep_edit.specs.declared.added_lines.LinesAt.TheVariants.{UpToHeader};
 
 use crate::alike::is_same;
@@ -40,7 +41,9 @@ pub struct AddedLines<'a> {
 
 impl<'a> AddedLines<'a> {
     /// No lines yet. It takes no memory.
-    pub fn new(alloc: Global) -> AddedLines<'a> {
+    pub fn new(alloc: Global) -> AddedLines<'a>
+        ensures { (result.has_header ≡ false) × ((line : Added) → ¬ IsKnownAt result line) }
+    {
         AddedLines {
             lines: HashMap::new(alloc),
             tables: HashSet::new(alloc),
@@ -57,10 +60,10 @@ impl<'a> AddedLines<'a> {
         so_far: &AtOnce,
         outline: &Outline<'a>,
         edit: &RunEdit,
-        is_appended: bool,
+        has_appended: bool,
     ) -> bool
         ensures { IsTrue result → IsLineKept self.old so_far.now.changes outline.now (change_of edit.now.change).at
-            edit.now.line is_appended self.new }
+            edit.now.line has_appended self.new }
     {
         let at = edit.change.place.start;
         match (outline, edit.line) {
@@ -69,7 +72,7 @@ impl<'a> AddedLines<'a> {
                 !so_far.changes.take_up_to(at) && self.keep_table(at, first.parent())
             }
             (Outline::Insert(first), Some(LineKind::WithHeader)) => {
-                !is_appended
+                !has_appended
                     && !so_far.changes.take_up_to(at)
                     && self.keep_header(at, first.parent())
             }
@@ -110,6 +113,7 @@ impl<'a> AddedLines<'a> {
         self.has_header = true;
         self.lines.insert(at, LinesAt::UpToHeader).is_ok() && self.tables.insert(number).is_ok()
     }
+
     /// Whether a line with a header comes at a byte.
     fn has_header_at(&self, at: usize) -> bool
         ensures { Decides result (lines_at self.now at ≡ Some UpToHeader) }

@@ -35,7 +35,7 @@ use memchr::memchr;
 use std::alloc::Global;
 
 /// No more edits than these are made at once.
-pub const MOST_AT_ONCE: usize = 1000;
+const MOST_AT_ONCE: usize = 1000;
 /// So many pairs of edits are compared in a run, and one more for each byte of the text: to compare more takes longer
 /// than to read the text anew.
 const PAIRS: usize = 5000;
@@ -454,10 +454,7 @@ impl Document {
         let Some(Edit::Remove(path)) = edit else {
             return false;
         };
-        match self.index.find(path) {
-            Some(id) => matches!(self.index.node(id).origin, Origin::Element(_)),
-            None => false,
-        }
+        matches!(self.origin_of(path), Some(Origin::Element(_)))
     }
 
     /// Whether the next edit may have a long value read anew, if this one is made in a run: it removes an entry of the

@@ -73,21 +73,21 @@ impl Document {
 
     /// Whether a header defines the table at a path, or begins the element there.
     fn has_header(&self, path: &Path) -> bool {
-        match self.index.find(path) {
-            Some(id) => matches!(
-                self.index.node(id).origin,
-                Origin::Header(_) | Origin::Element(_)
-            ),
-            None => false,
-        }
+        matches!(
+            self.origin_of(path),
+            Some(Origin::Header(_) | Origin::Element(_))
+        )
+    }
+
+    /// What makes the node at a path; None if there is none.
+    pub(crate) fn origin_of(&self, path: &Path) -> Option<Origin> {
+        let id = self.index.find(path)?;
+        Some(self.index.node(id).origin)
     }
 
     /// Whether the value at a path has a line of its own, with several keys.
     fn has_several_keys(&self, path: &Path) -> bool {
-        let Some(id) = self.index.find(path) else {
-            return false;
-        };
-        let Origin::Value(number) = self.index.node(id).origin else {
+        let Some(Origin::Value(number)) = self.origin_of(path) else {
             return false;
         };
         number < self.syntax.value_count() && self.syntax.value(number).keys > 1

@@ -34,6 +34,7 @@ pub(crate) struct BodyEnd {
 /// A line that an insert adds.
 #[derive(Drop)]
 pub struct AddedLine {
+    /// Where it comes, and its text, with the header if it brings one.
     pub text_edit: TextEdit,
     pub kind: LineKind,
 }

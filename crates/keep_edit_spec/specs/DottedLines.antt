@@ -37,8 +37,6 @@ pub record AddsDotted (profile : Profile) (limit : ℕ) (s : Document) (path : L
   pub is : place s (insert path value) ≡ put_in c.at c.new
 
 -- no header defines the holder of the path: where an insert adds a line, dotted keys make the table
-abbrev pub into_dotted : Document → List Part → Bool
-into_dotted s path = elim (end_of s (holder path (mentions_in s))) [ Some n ↦ false | None ↦ true ]
 
 -- an insert that adds a line: to a table that dotted keys make, or at the end of a body
 abbrev pub AddsLineTo : Bool → Profile → ℕ → Document → List Part → Value → TextChange → Type 0

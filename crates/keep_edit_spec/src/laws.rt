@@ -4,6 +4,7 @@ ghost use Rattle.keep_edit_spec.specs.AddedLines as added;
 ghost use Rattle.keep_edit_spec.specs.AppendedHeaders as appended;
 ghost use Rattle.keep_edit_spec.specs.AppendedStatements as headers;
 ghost use Rattle.keep_edit_spec.specs.BroughtHeaders as brought;
+ghost use Rattle.keep_edit_spec.specs.DottedLines as dotted;
 ghost use Rattle.keep_edit_spec.specs.EntryChanges as parts;
 ghost use Rattle.keep_edit_spec.specs.EntryEdits as entries;
 ghost use Rattle.keep_edit_spec.specs.InsertLists as inserts;
@@ -102,11 +103,13 @@ pub fn append_adds_statement()
     ensures element { headers.AppendElementAddsStatement }
 {}
 
-/// An `insert` that adds a line to a document adds the same one after another, of another path, added its line. One
-/// that brings the header of its table, which is there because headers go through it, brings the same after another
-/// such insert, of another table and to another place, brought its own.
+/// An `insert` that adds a line to a document adds the same one after another, of another path, added its line. So it
+/// is if either line is of a table that dotted keys make, and the later one comes after the earlier where both come to
+/// one place. One that brings the header of its table, which is there because headers go through it, brings the same
+/// after another such insert, of another table and to another place, brought its own.
 pub fn inserts_add_lines()
     ensures line { added.StillAddsLine }
+    ensures any { dotted.StillAddsLineTo }
     ensures header { brought.StillBringsHeader }
 {}
 
