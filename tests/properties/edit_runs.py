@@ -7,8 +7,8 @@ Edits that come in a row are made at once, from some 20 of them on, or from thre
 to 1,000, by the document before all of them. So each list (of 80 edits, one in twenty of 1,100; RUNS of them, 100 if not given)
 is given to the program as one script, and then each edit as a script of its own, on what the one before gave: so it is made by
 itself. Texts, faults and the number of the refused edit have to be the same.
-Most lists are of edits of one kind, a fifth of them of edits of all kinds in turn, among them removes of tables and inserts into
-tables that dotted keys make. A fifth of the lines that are changed have a comment. Values are set and keys renamed again, values
+Most lists are of edits of one kind, a fifth of them of edits of all kinds in turn, among them removes of tables and of elements, and
+inserts into tables that dotted keys make. A fifth of the lines that are changed have a comment. Values are set and keys renamed again, values
 are set that were inserted, and edits of entries come back to a value, which goes on in the row. Among the edits are some that end
 it: one that is refused, any other of a path that was there before, one that is in another's, one that adds a line at the place of
 a line of another table.
@@ -289,6 +289,18 @@ class Run:
         self.text = text
         return arrays
 
+    def of_element(self, arrays, number):
+        """The remove of an element of one of these arrays, mostly of one that has nothing below it, by the number that it has then; now
+        and then a new key of one."""
+        random = self.random
+        name = random.choice([it for it in arrays if arrays[it]])
+        free = [it for it, below in enumerate(arrays[name]) if not any(below)]
+        at = random.choice(free if free and random.random() < 0.99 else range(len(arrays[name])))
+        if not free or random.random() < 0.05:
+            return edit_of(b"insert", b"%s[%d].more_%d" % (name, at, number), value_of(random))
+        arrays[name].pop(at)
+        return edit_of(b"remove", b"%s[%d]" % (name, at))
+
     def gone_below(self):
         """Elements of several arrays of tables in turn, each by the number that it has then, and what is below other elements of
         them: tables, and now and then elements of an array in one; rarely an element with more below it, or one that is not
@@ -416,7 +428,8 @@ class Run:
         """Edits of all kinds in turn, nearly all of paths apart; now and then some newlines have a carriage return. In half of the
         lists tables go with their headers between the others, and some of the inserts are into tables that go later. In half of them
         there are tables that dotted keys make: new keys come into them, and keys of theirs are changed and go. In half of them there
-        are tables into which headers go: new keys of them bring their headers, and some of the tables below them go."""
+        are tables into which headers go: new keys of them bring their headers, and some of the tables below them go. In half of them
+        elements of arrays of tables go between the others, and now and then a key comes into an element."""
         random, paths = self.random, self.with_lines() + self.some_of()
         bare = self.with_implicit() if random.random() < 0.5 else []
         random.shuffle(bare)
@@ -424,6 +437,7 @@ class Run:
         nests = [path for nest in (self.with_dotted() if random.random() < 0.5 else []) for path in nest]
         paths += [path + b".k" for path in random.sample(nests, len(nests) // 2)]
         holders = self.with_holders() if random.random() < 0.5 else []
+        arrays = self.with_arrays() if random.random() < 0.5 else {}
         left = self.with_tables() if random.random() < 0.5 else []
         left += below if random.random() < 0.5 else []
         random.shuffle(paths)
@@ -439,6 +453,8 @@ class Run:
                 edits.append(self.part(*holders.pop())[0])
             elif left and random.random() < 0.3:
                 edits.append(edit_of(b"remove", left.pop(random.randrange(len(left)))))
+            elif any(arrays.values()) and random.random() < 0.3:
+                edits.append(self.of_element(arrays, number))
             elif nests and kind == b"insert" and random.random() < 0.6:
                 are_set.append(self.new_path(random.choice(nests), number, 0.2))
                 edits.append(edit_of(kind, are_set[-1], value_of(random)))

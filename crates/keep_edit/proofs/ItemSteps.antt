@@ -24,13 +24,12 @@ use Rattle.keep_path.specs.Path.{Part, index, last_part, without_last}
 use Rattle.keep_path.proofs.Shared.{last_pushed}
 use Rattle.keep_edit_spec.specs.AddedItems.{AddsNextItem, CanBeItem, HasItems, IsItemRun, IsItemRunLonger, item_path}
 use Rattle.keep_edit_spec.specs.AddedItems.{separator}
-use Rattle.keep_edit_spec.specs.TextChanges.{TextChange, change_at, text_with, with_change}
+use Rattle.keep_edit_spec.specs.TextChanges.{TextChange, change_at, with_change}
 use Rattle.keep_edit_spec.proofs.Shared.{all_with, item_run_goes_on, keys_same, length_with, none_is_item_run}
-use Rattle.keep_edit_spec.specs.Changed.{Place, put}
+use Rattle.keep_edit_spec.specs.Changed.{Place}
 use Rattle.keep_edit_spec.specs.Edits as law
-use Rattle.keep_edit_spec.specs.Edits.{insert, place}
+use Rattle.keep_edit_spec.specs.Edits.{edited_document}
 use Rattle.keep_edit_spec.specs.Laws.{IsLawfulEdit}
-use Rattle.keep_edit_spec.proofs.Shared.{change_put}
 use Rattle.keep_edit_spec.proofs.Shared.{insert_lawful, without_last-snoc}
 use Rattle.keep_edit_plan.proofs.Shared.{change_in, editable}
 use Rattle.keep_edit_plan.specs.Answers.{IsSpanOf}
@@ -41,8 +40,7 @@ use Rattle.keep_edit_plan.specs.declared.edit.Edit.TheVariants as edit
 use Rattle.keep_edit.specs.Lists.{IsEdit, AreMade}
 use Rattle.keep_edit.specs.Reading.{limit, IsAcceptedValue, IsTextOfTree, IsTextOfValue, ProfiledText}
 use Rattle.keep_edit.specs.Runs.{AddsItemHere, IsItemRunTo, MakeChanges, changed_text}
-use Rattle.keep_edit.proofs.MadeMore.{more_made, tree_after}
-use Rattle.keep_edit.proofs.RunSteps.{text_utf8}
+use Rattle.keep_edit.proofs.RunSteps.{change_made, tree_made}
 
 -- ---- one array, and one place
 
@@ -80,30 +78,22 @@ module _ (s : Document) (edits : List Edit) (first n : ℕ) (old now : ProfiledT
       insert_lawful now.profile limit t (item_path array (count + length texts)) v h.run.editable can.given
       (subst (AllByRecursion IsUtf8) (sym (keys_same array (count + length texts))) h.run.items.utf8) longer.allowed
 
-  abbrev next : List ℕ
-  next = text_with 0 now.text (with_change texts added)
-
-  next_utf8 : IsUtf8 next
-  next_utf8 = text_utf8 now.text (with_change texts added) read.utf8 longer.run.follow utf8 within
-
-  next_is : next ≡ put (text_with 0 now.text texts) (place t e)
-  next_is =
-      ap (λ (b : List ℕ). text_with 0 b (with_change texts added)) read.reads.spelled
-      ∙ sym longer.run.text ∙ change_put t e
-      ∙ ap (λ (b : List ℕ). put b (place t e))
-      (h.run.text ∙ ap (λ (b : List ℕ). text_with 0 b texts) (sym read.reads.spelled))
-
   made : AreMade s (take (suc n) edits) old (changed_text now (with_change texts added))
   made =
-      more_made (changed_text now texts) t e h.made.read lawful next next_utf8 next_is s edits n old d x lt here given
-      h.made refl longer.allowed
+      change_made s edits n old now before texts read h.made d x lt here e given added h.run.text longer.run.text
+      longer.run.follow longer.allowed lawful utf8 within
+
+  same_tree : edited_document t e ≡ made.tree
+  unfolding made
+  same_tree =
+      tree_made s edits n old now before texts read h.made d x lt here e given added h.run.text longer.run.text
+      longer.run.follow longer.allowed lawful utf8 within
 
   pub item_added : IsItemRunTo s edits first (suc n) old now before array count at (with_change texts added)
   item_added = record {
     made = made;
     run = subst (IsItemRun now.profile limit before array count at (with_change texts added))
-        (tree_after (changed_text now texts) t e h.made.read lawful next next_utf8 next_is made.tree made.read)
-        longer.run;
+        same_tree longer.run;
   }
 
 -- ---- as the code goes

@@ -1,5 +1,5 @@
 -- Where an edit that is made at once with others writes a line or a header: either they are all of its kind, or each
--- newline is alike and its place is kept.
+-- newline is alike and its place is kept, also where elements are removed between them.
 --
 -- Paths are added only for edits of the kind of the first one (`of_kind`).
 --
@@ -17,6 +17,7 @@ use Rattle.keep_edit.specs.declared.outline.Outline.TheVariants.{Element, Insert
 use Rattle.keep_edit.specs.Runs.{IsPlaceKept, outlined, writes_anew}
 use Rattle.keep_edit.specs.Seen.{HasPathsOf, IsSeen}
 use Rattle.keep_edit.specs.declared.seen.SeenKeys.{SeenKeys}
+use Rattle.keep_edit.proofs.ElementSteps.{IsPlacedAmong}
 use Rattle.keep_edit.proofs.RunSteps.{IsBare, IsPlaced}
 
 -- the two write a line, or a header, alike
@@ -96,15 +97,15 @@ bare_of_kind seen outlines x appended all h = λ line none.
 pub placed_plain : (outlines : List Outline) (bytes : List ℕ) (changes : List TextChange) (x : Outline) (at : ℕ)
     (headers writes : Bool) → (headers ≡ false → All (λ y. runs.is_header (outlined y) ≡ false) outlines)
     → writes ≡ writes_anew x → (writes ≡ true → ArePlain bytes changes × IsPlaceKept bytes changes x at headers)
-    → IsPlaced outlines bytes changes x at
+    → IsPlacedAmong outlines bytes changes x at
 placed_plain outlines bytes changes x at headers false headless is h =
     let none = or_parts (runs.is_insert (outlined x)) (runs.is_header (outlined x)) (sym is) in
     record { insert = λ yes. absurd cc; header = λ yes. absurd cc }
 placed_plain outlines bytes changes x at headers true headless is h =
     let (plain, kept) = h refl in
     record {
-      insert = λ yes. inr (plain, ((kept.line yes).0, ends (kept.line yes).1));
-      header = λ yes. inr (plain, kept.header yes);
+      insert = λ yes. (plain, ((kept.line yes).0, ends (kept.line yes).1));
+      header = λ yes. (plain, kept.header yes);
     }
   where
     ends : (headers ≡ false) ⊎ (at ≢ length bytes)

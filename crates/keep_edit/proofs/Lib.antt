@@ -27,5 +27,8 @@ mod ItemSteps
 mod GoneLaws
 mod GoneFound
 mod SectionSteps
+mod ElementArrays
+mod ElementsGone
+mod ElementSteps
 mod ValueAfterLaws
 mod OpenedLaws

@@ -6,8 +6,9 @@
 -- one of them sets is not refused either, and its change comes in the place of that one's (SetAgainSteps).
 --
 -- Theorems: `no_changes`, `more_changes`: before the first edit, and with one more; `all_made`, `all_within`: so all
--- are made; `text_utf8`: the text with the changes; `tree_of_run`: the document after a run; `run_so_far`: the run of
--- the edits so far; `unadded`, `added`: what is added to a list.
+-- are made; `text_utf8`: the text with the changes; `change_made`, `tree_made`: an edit that puts one change more into
+-- it; `tree_of_run`: the document after a run; `run_so_far`: the run of the edits so far; `order`, `passes`,
+-- `known_with`: a line or a header comes in order, and the line is known; `unadded`, `added`: what is added to a list.
 use Rattle.std.proofs.Common.{◌≡◌, ◌≢◌, ◌<◌, ◌≤◌, ◌+◌, ◌∷◌, ◌++◌, [], ℕ, zero, suc, List, length, take, drop}
 use Rattle.std.proofs.Common.{get_or, refl, sym, ap, subst, subst₂, ◌∙◌, arith, All, IsUtf8, IsCharBoundary, inl, inr}
 use Rattle.std.specs.Prelude.{◌⊎◌, Any, Bool, Err, IfOk, IsTrue, None, Ok, OnErr, Option, Result, Some, false}
@@ -54,7 +55,7 @@ use Rattle.keep_edit.specs.Runs.{IsRenamedBy, IsSetBy, MakesInRunHere, changed_t
 use Rattle.keep_edit.specs.Runs.{plain}
 use Rattle.keep_edit.specs.declared.added_lines.AddedLines.{AddedLines}
 use Rattle.keep_edit.specs.declared.outline.Outline.{Outline}
-use Rattle.keep_edit.proofs.MadeMore.{more_made}
+use Rattle.keep_edit.proofs.MadeMore.{more_made, tree_after}
 
 -- ---- edits without their values
 
@@ -97,7 +98,7 @@ plain_alone (law.append_element ks) (law.remove q) h = h
 plain_alone (law.append_element ks) (law.append_table more) h = h
 plain_alone (law.append_element ks) (law.append_element more) h = h
 
-plain_insert : (e : law.Edit) → runs.is_insert (plain e) ≡ runs.is_insert e
+pub plain_insert : (e : law.Edit) → runs.is_insert (plain e) ≡ runs.is_insert e
 plain_insert (law.set p v) = refl
 plain_insert (law.insert p v) = refl
 plain_insert (law.rename p name) = refl
@@ -105,7 +106,7 @@ plain_insert (law.remove p) = refl
 plain_insert (law.append_table ks) = refl
 plain_insert (law.append_element ks) = refl
 
-plain_header : (e : law.Edit) → runs.is_header (plain e) ≡ runs.is_header e
+pub plain_header : (e : law.Edit) → runs.is_header (plain e) ≡ runs.is_header e
 plain_header (law.set p v) = refl
 plain_header (law.insert p v) = refl
 plain_header (law.rename p name) = refl
@@ -171,6 +172,41 @@ text_utf8_from from bytes (c ∷ cs) utf8 here follow fine within =
 pub text_utf8 : (bytes : List ℕ) (cs : List TextChange) → IsUtf8 bytes → Follow 0 cs → All (λ c. IsUtf8 c.new) cs
     → All (IsChangeIn bytes) cs → IsUtf8 (text_with 0 bytes cs)
 text_utf8 bytes cs utf8 = text_utf8_from 0 bytes cs utf8 (IsCharBoundary-start bytes utf8)
+
+-- ---- one change more
+
+-- An edit that is not refused puts its change into the text with those before it. So it is made.
+module _ (s : Document) (edits : List Edit) (n : ℕ) (old now : ProfiledText) (before : Document)
+    (changes : List TextChange) (read : IsTextOfTree now before)
+    (so_far : AreMade s (take n edits) old (changed_text now changes)) (d x : Edit) (lt : n < length edits)
+    (here : get_or edits n d ≡ x) (e : law.Edit) (given : IsEdit x e) (c : TextChange)
+    (was : text so_far.tree ≡ text_with 0 (text before) changes)
+    (is : text (edited_document so_far.tree e) ≡ text_with 0 (text before) (with_change changes c))
+    (follow : Follow 0 (with_change changes c)) (allowed : refusal now.profile limit so_far.tree e ≡ None)
+    (lawful : IsLawfulEdit now.profile limit so_far.tree e) (utf8 : All (λ b. IsUtf8 b.new) (with_change changes c))
+    (within : All (IsChangeIn now.text) (with_change changes c)) where
+  abbrev with_it : List ℕ
+  with_it = text_with 0 now.text (with_change changes c)
+
+  with_it_utf8 : IsUtf8 with_it
+  with_it_utf8 = text_utf8 now.text (with_change changes c) read.utf8 follow utf8 within
+
+  -- the text is the one before with the change in it
+  with_it_is : with_it ≡ put (text_with 0 now.text changes) (place so_far.tree e)
+  with_it_is =
+      ap (λ (b : List ℕ). text_with 0 b (with_change changes c)) read.reads.spelled
+      ∙ sym is ∙ change_put so_far.tree e
+      ∙ ap (λ (b : List ℕ). put b (place so_far.tree e))
+      (was ∙ ap (λ (b : List ℕ). text_with 0 b changes) (sym read.reads.spelled))
+
+  pub change_made : AreMade s (take (suc n) edits) old (changed_text now (with_change changes c))
+  change_made = more_made (changed_text now changes) so_far.tree e so_far.read lawful with_it with_it_utf8 with_it_is s
+      edits n old d x lt here given so_far refl allowed
+
+  -- and its document is the edited one
+  pub tree_made : edited_document so_far.tree e ≡ change_made.tree
+  tree_made = tree_after (changed_text now changes) so_far.tree e so_far.read lawful with_it with_it_utf8 with_it_is
+      change_made.tree change_made.read
 
 -- ---- the document after a run
 
@@ -252,6 +288,84 @@ rename_seen s (law.rename p more) path name is = is
 rename_seen s (law.remove p) path name is = absurd cc
 rename_seen s (law.append_table ks) path name is = absurd cc
 rename_seen s (law.append_element ks) path name is = absurd cc
+
+-- ---- a new line or header more
+
+-- The line of an insert, or a header, comes in order after edits that are seen so, and add lines that are known.
+module _ (before : Document) (es : List law.Edit) (changes : List TextChange) (lines : List Added)
+    (outlines : List Outline) (adds next_adds : AddedLines) (o : Outline) (a : law.Edit)
+    (plain_is : plain a ≡ outlined o) (c : TextChange) (line : Option LineKind) (appended : Bool)
+    (bare : IsBare outlines o appended) (kept : IsLineKept adds changes o c.at line appended next_adds)
+    (headless : All (λ y. runs.is_header (outlined y) ≡ false) outlines → All (λ f. runs.is_header f ≡ false) es)
+    (known : All (IsKnownAt adds) lines) where
+  -- the line of an insert, as the code knows it
+  abbrev line_then : List Part → Added
+  line_then p = added_as before p c
+
+  outlined_is : (p : List Part) (v : Value) → a ≡ runs.seen before (law.insert p v)
+      → outlined o ≡ law.insert (first_new before p) no_value
+  outlined_is p v is = sym plain_is ∙ ap plain is
+
+  known_then : (p : List Part) (v : Value) → a ≡ runs.seen before (law.insert p v) → line ≡ Some (kind_of before p)
+      → IsKnownThen adds changes (line_then p) appended next_adds
+  known_then p v is of = kept.own (first_new before p) (kind_of before p) (outlined_is p v is) of
+
+  -- headers pass by the table of a line that brings none, and none are appended before one that does
+  passed : (p : List Part) (v : Value) → a ≡ runs.seen before (law.insert p v) → line ≡ Some (kind_of before p)
+      → All (LetsTable (line_then p)) es
+  passed p v is of = by (kind_of before p) refl
+    where
+      none_with : (kind_of before p ≡ WithHeader → ⊥) → (f : law.Edit) → LetsTable (line_then p) f
+      none_with other (law.append_table ks) = λ headed. absurd (other headed)
+      none_with other (law.append_element ks) = λ headed. absurd (other headed)
+      none_with other (law.insert q w) = tt
+      none_with other (law.remove q) = tt
+      none_with other (law.set q w) = tt
+      none_with other (law.rename q name) = tt
+
+      no_header : (f : law.Edit) → runs.is_header f ≡ false → LetsTable (line_then p) f
+      no_header (law.append_table ks) none = absurd cc
+      no_header (law.append_element ks) none = absurd cc
+      no_header (law.insert q w) none = tt
+      no_header (law.remove q) none = tt
+      no_header (law.set q w) none = tt
+      no_header (law.rename q name) none = tt
+
+      by : (kind : LineKind) → kind_of before p ≡ kind → All (LetsTable (line_then p)) es
+      by WithHeader kind =
+          All-weaker (λ f. runs.is_header f ≡ false) (LetsTable (line_then p)) no_header es
+          (headless (bare (ap runs.is_insert (outlined_is p v is)) ((known_then p v is of).headless kind)))
+      by LastInBody kind =
+          each es (none_with (λ headed. (let both : LastInBody ≡ WithHeader = sym kind ∙ headed in cc)))
+      by OfDotted kind =
+          each es (none_with (λ headed. (let both : OfDotted ≡ WithHeader = sym kind ∙ headed in cc)))
+
+  pub order : (p : List Part) (v : Value) → a ≡ runs.seen before (law.insert p v) → line ≡ Some (kind_of before p)
+      → IsInOrder es changes lines (line_then p)
+  order p v is of = record {
+    after = All-weaker (IsKnownAt adds) (λ l. IsAfterLine l (line_then p)) (known_then p v is of).after lines known;
+    stays = (known_then p v is of).stays;
+    passed = passed p v is of;
+  }
+
+  -- a header that is appended passes by all tables of lines with headers, as there are none
+  pub passes : (ks : List (List ℕ)) → runs.is_header (outlined o) ≡ true → All (PassesTable ks) lines
+  passes ks head =
+      All-weaker (IsKnownAt adds) (PassesTable ks) (λ l its is. absurd (kept.header head l its is)) lines known
+
+  others_known : All (IsKnownAt next_adds) lines
+  others_known = All-weaker (IsKnownAt adds) (IsKnownAt next_adds) kept.others lines known
+
+  -- its line is known too, if it adds one
+  pub known_with : (f : law.Edit) → runs.seen before f ≡ a → IsOfKind before f line
+      → All (IsKnownAt next_adds) (with_line before f c lines)
+  known_with (law.insert p v) same of =
+      All-cons (IsKnownAt next_adds) (line_then p) lines (known_then p v (sym same) of).here others_known
+  known_with (law.set p v) same of = others_known
+  known_with (law.rename p name) same of = others_known
+  known_with (law.remove p) same of = others_known
+  known_with (law.append_table ks) same of = others_known
+  known_with (law.append_element ks) same of = others_known
 
 -- one edit more, which others see so: another edit, which makes this change, makes of the first document what it makes
 record IsLonger (profile : Profile) (s : Document) (es : List law.Edit) (changes : List TextChange)
@@ -345,60 +459,14 @@ module _ (s : Document) (edits : List Edit) (n : ℕ) (old now : ProfiledText) (
   plain_before : IsPlainBefore now.text changes c.at → IsPlainBefore (text before) changes c.at
   plain_before = subst (λ (bytes : List ℕ). IsPlainBefore bytes changes c.at) read.reads.spelled
 
-  -- the line of an insert, as the code knows it
-  abbrev line_then : List Part → Added
-  line_then p = added_as before p c
+  in_order : (p : List Part) (v : Value) → a ≡ runs.seen before (law.insert p v) → line ≡ Some (kind_of before p)
+      → IsInOrder es changes lines (added_as before p c)
+  in_order =
+      order before es changes lines outlines adds next_adds o a plain_is c line appended bare kept h.headless h.lines
 
-  outlined_is : (p : List Part) (v : Value) → a ≡ runs.seen before (law.insert p v)
-      → outlined o ≡ law.insert (first_new before p) no_value
-  outlined_is p v is = sym plain_is ∙ ap plain is
-
-  known_then : (p : List Part) (v : Value) → a ≡ runs.seen before (law.insert p v) → line ≡ Some (kind_of before p)
-      → IsKnownThen adds changes (line_then p) appended next_adds
-  known_then p v is of = kept.own (first_new before p) (kind_of before p) (outlined_is p v is) of
-
-  -- headers pass by the table of a line that brings none, and none are appended before one that does
-  passed : (p : List Part) (v : Value) → a ≡ runs.seen before (law.insert p v) → line ≡ Some (kind_of before p)
-      → All (LetsTable (line_then p)) es
-  passed p v is of = by (kind_of before p) refl
-    where
-      none_with : (kind_of before p ≡ WithHeader → ⊥) → (f : law.Edit) → LetsTable (line_then p) f
-      none_with other (law.append_table ks) = λ headed. absurd (other headed)
-      none_with other (law.append_element ks) = λ headed. absurd (other headed)
-      none_with other (law.insert q w) = tt
-      none_with other (law.remove q) = tt
-      none_with other (law.set q w) = tt
-      none_with other (law.rename q name) = tt
-
-      no_header : (f : law.Edit) → runs.is_header f ≡ false → LetsTable (line_then p) f
-      no_header (law.append_table ks) none = absurd cc
-      no_header (law.append_element ks) none = absurd cc
-      no_header (law.insert q w) none = tt
-      no_header (law.remove q) none = tt
-      no_header (law.set q w) none = tt
-      no_header (law.rename q name) none = tt
-
-      by : (kind : LineKind) → kind_of before p ≡ kind → All (LetsTable (line_then p)) es
-      by WithHeader kind =
-          All-weaker (λ f. runs.is_header f ≡ false) (LetsTable (line_then p)) no_header es
-          (h.headless (bare (ap runs.is_insert (outlined_is p v is)) ((known_then p v is of).headless kind)))
-      by LastInBody kind =
-          each es (none_with (λ headed. (let both : LastInBody ≡ WithHeader = sym kind ∙ headed in cc)))
-      by OfDotted kind =
-          each es (none_with (λ headed. (let both : OfDotted ≡ WithHeader = sym kind ∙ headed in cc)))
-
-  order : (p : List Part) (v : Value) → a ≡ runs.seen before (law.insert p v) → line ≡ Some (kind_of before p)
-      → IsInOrder es changes lines (line_then p)
-  order p v is of = record {
-    after = All-weaker (IsKnownAt adds) (λ l. IsAfterLine l (line_then p)) (known_then p v is of).after lines h.lines;
-    stays = (known_then p v is of).stays;
-    passed = passed p v is of;
-  }
-
-  -- a header that is appended passes by all tables of lines with headers, as there are none
-  passes : (ks : List (List ℕ)) → runs.is_header (outlined o) ≡ true → All (PassesTable ks) lines
-  passes ks head =
-      All-weaker (IsKnownAt adds) (PassesTable ks) (λ l known is. absurd (kept.header head l known is)) lines h.lines
+  pass : (ks : List (List ℕ)) → runs.is_header (outlined o) ≡ true → All (PassesTable ks) lines
+  pass =
+      passes before es changes lines outlines adds next_adds o a plain_is c line appended bare kept h.headless h.lines
 
   keeps : a ≡ runs.seen before e → IsOfKind before e line → KeepsPlace before es changes lines e c
   keeps is of =
@@ -431,37 +499,23 @@ module _ (s : Document) (edits : List Edit) (n : ℕ) (old now : ProfiledText) (
           → runs.is_insert (outlined o) ≡ runs.is_insert a → runs.is_header (outlined o) ≡ runs.is_header a
           → KeepsPlace before es changes lines f c
       by (law.insert p v) same of insert header =
-          (order p v same of, all_inserts (placed.insert (insert ∙ ap runs.is_insert same)))
+          (in_order p v same of, all_inserts (placed.insert (insert ∙ ap runs.is_insert same)))
       by (law.remove p) same of insert header = tt
       by (law.set p v) same of insert header = tt
       by (law.rename p name) same of insert header = tt
       by (law.append_table ks) same of insert header =
           let head : runs.is_header (outlined o) ≡ true = header ∙ ap runs.is_header same in
-          (passes ks head, all_headers (placed.header head))
+          (pass ks head, all_headers (placed.header head))
       by (law.append_element ks) same of insert header =
           let head : runs.is_header (outlined o) ≡ true = header ∙ ap runs.is_header same in
-          (passes ks head, all_headers (placed.header head))
+          (pass ks head, all_headers (placed.header head))
 
   longer : IsLonger now.profile before es changes lines t e a c line
   longer = goes_on_by now.profile before es changes lines t e a c line so_far others beside keeps makes
 
-  abbrev next : List ℕ
-  next = text_with 0 now.text (with_change changes c)
-
-  next_utf8 : IsUtf8 next
-  next_utf8 = text_utf8 now.text (with_change changes c) read.utf8 longer.run.follow utf8 within
-
-  -- the text is the one before with the change in it
-  next_is : next ≡ put (text_with 0 now.text changes) (place t e)
-  next_is =
-      ap (λ (b : List ℕ). text_with 0 b (with_change changes c)) read.reads.spelled
-      ∙ sym longer.run.text ∙ change_put t e
-      ∙ ap (λ (b : List ℕ). put b (place t e))
-      (so_far.text ∙ ap (λ (b : List ℕ). text_with 0 b changes) (sym read.reads.spelled))
-
   made : AreMade s (take (suc n) edits) old (changed_text now (with_change changes c))
-  made = more_made (changed_text now changes) t e h.made.read longer.lawful next next_utf8 next_is s edits n old d x lt
-      here given h.made refl longer.allowed
+  made = change_made s edits n old now before changes read h.made d x lt here e given c so_far.text longer.run.text
+      longer.run.follow longer.allowed longer.lawful utf8 within
 
   -- with it in front
   abbrev ms : List MadeEdit
@@ -485,20 +539,9 @@ module _ (s : Document) (edits : List Edit) (n : ℕ) (old now : ProfiledText) (
 
   -- its line is known too, if it adds one
   lines_known : All (IsKnownAt next_adds) (lines_of before ms)
-  lines_known = by longer.edit longer.seen_is longer.of
-    where
-      others_known : All (IsKnownAt next_adds) lines
-      others_known = All-weaker (IsKnownAt adds) (IsKnownAt next_adds) kept.others lines h.lines
-
-      by : (f : law.Edit) → runs.seen before f ≡ a → IsOfKind before f line
-          → All (IsKnownAt next_adds) (with_line before f c lines)
-      by (law.insert p v) same of =
-          All-cons (IsKnownAt next_adds) (line_then p) lines (known_then p v (sym same) of).here others_known
-      by (law.set p v) same of = others_known
-      by (law.rename p name) same of = others_known
-      by (law.remove p) same of = others_known
-      by (law.append_table ks) same of = others_known
-      by (law.append_element ks) same of = others_known
+  lines_known =
+      known_with before es changes lines outlines adds next_adds o a plain_is c line appended bare kept h.headless
+      h.lines longer.edit longer.seen_is longer.of
 
   -- of all edits as they are seen
   all_seen : (P : law.Edit → Type 0) → P a → All P es → All P (seen_of before ms)

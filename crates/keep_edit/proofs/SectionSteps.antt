@@ -6,19 +6,18 @@
 --
 -- Theorems: `no_sections`, `more_sections`: before the first remove, and with one more; `sections_made`: so all are
 -- made; `section_here`: what an edit is found to do.
-use Rattle.std.proofs.Common.{◌≡◌, ◌<◌, ◌+◌, [], ◌∷◌, ◌++◌, ℕ, suc, List, length, take, get_or, refl, sym, ap, subst}
+use Rattle.std.proofs.Common.{◌≡◌, ◌<◌, ◌+◌, [], ◌∷◌, ◌++◌, ℕ, suc, List, length, take, get_or, refl, sym, subst}
 use Rattle.std.proofs.Common.{◌∙◌, arith, All, IsUtf8}
 use Rattle.std.proofs.lemmas.List.Elements.{All-nil}
 use Rattle.std.proofs.lemmas.Str.{IsUtf8-string_bytes}
 use Rattle.keep_syntax.specs.Tree.{Document}
 use Rattle.keep_path.specs.Path.{Part}
-use Rattle.keep_edit_spec.specs.Changed.{put}
 use Rattle.keep_edit_spec.specs.Edits as law
-use Rattle.keep_edit_spec.specs.Edits.{place}
+use Rattle.keep_edit_spec.specs.Edits.{edited_document}
 use Rattle.keep_edit_spec.specs.Laws.{IsLawfulEdit}
 use Rattle.keep_edit_spec.specs.RemovedHeaders.{IsHeaderRun, IsHeaderRunLonger, RemovesHeader, first_path, path_before}
-use Rattle.keep_edit_spec.specs.TextChanges.{IsBeside, TextChange, text_with, with_change}
-use Rattle.keep_edit_spec.proofs.Shared.{all_with, change_put, first_with, header_run_goes_on, length_with}
+use Rattle.keep_edit_spec.specs.TextChanges.{IsBeside, TextChange, with_change}
+use Rattle.keep_edit_spec.proofs.Shared.{all_with, first_with, header_run_goes_on, length_with}
 use Rattle.keep_edit_spec.proofs.Shared.{none_is_header_run, remove_lawful}
 use Rattle.keep_edit_plan.proofs.Shared.{change_in, editable}
 use Rattle.keep_edit_plan.specs.Answers.{IsSpanOf}
@@ -30,8 +29,7 @@ use Rattle.keep_edit.specs.Gone.{IsGoneWith}
 use Rattle.keep_edit.specs.Lists.{IsEdit, AreMade}
 use Rattle.keep_edit.specs.Reading.{limit, IsTextOfTree, ProfiledText}
 use Rattle.keep_edit.specs.Runs.{IsHeaderRunTo, MakeChanges, RemovesHeaderHere, changed_text}
-use Rattle.keep_edit.proofs.MadeMore.{more_made, tree_after}
-use Rattle.keep_edit.proofs.RunSteps.{text_utf8}
+use Rattle.keep_edit.proofs.RunSteps.{change_made, tree_made}
 
 -- ---- one more
 
@@ -57,33 +55,23 @@ module _ (s : Document) (edits : List Edit) (first n : ℕ) (old now : ProfiledT
   lawful : IsLawfulEdit now.profile limit t e
   lawful = remove_lawful now.profile limit t path h.run.editable longer.allowed
 
-  abbrev bytes : List ℕ
-  bytes = text_with 0 now.text (with_change changes c)
-
-  bytes_utf8 : IsUtf8 bytes
-  bytes_utf8 = text_utf8 now.text (with_change changes c) read.utf8 longer.run.follow utf8 within
-
-  -- the text is the one before with the change in it
-  bytes_are : bytes ≡ put (text_with 0 now.text changes) (place t e)
-  bytes_are =
-      ap (λ (b : List ℕ). text_with 0 b (with_change changes c)) read.reads.spelled
-      ∙ sym longer.run.text ∙ change_put t e
-      ∙ ap (λ (b : List ℕ). put b (place t e))
-      (h.run.text ∙ ap (λ (b : List ℕ). text_with 0 b changes) (sym read.reads.spelled))
-
   made : AreMade s (take (suc n) edits) old (changed_text now (with_change changes c))
   made =
-      more_made (changed_text now changes) t e h.made.read lawful bytes bytes_utf8 bytes_are s edits n old d x lt here
-      given
-      h.made refl longer.allowed
+      change_made s edits n old now before changes read h.made d x lt here e given c h.run.text longer.run.text
+      longer.run.follow longer.allowed lawful utf8 within
+
+  same_tree : edited_document t e ≡ made.tree
+  unfolding made
+  same_tree =
+      tree_made s edits n old now before changes read h.made d x lt here e given c h.run.text longer.run.text
+      longer.run.follow longer.allowed lawful utf8 within
 
   pub one_more_section : IsHeaderRunTo s edits first (suc n) old now before next (with_change changes c)
   one_more_section = record {
     made = made;
     all = h.all ++ path ∷ [];
     run = subst (IsHeaderRun now.profile limit before (h.all ++ path ∷ []) (with_change changes c))
-        (tree_after (changed_text now changes) t e h.made.read lawful bytes bytes_utf8 bytes_are made.tree made.read)
-        longer.run;
+        same_tree longer.run;
     leads = λ q. first_with h.all path q ∙ h.leads (path_before path q) ∙ sym (more q);
   }
 

@@ -12,3 +12,4 @@ pub mod SeenPaths
 pub mod ValueAfter
 pub mod Again
 pub mod AddedLines
+pub mod GoneBetween

@@ -3,6 +3,7 @@ ghost use Rattle.std.specs.Prelude.{◌≡◌, ◌≢◌, ◌≤◌, All, IfSome
 ghost use Rattle.std.specs.Bool.{Decides};
 ghost use Rattle.keep_edit.specs.Runs.{LeavesAlone, outlined, rest_after, rest_from};
 ghost use Rattle.keep_edit_spec.specs.AppendedHeaders.{AreSameOrApart};
+ghost use Rattle.keep_edit_spec.specs.ElementRuns.{IsElsewhere};
 ghost use Rattle.keep_edit_spec.specs.RenamedKeys.{ArePathsApart};
 ghost use Rattle.keep_edit_spec.specs.Runs.{AreApart, IsNoStep, PassesBy, PassesByPaths};
 ghost use Rattle.keep_edit_plan.specs.Headers.{key_texts};
@@ -209,6 +210,31 @@ fn leaves_alone(outline: &Outline, other: &Outline) -> bool
             are_apart(path, other)
         }
     }
+}
+
+/// Whether an edit is elsewhere than at a path and below it, and not on the way there.
+pub fn is_elsewhere(path: &Steps, outline: &Outline) -> bool
+    ensures { Decides result (IsElsewhere path.now (outlined outline.now)) }
+{
+    match outline {
+        Outline::Insert(other) | Outline::Remove(other) | Outline::Set(other) => {
+            are_apart(path, other)
+        }
+        Outline::Rename(other, key) => are_apart(path, other) && lacks_step(path, key),
+        Outline::Table(keys) | Outline::Element(keys) => passes_by(keys, path),
+    }
+}
+
+/// Whether each of these edits is.
+pub fn are_elsewhere(path: &Steps, outlines: &[Outline]) -> bool
+    ensures { IsTrue result → All (λ o. IsElsewhere path.now (outlined o)) outlines.now }
+{
+    for outline in outlines {
+        if !is_elsewhere(path, outline) {
+            return false;
+        }
+    }
+    true
 }
 
 /// Whether these edits and another that comes after them all append elements, with as many keys each: of such lists

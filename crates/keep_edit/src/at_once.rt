@@ -208,6 +208,21 @@ impl<'a> AtOnce<'a> {
         noted && self.outlines.push(outline).is_ok()
     }
 
+    /// Adds a change of an edit that has no outline. Returns whether it was added: one that overlaps another is not,
+    /// nor is any where memory is refused. Then no change was added.
+    pub fn add_change(&mut self, change: TextEdit) -> bool
+        requires { IsOrdered change }
+        ensures changes { IsTrue result → All (λ c. IsBeside c (change_of change)) self.old.changes
+            × (self.new.changes ≡ with_change self.old.changes (change_of change)) }
+        ensures outlines { self.new.outlines.items ≡ self.old.outlines.items }
+        ensures plain { IsTrue result → self.new.are_plain ≡ true
+            → (self.old.are_plain ≡ true) × IsPlain (string_bytes change.new) }
+        ensures refused { result ≡ false → self.new.changes ≡ self.old.changes }
+    {
+        self.are_plain = self.are_plain && is_plain(change.new.as_str());
+        self.changes.add(change).unwrap_or(false)
+    }
+
     /// Adds an edit, which has this number in the list. Returns whether it was added: one whose change overlaps another
     /// is not, nor is any where memory is refused. Then no change was added.
     pub fn add(&mut self, number: usize, outline: Outline<'a>, change: TextEdit) -> bool
@@ -224,7 +239,6 @@ impl<'a> AtOnce<'a> {
         if self.numbers.insert(start, own).is_err() || !self.add_outline(number, outline) {
             return false;
         }
-        self.are_plain = self.are_plain && is_plain(change.new.as_str());
-        self.changes.add(change).unwrap_or(false)
+        self.add_change(change)
     }
 }

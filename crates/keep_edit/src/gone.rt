@@ -9,6 +9,7 @@ ghost use Rattle.std.specs.Bool.{Decides};
 ghost use Rattle.std.specs.List.{HoldsAt};
 ghost use Rattle.keep_path.specs.Path.{index, last_part, strip};
 ghost use Rattle.keep_edit_spec.specs.AddedItems.{item_path};
+ghost use Rattle.keep_edit_spec.specs.ElementRuns.{changed_path};
 ghost use Rattle.keep_edit_spec.specs.RemovedHeaders.{first_path};
 ghost use Rattle.keep_edit_spec.specs.Runs.{AreApart};
 ghost use Rattle.keep_edit.specs.Gone.{IsGoneWith, element_paths, first_number};
@@ -21,7 +22,7 @@ use std::alloc::Global;
 use std::marker::Model;
 
 /// Elements of no more arrays go in one run, since each path is compared with that of each array.
-const MOST_ARRAYS: usize = 8;
+pub const MOST_ARRAYS: usize = 256;
 
 /// An array of tables, and the numbers that elements of it had when they went, one after another.
 #[derive(Drop)]
@@ -226,6 +227,14 @@ fn with_index(alloc: Global, path: &Path, at: usize, number: usize) -> Option<Pa
         };
     }
     Some(other)
+}
+
+/// The array of the element at a path; None where the path does not end in a number.
+pub fn array_of(path: &Path) -> Option<Steps<'_>>
+    ensures { IfSome result (λ array. array ≡ changed_path path.now) }
+{
+    last_index(path)?;
+    Some(Steps::before_last(path))
 }
 
 /// The number that is the last step of a path; None where a key is, and where it has none.

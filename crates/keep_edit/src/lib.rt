@@ -49,6 +49,7 @@ mod changes;
 mod document;
 mod edits;
 mod gone;
+mod gone_between;
 mod index_change;
 mod inserted;
 mod lines;

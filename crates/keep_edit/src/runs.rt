@@ -6,6 +6,7 @@ ghost use Rattle.std.specs.Bool.{Decides};
 ghost use Rattle.keep_syntax.specs.Tree as tree;
 ghost use Rattle.keep_edit.specs.Lists.{AreMade, StopsAt};
 ghost use Rattle.keep_edit.specs.Answers.{IsSpanOf};
+ghost use Rattle.keep_edit.specs.GoneBetween.{AreElsewhere, HasArray, RemovesElementHere, TakesElement};
 ghost use Rattle.keep_edit.specs.Reading.{IsTextOfTree, ProfiledText, limit};
 ghost use Rattle.keep_edit.specs.Runs.{AddsItemHere, IsPlaceKept, IsSeenAs, MakeChanges, MakesInRunHere};
 ghost use Rattle.keep_edit.specs.Runs.{MakesItselfHere};
@@ -21,7 +22,8 @@ use crate::added_lines::AddedLines;
 use crate::alike::{agree, is_same, leave_alone_within};
 use crate::at_once::{AtOnce, Run, RunEdit, is_plain};
 use crate::document::Document;
-use crate::gone::GoneElements;
+use crate::gone::{GoneElements, array_of};
+use crate::gone_between::GoneBetween;
 use crate::opened::OpenValues;
 use crate::outline::{Outline, SeenAs, Steps, index_at};
 use crate::seen::SeenKeys;
@@ -64,6 +66,14 @@ fn holder_path(alloc: Global, path: &Path) -> Option<Path>
         return None;
     }
     first_steps(alloc, path, len - 1).ok()
+}
+
+/// Whether an edit that is seen so removes an element of an array of tables, if its path is there.
+fn is_of_element(edit: &Edit, seen: SeenAs) -> bool {
+    match (edit, seen) {
+        (Edit::Remove(path), SeenAs::Itself) => array_of(path).is_some(),
+        _ => false,
+    }
 }
 
 /// Whether a path is that of the item so many numbers after the one of another path, in the same array.
@@ -190,9 +200,9 @@ impl Document {
         }
     }
 
-    /// The same beyond the edit with number `end`, which ends those of one kind: as far as they remove tables and
-    /// elements with their headers, if that one removes an element or none comes before it; or as far as they are of
-    /// several kinds. None where they are not tried.
+    /// The same beyond the edit with number `end`, which ends those of one kind: as far as they are of several kinds,
+    /// or remove tables and elements with their headers, if that one removes an element or none comes before it. None
+    /// where neither is tried.
     fn others_by(&self, edits: &[Edit], first: usize, end: usize) -> Option<Run>
         requires { first < length edits.now }
         ensures few { IfSome result (λ run. (first ≤ run.end) × (run.end ≤ length edits.now)) }
@@ -200,17 +210,26 @@ impl Document {
         ensures within { IfSome result (λ run. All (IsChangeIn self.now.text) run.changes) }
     {
         let next = edits.get(end);
-        if end == first || self.removes_element(next) {
-            let changes = self.sections_by(edits, first);
-            return Some(Run {
-                end: first + changes.len(),
-                changes,
-            });
-        }
-        if self.is_other_kind(&edits[first], next) {
+        if end > first && !self.removes_element(next) {
+            if !self.is_other_kind(&edits[first], next) {
+                return None;
+            }
             return Some(self.changes_of_kinds(edits, first));
         }
-        None
+        let changes = self.sections_by(edits, first);
+        let count = changes.len();
+        let sections = Run {
+            end: first + count,
+            changes,
+        };
+        if count == 0 || count == MOST_AT_ONCE || sections.end == edits.len() {
+            return Some(sections);
+        }
+        let kinds = self.changes_of_kinds(edits, first);
+        if kinds.end > sections.end {
+            return Some(kinds);
+        }
+        Some(sections)
     }
 
     /// What the edits from number `first` on change in the text, as far as all are of one kind and each makes its
@@ -263,8 +282,9 @@ impl Document {
     }
 
     /// What the edits from number `first` on change in the text, as far as they leave one another alone, of whatever
-    /// kinds, and each makes its change beside those before it, or does again what one of them does. Where memory is
-    /// refused, there are fewer.
+    /// kinds, and each makes its change beside those before it, or does again what one of them does; or removes an
+    /// element of an array of tables, and all others are elsewhere than in the array. Where memory is refused, there
+    /// are fewer.
     fn changes_of_kinds(&self, edits: &[Edit], first: usize) -> Run
         requires { first < length edits.now }
         ensures few { (first ≤ result.end) × (result.end ≤ length edits.now) }
@@ -276,14 +296,25 @@ impl Document {
         let mut planner = Planner::new(self.alloc(), self.as_ref());
         let mut paths = SeenPaths::new(self.alloc());
         let mut lines = AddedLines::new(self.alloc());
+        let mut gone = GoneBetween::new(self.alloc());
         let mut left = self.most_pairs();
         let mut is_text_plain = false;
         let end = edits.len().min(first.saturating_add(MOST_AT_ONCE));
         for number in first..end {
             let edit = &edits[number];
             let seen = self.seen_as(edit);
+            if is_of_element(edit, seen) {
+                if !self.take_element(&mut so_far, &mut gone, edit) {
+                    return so_far.up_to(number);
+                }
+                continue;
+            }
             let outline = Outline::of(edit, seen);
-            if let Some(again) = self.again(&so_far, &mut opened, &mut planner, edits, edit) {
+            let again = match gone.is_empty() {
+                true => self.again(&so_far, &mut opened, &mut planner, edits, edit),
+                false => None,
+            };
+            if let Some(again) = again {
                 if !paths.allow_again(&again) {
                     return so_far.up_to(number);
                 }
@@ -293,6 +324,7 @@ impl Document {
                 continue;
             }
             if outline.has_long_path_among_all()
+                || !gone.leave_alone(&outline)
                 || !(paths.leave_alone(&outline)
                     || leave_alone_within(&mut left, so_far.outlines.as_slice(), &outline))
                 || !paths.add(&outline).unwrap_or(false)
@@ -634,6 +666,50 @@ impl Document {
             return None;
         }
         Some(section)
+    }
+
+    /// Adds what an edit takes from the text after those elements and edits, if it is the remove of an element, and the
+    /// edits are elsewhere than in its array. Then that is gone too. Returns whether it is; if not, no change was
+    /// added.
+    fn take_element<'a>(
+        &self,
+        so_far: &mut AtOnce<'a>,
+        gone: &mut GoneBetween<'a>,
+        edit: &'a Edit,
+    ) -> bool
+        requires { AreElsewhere gone.old.arrays.items so_far.old.outlines.items }
+        ensures taken { IsTrue result → TakesElement self.now gone.old gone.new so_far.old so_far.new edit.now }
+        ensures elsewhere { AreElsewhere gone.new.arrays.items so_far.new.outlines.items }
+        ensures outlines { so_far.new.outlines.items ≡ so_far.old.outlines.items }
+        ensures refused { result ≡ false → so_far.new.changes ≡ so_far.old.changes }
+    {
+        let Some(change) = self.element_by(gone, so_far.outlines.as_slice(), edit) else {
+            return false;
+        };
+        so_far.add_change(change)
+    }
+
+    /// What an edit takes from the text after those elements went, if it is the remove of an element, and the edits
+    /// with these outlines are elsewhere than in its array. Then that is gone too.
+    fn element_by<'a>(
+        &self,
+        gone: &mut GoneBetween<'a>,
+        outlines: &[Outline],
+        edit: &'a Edit,
+    ) -> Option<TextEdit>
+        requires { AreElsewhere gone.old.arrays.items outlines.now }
+        ensures removed { IfSome result (RemovesElementHere self.now gone.old gone.new outlines.now edit.now) }
+        ensures elsewhere { AreElsewhere gone.new.arrays.items outlines.now }
+        ensures arrays { (a : List Part) → HasArray gone.old.arrays.items a → HasArray gone.new.arrays.items a }
+    {
+        let Edit::Remove(path) = edit else {
+            return None;
+        };
+        let array = array_of(path)?;
+        if !gone.keep_array(outlines, array) {
+            return None;
+        }
+        self.section_by(&mut gone.elements, edit)
     }
 
     /// What the remove of a path takes from the text after those elements went, if a table or an element goes with its

@@ -9,6 +9,7 @@ pub mod SetDocument
 pub mod SetValid
 pub mod Moves
 pub mod HeadersGo
+pub mod HeadersSay
 pub mod PutLines
 pub mod InsertLaw
 pub mod Bridge

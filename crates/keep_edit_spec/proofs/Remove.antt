@@ -11,6 +11,7 @@ pub mod RemoveWhole
 pub mod Shift
 pub mod ShiftPrefixes
 pub mod KeyvalMentions
+pub mod PartsGo
 pub mod ShiftLines
 pub mod ShiftMentioned
 pub mod ElementTree

@@ -95,6 +95,8 @@ pub use Rattle.keep_edit_spec.proofs.Lists.InsertLists.{run_goes_on_inserted}
 pub use Rattle.keep_edit_spec.proofs.Rename.KeyTexts.{one_key}
 pub use Rattle.keep_edit_spec.proofs.Lists.ItemRunLaws.{item_run_goes_on, none_is_item_run}
 pub use Rattle.keep_edit_spec.proofs.Lists.EntryEditRuns.{entry_lawful, run_goes_on_by_entry}
+pub use Rattle.keep_edit_spec.proofs.Lists.ElementRunLaws.{element_run_goes_on, element_run_goes_on_by_entry}
+pub use Rattle.keep_edit_spec.proofs.Lists.ElementRunLaws.{element_run_goes_on_without, run_is_element_run}
 pub use Rattle.keep_edit_spec.proofs.Lists.EntryEdits.{still_makes_set}
 pub use Rattle.keep_edit_spec.proofs.Lists.EntryChanges.{entry_change_is_set}
 pub use Rattle.keep_edit_spec.proofs.Lists.SetBytes.{set_bytes}
@@ -118,3 +120,5 @@ pub use Rattle.keep_edit_spec.proofs.Remove.RemoveLinePlace.{IsCleared, IsOwnLin
 pub use Rattle.keep_edit_spec.proofs.Remove.RemoveLinePlace.{lines_split, page_line, rest_valid, tail_lines, without}
 pub use Rattle.keep_edit_spec.proofs.Remove.RemoveLinePlace.{head_text, line_value, own_line}
 pub use Rattle.keep_edit_spec.proofs.Remove.RemoveSectionPlace.{none_some}
+pub use Rattle.keep_edit_spec.proofs.Lists.ElementRunLaws.{element_run_goes_on, element_run_goes_on_by_entry}
+pub use Rattle.keep_edit_spec.proofs.Lists.ElementRunLaws.{element_run_goes_on_without, run_is_element_run}

@@ -34,3 +34,4 @@ pub mod InsertLists
 pub mod DottedLines
 pub mod BroughtHeaders
 pub mod InsertKinds
+pub mod ElementRuns

@@ -5,6 +5,7 @@ ghost use Rattle.keep_edit_spec.specs.AppendedHeaders as appended;
 ghost use Rattle.keep_edit_spec.specs.AppendedStatements as headers;
 ghost use Rattle.keep_edit_spec.specs.BroughtHeaders as brought;
 ghost use Rattle.keep_edit_spec.specs.DottedLines as dotted;
+ghost use Rattle.keep_edit_spec.specs.ElementRuns as elements;
 ghost use Rattle.keep_edit_spec.specs.EntryChanges as parts;
 ghost use Rattle.keep_edit_spec.specs.EntryEdits as entries;
 ghost use Rattle.keep_edit_spec.specs.InsertLists as inserts;
@@ -177,6 +178,18 @@ pub fn removes_take_headers()
     ensures still { taken.StillRemovesHeader }
     ensures none { taken.NoneIsHeaderRun }
     ensures run { taken.HeaderRunGoesOn }
+{}
+
+/// A `remove` of an element of an array of tables, or of a table, with its header makes the same change after any edit
+/// of a run that is elsewhere than in the array, and such an edit after it. So edits of all kinds between which
+/// elements go are known by the document before them.
+pub fn elements_go_in_runs()
+    ensures still { elements.StillMakesChangeWithout }
+    ensures after { elements.StillRemovesHeaderAfter }
+    ensures known { elements.RunIsElementRun }
+    ensures run { elements.ElementRunGoesOn }
+    ensures entry { elements.ElementRunGoesOnByEntry }
+    ensures without { elements.ElementRunGoesOnWithout }
 {}
 
 /// An insert or a `remove` of an item makes what the `set` of its array makes, and one of a key in an inline table what

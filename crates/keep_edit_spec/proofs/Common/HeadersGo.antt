@@ -28,11 +28,11 @@ abbrev pub Goes : (List Part → Type 0) → (List Part → List Part) → Readi
 Goes D f r u [] = ⊤
 Goes D f r u (l ∷ ls) = HeaderGoes D f r u l × Goes D f (after_line r l) (after_line u l) ls
 
-abbrev last_or : Bool → Option ℕ → Option ℕ
+abbrev pub last_or : Bool → Option ℕ → Option ℕ
 last_or b o = elim o [ Some n ↦ Some (suc n) | None ↦ cond b (Some zero) None ]
 
 module _ (D : List Part → Type 0) (f : List Part → List Part) (inj : IsInjectiveOn D f) where
-  same_goes : (a b : List Part) → D a → D b → same_path (f a) (f b) ≡ same_path a b
+  pub same_goes : (a b : List Part) → D a → D b → same_path (f a) (f b) ≡ same_path a b
   same_goes a b da db = by (same_path a b) (same_path (f a) (f b)) refl refl
     where
       by : (u v : Bool) → same_path a b ≡ u → same_path (f a) (f b) ≡ v → same_path (f a) (f b) ≡ same_path a b

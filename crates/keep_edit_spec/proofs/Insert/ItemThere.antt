@@ -101,7 +101,7 @@ pub record IsItemPath (path : List Part) (n : ℕ) (ms : List Mention) : Type 0 
   pub whole : path ≡ without_last path ++ index n ∷ []
   pub is_array : fact_at (without_last path) ms ≡ Some fact.array
 
-last_is : (path : List Part) (x : Part) → last_part path ≡ Some x → path ≡ without_last path ++ x ∷ []
+pub last_is : (path : List Part) (x : Part) → last_part path ≡ Some x → path ≡ without_last path ++ x ∷ []
 last_is [] x e = absurd cc
 last_is (p ∷ []) x e = let k : p ≡ x = cc in ap (λ (y : Part). y ∷ []) k
 last_is (p ∷ q ∷ ps) x e = ap (λ (l : List Part). p ∷ l) (last_is (q ∷ ps) x e)

@@ -1,11 +1,12 @@
 -- An insert that adds a line adds the same one in another document, if its holder stays, it is not refused there, and
 -- the holder's body ends where the change moves it.
 --
--- It adds its line at that end, where the line begins (`place_now`). Where the document says the same but for a run at
--- another path and under it, as that path's own line is, or its table, the holder is a node still, since a body of it
--- ends (NewHolder). So it is the holder, and the insert is not refused (KeysAfterCut).
+-- It adds its line at that end, where the line begins (`place_now`). Where the document says the same but at another
+-- path and under it, as without that path's own line, or its table, the holder is a node still, since a body of it ends
+-- (NewHolder). So it is the holder, and the insert is not refused (SaidBeside).
 --
--- Theorems: `adds_there`; `adds_again`: in a document that says the same but for a run at another path and under it.
+-- Theorems: `adds_there`; `adds_beside_said`: in a document that says the same but at another path and under it;
+-- `adds_again`: where only a run there is gone.
 use Rattle.std.proofs.Common.{◌≡◌, ℕ, suc, ◌<◌, ◌≤◌, true, List, ◌∷◌, ◌++◌, length, map, take, sym, ap, ◌∙◌}
 use Rattle.std.proofs.Common.{length-append, Some, None, ◌⊎◌}
 use Rattle.keep_types.specs.declared.leaf.Profile.{Profile}
@@ -22,10 +23,10 @@ use Rattle.keep_edit_spec.specs.Look.{holder}
 use Rattle.keep_edit_spec.specs.Refusals.{refusal}
 use Rattle.keep_edit_spec.specs.TextChanges.{TextChange, moved, moved_by}
 use Rattle.keep_edit_spec.proofs.Common.Cuts.{IsCut}
-use Rattle.keep_edit_spec.proofs.Lists.KeysAfterCut.{holder_cut, refusal_cut}
 use Rattle.keep_edit_spec.proofs.Lists.NewHolder.{body_node}
 use Rattle.keep_edit_spec.proofs.Lists.NewPaths.{InsertsKeys, line_keys}
 use Rattle.keep_edit_spec.proofs.Lists.Places.{item_none, line_is, place_is}
+use Rattle.keep_edit_spec.proofs.Lists.SaidBeside.{IsSaidBeside, holder_beside, refusal_beside, said_of_cut}
 
 module _ (profile : Profile) (limit : ℕ) (s now : Document) (other : List Part) (more : Value) (m : TextChange)
     (k : AddsLine profile limit s other more m) (j : ℕ) (ends : end_of now (holder other (mentions_in s)) ≡ Some j)
@@ -68,8 +69,23 @@ module _ (profile : Profile) (limit : ℕ) (s now : Document) (other : List Part
     ap (λ (q : List Part). take (suc (length q)) other) holds,
   )
 
--- ---- where only a run of mentions at that path and under it is gone, and on the way there
+-- ---- in a document that says the same but at a zone's path and under it
 
+pub adds_beside_said : (profile : Profile) (limit : ℕ) (s : Document) (zone : List Part) (now : Document)
+    → IsSaidBeside zone (mentions_in s) (mentions_in now) → (other : List Part) (more : Value) (m : TextChange)
+    → AddsLine profile limit s other more m → strip zone other ≡ None → (j : ℕ)
+    → end_of now (holder other (mentions_in s)) ≡ Some j → j ≤ length now.ended → (c : TextChange)
+    → line_start now j ≡ moved_by c m.at → newline_of now ≡ newline_of s → (0 < j) ⊎ (value_depth more ≡ 0)
+    → AddsLineStill profile limit s now other more (moved c m)
+adds_beside_said profile limit s zone now said other more m k clear j ends closed c at same newline =
+    let its : InsertsKeys profile limit s other more = line_keys profile limit s other more m k in
+    let node : is_node (holder other (mentions_in s)) (mentions_in now) ≡ true =
+    body_node now (holder other (mentions_in s)) j ends in
+    adds_there profile limit s now other more m k j ends closed c at same
+    (holder_beside profile limit s zone now said other more its clear node)
+    (refusal_beside profile limit s zone now said other more its clear node) newline
+
+-- where only a run of mentions at that path and under it is gone, and on the way there
 pub adds_again : (profile : Profile) (limit : ℕ) (s : Document) (path : List Part) (now : Document)
     → IsCut path (mentions_in s) (mentions_in now) → (other : List Part) (more : Value) (m : TextChange)
     → AddsLine profile limit s other more m → strip path other ≡ None → (j : ℕ)
@@ -77,9 +93,5 @@ pub adds_again : (profile : Profile) (limit : ℕ) (s : Document) (path : List P
     → line_start now j ≡ moved_by c m.at → newline_of now ≡ newline_of s → (0 < j) ⊎ (value_depth more ≡ 0)
     → AddsLineStill profile limit s now other more (moved c m)
 adds_again profile limit s path now cut other more m k clear j ends closed c at same newline =
-    let its : InsertsKeys profile limit s other more = line_keys profile limit s other more m k in
-    let node : is_node (holder other (mentions_in s)) (mentions_in now) ≡ true =
-    body_node now (holder other (mentions_in s)) j ends in
-    adds_there profile limit s now other more m k j ends closed c at same
-    (holder_cut profile limit s path now cut other more its clear node)
-    (refusal_cut profile limit s path now cut other more its clear node) newline
+    adds_beside_said profile limit s path now (said_of_cut path (mentions_in s) (mentions_in now) cut) other more m k
+    clear j ends closed c at same newline

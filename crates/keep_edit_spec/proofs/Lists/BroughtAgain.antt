@@ -2,12 +2,12 @@
 -- header defines and no dotted keys make, it is not refused, and the body of the last header that goes through the
 -- table ends where the change moves it.
 --
--- Then the same three lines come after that body (BroughtLines), at the moved place (`place_now`). Where only a run at
--- another path and under it is gone, the table is a node still, since a header goes through it (NewHolder). So it is
--- the holder, and the insert is not refused (KeysAfterCut).
+-- Then the same three lines come after that body (BroughtLines), at the moved place (`place_now`). Where the document
+-- says the same but at another path and under it, the table is a node still, since a header goes through it
+-- (NewHolder). So it is the holder, and the insert is not refused (SaidBeside).
 --
--- Theorems: `brought_again`; `brought_cut`: in a document that says the same but for a run at another path and under
--- it.
+-- Theorems: `brought_again`; `brought_said`: in a document that says the same but at another path and under it;
+-- `brought_cut`: where only a run there is gone.
 use Rattle.std.proofs.Common.{◌≡◌, ℕ, ◌≤◌, true, List, ◌∷◌, ◌++◌, length, map, take, sym, ap, ◌∙◌, length-append}
 use Rattle.std.proofs.Common.{Some, None}
 use Rattle.keep_types.specs.declared.leaf.Profile.{Profile}
@@ -28,10 +28,10 @@ use Rattle.keep_edit_spec.specs.TextChanges.{TextChange, moved, moved_by}
 use Rattle.keep_edit_spec.proofs.Common.Cuts.{IsCut}
 use Rattle.keep_edit_spec.proofs.Lists.BroughtAllowed.{brought_keys}
 use Rattle.keep_edit_spec.proofs.Lists.BroughtLines.{brings_at, header_lines, new_is}
-use Rattle.keep_edit_spec.proofs.Lists.KeysAfterCut.{holder_cut, refusal_cut}
 use Rattle.keep_edit_spec.proofs.Lists.NewHolder.{through_node}
 use Rattle.keep_edit_spec.proofs.Lists.NewPaths.{InsertsKeys}
 use Rattle.keep_edit_spec.proofs.Lists.Places.{puts_place}
+use Rattle.keep_edit_spec.proofs.Lists.SaidBeside.{IsSaidBeside, holder_beside, refusal_beside, said_of_cut}
 
 -- The last header that goes through the table, in another document, where no header defines the table and no dotted
 -- keys make it: a newline ends the line before the end of its body.
@@ -102,11 +102,16 @@ module _ (profile : Profile) (limit : ℕ) (s now : Document) (other : List Part
       holds,
     )
 
+  -- in a document that says the same but at a zone's path and under it
+  pub brought_said : (zone : List Part) → IsSaidBeside zone (mentions_in s) (mentions_in now) → strip zone other ≡ None
+      → StillBrings profile limit s now other more (moved c d)
+  brought_said zone said clear =
+      let its : InsertsKeys profile limit s other more = brought_keys profile limit s other more d k in
+      let node : is_node a (mentions_in now) ≡ true = through_node now a j there.last in
+      brought_again (holder_beside profile limit s zone now said other more its clear node)
+      (refusal_beside profile limit s zone now said other more its clear node)
+
   -- where only a run of mentions at that path and under it is gone, and on the way there
   pub brought_cut : (path : List Part) → IsCut path (mentions_in s) (mentions_in now) → strip path other ≡ None
       → StillBrings profile limit s now other more (moved c d)
-  brought_cut path cut clear =
-      let its : InsertsKeys profile limit s other more = brought_keys profile limit s other more d k in
-      let node : is_node a (mentions_in now) ≡ true = through_node now a j there.last in
-      brought_again (holder_cut profile limit s path now cut other more its clear node)
-      (refusal_cut profile limit s path now cut other more its clear node)
+  brought_cut path cut clear = brought_said path (said_of_cut path (mentions_in s) (mentions_in now) cut) clear

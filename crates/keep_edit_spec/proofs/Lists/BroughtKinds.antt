@@ -15,7 +15,6 @@ use Rattle.keep_edit_spec.specs.Laws.{IsEditable}
 use Rattle.keep_edit_spec.specs.Lines.{newline_of}
 use Rattle.keep_edit_spec.specs.Look.{holder}
 use Rattle.keep_edit_spec.specs.RemovedLines.{RemovesLine}
-use Rattle.keep_edit_spec.specs.RemovedSections.{RemovesSection}
 use Rattle.keep_edit_spec.specs.RenamedKeys.{RenamesKey}
 use Rattle.keep_edit_spec.specs.Runs.{AreApart, PassesBy}
 use Rattle.keep_edit_spec.specs.SetValues.{SetsValue}
@@ -54,14 +53,6 @@ ClearAfterBrought =
     → IsEditable profile limit s → BringsHeader profile limit s path value c → ClearsLine profile limit s other d
     → AreApart (first_new s path) other → IsBeside c d
     → ClearsLine profile limit (edited_document s (insert path value)) other (moved c d)
-
-abbrev pub SectionAfterBrought : Type 0
-SectionAfterBrought =
-    (profile : Profile) (limit : ℕ) (s : Document) (path : List Part) (value : Value) (c : TextChange)
-    (other : List Part) (d : TextChange)
-    → IsEditable profile limit s → BringsHeader profile limit s path value c → RemovesSection profile limit s other d
-    → AreApart (first_new s path) other → IsBeside c d
-    → RemovesSection profile limit (edited_document s (insert path value)) other (moved c d)
 
 abbrev pub TableAfterBrought : Type 0
 TableAfterBrought =
@@ -131,15 +122,6 @@ BroughtAfterClear =
     (profile : Profile) (limit : ℕ) (s : Document) (path : List Part) (c : TextChange)
     (other : List Part) (more : Value) (d : TextChange)
     → IsEditable profile limit s → ClearsLine profile limit s path c → BringsHeader profile limit s other more d
-    → AreApart path (first_new s other) → IsBeside c d
-    → newline_of (edited_document s (remove path)) ≡ newline_of s → c.at + c.size ≢ d.at
-    → StillBrings profile limit s (edited_document s (remove path)) other more (moved c d)
-
-abbrev pub BroughtAfterSection : Type 0
-BroughtAfterSection =
-    (profile : Profile) (limit : ℕ) (s : Document) (path : List Part) (c : TextChange)
-    (other : List Part) (more : Value) (d : TextChange)
-    → IsEditable profile limit s → RemovesSection profile limit s path c → BringsHeader profile limit s other more d
     → AreApart path (first_new s other) → IsBeside c d
     → newline_of (edited_document s (remove path)) ≡ newline_of s → c.at + c.size ≢ d.at
     → StillBrings profile limit s (edited_document s (remove path)) other more (moved c d)

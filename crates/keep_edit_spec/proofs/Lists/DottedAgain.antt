@@ -2,10 +2,12 @@
 -- stays, it is not refused there, and the last line that leads through the holder is in the same body.
 --
 -- Its key goes by what is left of the path after that body, as before (`changed_now`). So the same bytes come where the
--- next line begins (`place_now`). Where only a run at another path and under it is gone, the holder is a node still,
--- since that line leads through it (NewHolder). So it is the holder, and the insert is not refused (KeysAfterCut).
+-- next line begins (`place_now`). Where the document says the same but at another path and under it, the holder is a
+-- node still, since that line leads through it (NewHolder). So it is the holder, and the insert is not refused
+-- (SaidBeside).
 --
--- Theorems: `dotted_again`; `dotted_cut`: in a document that says the same but for a run at another path and under it.
+-- Theorems: `dotted_again`; `dotted_said`: in a document that says the same but at another path and under it;
+-- `dotted_cut`: where only a run there is gone.
 use Rattle.std.proofs.Common.{◌≡◌, ℕ, suc, ◌≤◌, true, List, [], ◌∷◌, ◌++◌, length, map, take, drop, sym, ap, ◌∙◌}
 use Rattle.std.proofs.Common.{length-append, Some, None}
 use Rattle.keep_types.specs.declared.leaf.Profile.{Profile}
@@ -26,10 +28,10 @@ use Rattle.keep_edit_spec.proofs.Common.Cuts.{IsCut}
 use Rattle.keep_edit_spec.proofs.Insert.InsertDotted.{change_there}
 use Rattle.keep_edit_spec.proofs.Lists.DottedLine as line
 use Rattle.keep_edit_spec.proofs.Lists.DottedLine.{line_is, no_item, written}
-use Rattle.keep_edit_spec.proofs.Lists.KeysAfterCut.{holder_cut, refusal_cut}
 use Rattle.keep_edit_spec.proofs.Lists.NewHolder.{lead_node}
 use Rattle.keep_edit_spec.proofs.Lists.NewPaths.{InsertsKeys, dotted_keys}
 use Rattle.keep_edit_spec.proofs.Lists.Places.{put_place}
+use Rattle.keep_edit_spec.proofs.Lists.SaidBeside.{IsSaidBeside, holder_beside, refusal_beside, said_of_cut}
 
 -- The last line that leads through the holder, in another document: no header begins a body of the holder there, the
 -- line is in the same body as the one before, a newline ends it, and the next line begins where the change moves it.
@@ -100,11 +102,16 @@ module _ (profile : Profile) (limit : ℕ) (s now : Document) (other : List Part
       ap (λ (q : List Part). take (suc (length q)) other) holds,
     )
 
+  -- in a document that says the same but at a zone's path and under it
+  pub dotted_said : (zone : List Part) → IsSaidBeside zone (mentions_in s) (mentions_in now) → strip zone other ≡ None
+      → StillAdds true profile limit s now other more (moved c d)
+  dotted_said zone said clear =
+      let its : InsertsKeys profile limit s other more = dotted_keys profile limit s other more d k in
+      let node : is_node a (mentions_in now) ≡ true = lead_node now a j there.last in
+      dotted_again (holder_beside profile limit s zone now said other more its clear node)
+      (refusal_beside profile limit s zone now said other more its clear node)
+
   -- where only a run of mentions at that path and under it is gone, and on the way there
   pub dotted_cut : (path : List Part) → IsCut path (mentions_in s) (mentions_in now) → strip path other ≡ None
       → StillAdds true profile limit s now other more (moved c d)
-  dotted_cut path cut clear =
-      let its : InsertsKeys profile limit s other more = dotted_keys profile limit s other more d k in
-      let node : is_node a (mentions_in now) ≡ true = lead_node now a j there.last in
-      dotted_again (holder_cut profile limit s path now cut other more its clear node)
-      (refusal_cut profile limit s path now cut other more its clear node)
+  dotted_cut path cut clear = dotted_said path (said_of_cut path (mentions_in s) (mentions_in now) cut) clear

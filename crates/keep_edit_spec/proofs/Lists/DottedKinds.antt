@@ -12,7 +12,6 @@ use Rattle.keep_edit_spec.specs.Edits.{append_element, append_table, edited_docu
 use Rattle.keep_edit_spec.specs.Laws.{IsEditable}
 use Rattle.keep_edit_spec.specs.Lines.{newline_of}
 use Rattle.keep_edit_spec.specs.RemovedLines.{RemovesLine}
-use Rattle.keep_edit_spec.specs.RemovedSections.{RemovesSection}
 use Rattle.keep_edit_spec.specs.RenamedKeys.{RenamesKey}
 use Rattle.keep_edit_spec.specs.Runs.{AreApart, PassesBy}
 use Rattle.keep_edit_spec.specs.SetValues.{SetsValue}
@@ -50,15 +49,6 @@ DottedAfterClear =
     (profile : Profile) (limit : ℕ) (s : Document) (path : List Part) (c : TextChange)
     (other : List Part) (more : Value) (d : TextChange)
     → IsEditable profile limit s → ClearsLine profile limit s path c → AddsDotted profile limit s other more d
-    → AreApart path (first_new s other) → IsBeside c d
-    → newline_of (edited_document s (remove path)) ≡ newline_of s → c.at + c.size ≢ d.at
-    → StillAdds true profile limit s (edited_document s (remove path)) other more (moved c d)
-
-abbrev pub DottedAfterSection : Type 0
-DottedAfterSection =
-    (profile : Profile) (limit : ℕ) (s : Document) (path : List Part) (c : TextChange)
-    (other : List Part) (more : Value) (d : TextChange)
-    → IsEditable profile limit s → RemovesSection profile limit s path c → AddsDotted profile limit s other more d
     → AreApart path (first_new s other) → IsBeside c d
     → newline_of (edited_document s (remove path)) ≡ newline_of s → c.at + c.size ≢ d.at
     → StillAdds true profile limit s (edited_document s (remove path)) other more (moved c d)

@@ -13,8 +13,8 @@ use Rattle.keep_types.specs.declared.leaf.Profile.{Profile}
 use Rattle.keep_syntax.specs.Tree.{Written, Gap, Content, Line, Document}
 use Rattle.keep_path.specs.Path.{Part, strip}
 use Rattle.keep_meaning.specs.Marks.{Mention, Reading, elements_of, header_path, start}
-use Rattle.keep_meaning.specs.Meaning.{after_line, further_value, key_value, keys_of, line_of, lines, lines_mentions}
-use Rattle.keep_meaning.specs.Meaning.{mentions_in, reading_after_lines}
+use Rattle.keep_meaning.specs.Meaning.{after_line, further_value, key_value, keys_of, line_mentions, line_of, lines}
+use Rattle.keep_meaning.specs.Meaning.{lines_mentions, mentions_in, reading_after_lines}
 use Rattle.keep_meaning.specs.Nodes.{has, is_passed, is_through}
 use Rattle.keep_edit_spec.specs.Laws.{IsEditable}
 use Rattle.keep_edit_spec.specs.Lines.{body_length}
@@ -24,6 +24,7 @@ use Rattle.keep_edit_spec.specs.TextChanges.{TextChange}
 use Rattle.keep_edit_spec.proofs.Common.Cuts.{IsCut}
 use Rattle.keep_edit_spec.proofs.Common.FromMarksLines.{path_ends}
 use Rattle.keep_edit_spec.proofs.Common.HeadersGo.{Goes, goes_bodies, goes_still, with_body}
+use Rattle.keep_edit_spec.proofs.Common.HeadersSay.{Says, says_bodies}
 use Rattle.keep_edit_spec.proofs.Common.LineLaws.{EndsInKey, lines_mentions-append}
 use Rattle.keep_edit_spec.proofs.Common.Moves.{IsInjectiveOn, moved}
 use Rattle.keep_edit_spec.proofs.Common.Runs.{AllOf, IsDisjoint, Rules, all_join}
@@ -32,11 +33,13 @@ use Rattle.keep_edit_spec.proofs.Lists.HeaderTaken.{IsHeaderTaken, element_ends,
 use Rattle.keep_edit_spec.proofs.Lists.HeaderTaken.{table_is, table_taken}
 use Rattle.keep_edit_spec.proofs.Lists.SectionAt.{IsSectionAt, lines_were}
 use Rattle.keep_edit_spec.proofs.Lists.SectionsApart.{after, body_keeps, more, more_left, r, without}
+use Rattle.keep_edit_spec.proofs.Remove.PartsGo.{PartsGo, parts_bodies, parts_still}
 use Rattle.keep_edit_spec.proofs.Remove.RemoveElement.{IsElementCut, IsElementLine, begins_element, element_cut}
-use Rattle.keep_edit_spec.proofs.Remove.RemoveSection.{IsSection, begins_section, section_cut}
+use Rattle.keep_edit_spec.proofs.Remove.RemoveSection.{IsSection, begins_section, body_is, section_cut}
 use Rattle.keep_edit_spec.proofs.Remove.Shift.{disjoint_root, element_at, shifted, shifted-injective, shifted_root}
 
--- Paths go where `f` takes them, those that pass `D` to different ones.
+-- Paths go where `f` takes them, those that pass `D` to different ones; so do those of the key parts of headers after
+-- it, and of what those say. `mid` is what the others said, read with it.
 pub record IsLeft (D : List Part → Type 0) (f : List Part → List Part) (s : Document) (path : List Part)
     (at : IsSectionAt s path) : Type 0 where
   pub inj : IsInjectiveOn D f
@@ -44,7 +47,12 @@ pub record IsLeft (D : List Part → Type 0) (f : List Part → List Part) (s : 
   pub root_stays : f [] ≡ []
   pub before : Goes D f start start (map line_of at.first)
   pub behind : Goes D f (after_line (r s path at) at.head.line) (r s path at) (more s path at)
+  pub says : Says D f (after_line (r s path at) at.head.line) (r s path at) (more s path at)
+  pub parts : PartsGo D f (after_line (r s path at) at.head.line) (r s path at) (more s path at)
   pub mid : List Mention
+  pub mid_is : mid
+      ≡ lines_mentions start (map line_of at.first)
+      ++ lines_mentions (after_line (r s path at) at.head.line) (more s path at)
   pub cut : IsCut path (mentions_in s) mid
   pub said : mentions_in (without s path at) ≡ map (moved f) mid
   pub apart : AllOf (λ m. D m.path) mid
@@ -73,6 +81,11 @@ all_apart : (ms : List Mention) → AllOf (λ (m : Mention). ⊤) ms
 all_apart [] = tt
 all_apart (m ∷ ms) = (tt, all_apart ms)
 
+says_still : (r : Reading) (ls : List Line) → Says (λ q. ⊤) (λ q. q) r r ls
+says_still r [] = tt
+says_still r (l ∷ ls) =
+    ((λ e. (sym (map_still (line_mentions r l)), all_apart (line_mentions r l))), says_still (after_line r l) ls)
+
 module _ (profile : Profile) (limit : ℕ) (s : Document) (path : List Part) (c : TextChange)
     (fine : IsEditable profile limit s) (h : RemovesSection profile limit s path c) where
   abbrev taken : IsHeaderTaken profile limit s path c
@@ -87,11 +100,11 @@ module _ (profile : Profile) (limit : ℕ) (s : Document) (path : List Part) (c 
   abbrev x : Reading
   x = r s path at
 
-  pub its : IsSection x path at.head.line.content
+  its : IsSection x path at.head.line.content
   its = begins_section path x at.head.line.before at.head.line.after at.head.line.comment at.head.line.content ends
       at.passes
 
-  pub after_is : after_line x at.head.line ≡ with_body path x
+  after_is : after_line x at.head.line ≡ with_body path x
   after_is = by at.head.line.before at.head.line.after at.head.line.comment at.head.line.content its
     where
       by : (before after : Gap) (comment : Option Written) (c : Content) → IsSection x path c
@@ -138,7 +151,16 @@ module _ (profile : Profile) (limit : ℕ) (s : Document) (path : List Part) (c 
     before = goes_still start pre;
     behind = subst (λ (u : Reading). Goes (λ q. ⊤) (λ q. q) u x (more s path at)) (sym after_is)
         (goes_bodies (λ q. ⊤) (λ q. q) path x.body x x (more s path at) (goes_still x (more s path at)));
+    says = subst (λ (u : Reading). Says (λ q. ⊤) (λ q. q) u x (more s path at)) (sym after_is)
+        (says_bodies (λ q. ⊤) (λ q. q) path x.body x x (more s path at) (says_still x (more s path at)));
+    parts = subst (λ (u : Reading). PartsGo (λ q. ⊤) (λ q. q) u x (more s path at)) (sym after_is)
+        (parts_bodies (λ q. ⊤) (λ q. q) path x.body x x (more s path at) (parts_still x (more s path at)));
     mid = mentions_in (without s path at);
+    mid_is = said_without s path at
+        ∙ ap (λ (ms : List Mention). lines_mentions start pre ++ ms)
+        (sym ((body_is (with_body path x) post).further x.body)
+        ∙ ap (lines_mentions (with_body path x)) (more_left s path at)
+        ∙ ap (λ (u : Reading). lines_mentions u (more s path at)) (sym after_is));
     cut = cut;
     said = sym (map_still (mentions_in (without s path at)));
     apart = all_apart (mentions_in (without s path at));
@@ -215,7 +237,14 @@ module _ (profile : Profile) (limit : ℕ) (s : Document) (path : List Part) (c 
     before = its_cut.before;
     behind = subst (λ (ls : List Line). Goes stays goes (after_line y here.head.line) y ls) (more_left s path here)
         its_cut.behind;
+    says = subst (λ (ls : List Line). Says stays goes (after_line y here.head.line) y ls) (more_left s path here)
+        its_cut.says;
+    parts = subst (λ (ls : List Line). PartsGo stays goes (after_line y here.head.line) y ls) (more_left s path here)
+        its_cut.parts;
     mid = its_cut.mid;
+    mid_is = its_cut.mid_is
+        ∙ ap (λ (ls : List Line).
+        lines_mentions start ahead ++ lines_mentions (after_line y here.head.line) ls) (more_left s path here);
     cut = subst (λ (q : List Part). IsCut q (mentions_in s) its_cut.mid) path_is
         (subst (λ (ms : List Mention). IsCut (element_at array number) ms its_cut.mid)
         (sym (ap (lines_mentions start) (lines_were s path here))) its_cut.cut);

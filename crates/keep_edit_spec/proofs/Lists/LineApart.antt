@@ -17,12 +17,12 @@ use Rattle.keep_meaning.specs.Marks.{Mention, MentionKind, Reading, below, start
 use Rattle.keep_meaning.specs.Meaning.{after_line, keyval_mentions, line_mentions, line_of, lines, lines_mentions}
 use Rattle.keep_meaning.specs.Meaning.{mentions_in, reading_after_lines}
 use Rattle.keep_meaning.specs.Nodes.{is_define}
-use Rattle.keep_edit_spec.specs.ClearedLines.{line_start}
+use Rattle.keep_edit_spec.specs.ClearedLines.{ClearsLine, line_start}
 use Rattle.keep_edit_spec.specs.Laws.{IsEditable}
 use Rattle.keep_edit_spec.specs.Lines.{last_line}
+use Rattle.keep_edit_spec.specs.RemovedLines.{RemovesLine}
 use Rattle.keep_edit_spec.specs.RemovedSections.{RemovesSection}
 use Rattle.keep_edit_spec.specs.Runs.{AreApart}
-use Rattle.keep_edit_spec.proofs.Lists.SectionKinds.{ClearedApart, LineApart}
 use Rattle.keep_edit_spec.specs.TextChanges.{IsBeside, TextChange}
 use Rattle.keep_edit_spec.proofs.Append.AppendLaw.{reading_append}
 use Rattle.keep_edit_spec.proofs.Common.Doubles.{has_some}
@@ -34,14 +34,14 @@ use Rattle.keep_edit_spec.proofs.Common.SetDocument.{keyval_alone, mentions_of}
 use Rattle.keep_edit_spec.proofs.Common.SetLaw.{IsAloneAt}
 use Rattle.keep_edit_spec.proofs.Common.TableThere.{IsDefined}
 use Rattle.keep_edit_spec.proofs.Common.ValueThere.{some_cases}
-use Rattle.keep_edit_spec.proofs.Lists.HeaderLeft.{section_read}
+use Rattle.keep_edit_spec.proofs.Lists.HeaderLeft.{cut, section_read}
 use Rattle.keep_edit_spec.proofs.Lists.MadeChanges.{removes_there}
 use Rattle.keep_edit_spec.proofs.Lists.OwnLine as line
 use Rattle.keep_edit_spec.proofs.Lists.Places.{width_grows, width_stays}
 use Rattle.keep_edit_spec.proofs.Lists.RemovedPlaces.{end_is, mine}
-use Rattle.keep_edit_spec.proofs.Lists.SectionGone as gone
 use Rattle.keep_edit_spec.proofs.Lists.SectionsApart as section
 use Rattle.keep_edit_spec.proofs.Lists.SectionsApart.{Seam, beyond, seam_of, within}
+use Rattle.keep_edit_spec.proofs.Lists.TakenGone as gone
 use Rattle.keep_edit_spec.proofs.Remove.KeyvalMentions.{mentioned_below, mentions_keyval}
 use Rattle.keep_edit_spec.proofs.Remove.RemoveLines.{IsOwnLine}
 use Rattle.keep_edit_spec.proofs.Remove.RemoveSection.{body_is}
@@ -64,13 +64,13 @@ ends_beside c d end some e (inr (inr b)) = inl (omega (arith, e, b.1))
 module _ (profile : Profile) (limit : ℕ) (s : Document) (other : List Part) (d : TextChange)
     (fine : IsEditable profile limit s) (k : RemovesSection profile limit s other d) where
   abbrev first : List Line
-  first = gone.before profile limit s other d fine k
+  first = gone.before profile limit s other d fine (inl k)
 
   abbrev taken : List Line
-  taken = gone.taken_lines profile limit s other d fine k
+  taken = gone.taken_lines profile limit s other d fine (inl k)
 
   abbrev left : List Line
-  left = gone.after profile limit s other d fine k
+  left = gone.after profile limit s other d fine (inl k)
 
   abbrev x : Reading
   x = reading_after_lines start first
@@ -80,23 +80,23 @@ module _ (profile : Profile) (limit : ℕ) (s : Document) (other : List Part) (d
 
   -- the number of its header, and of the line after it
   abbrev number : ℕ
-  number = gone.n profile limit s other d fine k
+  number = gone.n profile limit s other d fine (inl k)
 
   abbrev end : ℕ
-  end = number + gone.gone profile limit s other d fine k
+  end = number + gone.gone profile limit s other d fine (inl k)
 
   all_apart : AllOf (IsDisjoint other) (lines_mentions start first ++ lines_mentions x left)
   all_apart =
-      let cut = gone.cut profile limit s other d fine k in
+      let left_of = cut profile limit s other d fine k in
       subst (AllOf (IsDisjoint other))
-      (sym cut.is ∙ ap (lines_mentions start) (gone.lines_are profile limit s other d fine k)
+      (sym left_of.is ∙ ap (lines_mentions start) (gone.lines_are profile limit s other d fine (inl k))
       ∙ lines_mentions-append start first left)
-      (all_join (IsDisjoint other) cut.before cut.after cut.disjoint_before cut.disjoint_after)
+      (all_join (IsDisjoint other) left_of.before left_of.after left_of.disjoint_before left_of.disjoint_after)
 
   -- the lines after it are read alike past its body
   read_alike : lines_mentions u left ≡ lines_mentions x left
   read_alike =
-      let at = gone.at profile limit s other d fine k in
+      let at = gone.at profile limit s other d fine (inl k) in
       let following : List Line = section.after s other at in
       ap (lines_mentions u) (sym (section.more_left s other at)) ∙ (body_is u following).further x.body
       ∙ ap (lines_mentions x) (section.more_left s other at)
@@ -167,7 +167,7 @@ module _ (profile : Profile) (limit : ℕ) (s : Document) (other : List Part) (d
     -- it is none of the table's lines
     not_taken : (z more : List Line) → pre ≡ first ++ z → taken ≡ z ++ l ∷ more → ⊥
     not_taken z more e g =
-        let at = gone.at profile limit s other d fine k in
+        let at = gone.at profile limit s other d fine (inl k) in
         let is : m ≡ number + length z =
         omega (
           arith,
@@ -191,21 +191,21 @@ module _ (profile : Profile) (limit : ℕ) (s : Document) (other : List Part) (d
             omega (
               arith,
               before,
-              gone.start_is profile limit s other d fine k,
+              gone.start_is profile limit s other d fine (inl k),
               width_grows profile (suc m) number s.ended fine.valid.ended (omega (arith, from)) (omega (arith, closed)),
             )
         by from to (inr past) =
             omega (
               arith,
               past,
-              gone.end_is profile limit s other d fine k,
+              gone.end_is profile limit s other d fine (inl k),
               width_stays (suc m) end s.ended to,
             )
 
     not_below : strip other path ≡ None
     not_below =
         by (seam_of first (taken ++ left) pre l post
-        (sym (gone.lines_were profile limit s other d fine k)
+        (sym (gone.lines_were profile limit s other d fine (inl k))
         ∙ line.lines_were profile limit s path m fine own closed))
       where
         later : (z : List Line) → pre ≡ first ++ z → Seam taken left z l post → strip other path ≡ None
@@ -260,13 +260,17 @@ module _ (profile : Profile) (limit : ℕ) (s : Document) (other : List Part) (d
 
 -- ---- the laws
 
-pub line_apart : LineApart
+pub line_apart : (profile : Profile) (limit : ℕ) (s : Document) (path : List Part) (c : TextChange)
+    (other : List Part) (d : TextChange) → IsEditable profile limit s → RemovesLine profile limit s path c
+    → RemovesSection profile limit s other d → IsBeside c d ⊎ IsBeside d c → AreApart path other
 line_apart profile limit s path c other d fine h k side =
     apart profile limit s other d fine k path h.number h.own h.closed
     (ends_beside c d (line_start s (suc h.number)) (removes_there profile limit s path c fine (inl h)).1
     (end_is profile limit s path c h) side)
 
-pub cleared_apart : ClearedApart
+pub cleared_apart : (profile : Profile) (limit : ℕ) (s : Document) (path : List Part) (c : TextChange)
+    (other : List Part) (d : TextChange) → IsEditable profile limit s → ClearsLine profile limit s path c
+    → RemovesSection profile limit s other d → IsBeside c d ⊎ IsBeside d c → AreApart path other
 cleared_apart profile limit s path c other d fine h k side =
     apart profile limit s other d fine k path h.number h.own h.closed
     (ends_beside c d (line_start s (suc h.number)) (removes_there profile limit s path c fine (inr (inl h))).1 h.ends

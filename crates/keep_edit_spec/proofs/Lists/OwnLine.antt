@@ -6,8 +6,8 @@
 -- in a value at a path that does not begin with its own finds nothing in it (`line_misses`).
 --
 -- Theorems: `its`, `keeps`, `lines_were`: the line and the lines beside it; `said_was`, `apart`, `cut_now`,
--- `fact_without`, `unsaid_without`: what it says; `line_misses`; `none_of_rest`, `unsaid_cut`, `kinds_cut`:
--- of what is left once a run is taken out.
+-- `fact_without`, `unsaid_without`: what it says; `line_misses`; `none_of_rest`, `kinds_cut`: of what is left
+-- once a run is taken out.
 use Rattle.std.proofs.Common.{◌≡◌, ℕ, ◌<◌, Bool, false, List, [], ◌∷◌, ◌++◌, length, map, refl, sym, ap, subst, ◌∙◌}
 use Rattle.std.proofs.Common.{Option, Some, None}
 use Rattle.std.specs.List.{list_any}
@@ -47,7 +47,7 @@ none_of_rest T (u ∷ x) y z e =
     or_from (T u) (list_any T (x ++ z)) one (none_of_rest T x y z others)
 
 -- and so of what is said once a run is taken out
-pub unsaid_cut : (T : Mention → Bool) (path : List Part) (from to : List Mention) → IsCut path from to
+unsaid_cut : (T : Mention → Bool) (path : List Part) (from to : List Mention) → IsCut path from to
     → list_any T from ≡ false → list_any T to ≡ false
 unsaid_cut T path from to c e =
     ap (list_any T) c.is ∙ none_of_rest T c.before (c.ways ++ c.run) c.after (ap (list_any T) (sym c.was) ∙ e)

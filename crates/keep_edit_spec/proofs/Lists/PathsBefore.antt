@@ -2,21 +2,24 @@
 --
 -- Theorems: `raised_goes`, `before_element`: so it is at the path of an element; `element_before`, `stays_below`,
 -- `apart_before`: which path it was, at another element or below it, anywhere in the array, and elsewhere;
--- `no_number_before`, `before_table`: by the remove of a table no path changes.
+-- `unchanged_before`: elsewhere than at the changed path and below it; `no_number_before`, `before_table`: by the
+-- remove of a table no path changes.
 use Rattle.std.proofs.Common.{◌≡◌, ℕ, ◌+◌, Bool, true, false, cond, List, [], ◌∷◌, ◌++◌, refl, sym, ap, ap₂, ◌∙◌}
 use Rattle.std.proofs.Common.{Option, Some, None, inl, inr}
 use Rattle.std.specs.Prelude.{nat_lt}
 use Rattle.std.proofs.lemmas.Bool.{cases_lt, lt-ltb, le-ltb}
 use Rattle.keep_path.specs.Path.{Part, key, index, last_part, strip, without_last}
+use Rattle.keep_edit_spec.specs.ElementRuns.{changed_path}
 use Rattle.keep_edit_spec.specs.RemovedHeaders.{path_before, raised}
 use Rattle.keep_edit_spec.proofs.Common.Cuts.{last_part-snoc, without_last-snoc}
 use Rattle.keep_edit_spec.proofs.Common.LineLaws.{EndsInKey}
 use Rattle.keep_edit_spec.proofs.Common.Runs.{strip-append, strip-sound}
 use Rattle.keep_edit_spec.proofs.Remove.RemoveInValue.{down_above, down_below}
 use Rattle.keep_edit_spec.proofs.Remove.Shift.{element_at, shifted, shifted_disjoint, shifted_under}
+use Rattle.keep_edit_spec.proofs.Lists.ChangedPath.{changed_by}
 
 -- what `raised` makes of the rest of a path
-abbrev raised_by : List Part → ℕ → List Part → Option (List Part) → List Part
+abbrev pub raised_by : List Part → ℕ → List Part → Option (List Part) → List Part
 raised_by array n path o = elim o [
   | None ↦ path
   | Some more ↦ elim more [
@@ -58,7 +61,7 @@ module _ (array : List Part) (n : ℕ) (q : List Part) where
 
 -- ---- paths before the remove of an element
 
-abbrev before_by : Option Part → List Part → List Part → List Part
+abbrev pub before_by : Option Part → List Part → List Part → List Part
 before_by o array q = elim o [ None ↦ q | Some part ↦ elim part [ key text ↦ q | index n ↦ raised array n q ] ]
 
 before_is : (array : List Part) (n : ℕ) (q : List Part) → path_before (element_at array n) q ≡ raised array n q
@@ -101,6 +104,15 @@ stays_below array n more = by more (before_is array n (array ++ more)
 pub apart_before : (array : List Part) (n : ℕ) (q : List Part) → strip array q ≡ None
     → path_before (array ++ index n ∷ []) q ≡ q
 apart_before array n q apart = before_is array n q ∙ ap (raised_by array n q) apart
+
+-- of what is elsewhere than at the changed path and below it
+pub unchanged_before : (path q : List Part) → strip (changed_path path) q ≡ None → path_before path q ≡ q
+unchanged_before path q = by (last_part path)
+  where
+    by : (o : Option Part) → strip (changed_by path o) q ≡ None → before_by o (without_last path) q ≡ q
+    by None apart = refl
+    by (Some (key text)) apart = refl
+    by (Some (index n)) apart = ap (raised_by (without_last path) n q) apart
 
 -- ---- before any other
 

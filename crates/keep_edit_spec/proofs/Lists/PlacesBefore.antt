@@ -1,8 +1,9 @@
 -- A new line or header that keeps its place after some edits keeps it after fewer of them, without one of the changes.
 --
--- What is asked is asked of each edit, of each line and of each change, so of fewer too.
+-- What is asked is asked of each edit, of each line and of each change, so of fewer too. Among edits of any kind more
+-- is asked (`keeps_place`), and nothing of a remove (`among_with_remove`).
 --
--- Theorem: `placed_before`.
+-- Theorems: `placed_before`, and among edits of any kind `among_before`; `keeps_place`, `among_with_remove`.
 use Rattle.std.proofs.Common.{◌≡◌, ℕ, ◌<◌, Bool, false, List, [], ◌∷◌, length, suc, All, ◌⊎◌, inl, inr}
 use Rattle.std.specs.Prelude.{IsTrue}
 use Rattle.std.specs.List.{list_any}
@@ -10,7 +11,9 @@ use Rattle.std.proofs.lemmas.Bool.{or_parts}
 use Rattle.std.proofs.lemmas.List.Elements.{All-cons, All-nil, All-weaker}
 use Rattle.std.proofs.lemmas.List.Folds.{list_any_none}
 use Rattle.keep_syntax.specs.Tree.{Document, text}
+use Rattle.keep_path.specs.Path.{Part}
 use Rattle.keep_edit_spec.specs.Edits.{Edit, append_element, append_table, insert, remove, rename, set}
+use Rattle.keep_edit_spec.specs.ElementRuns.{KeepsPlaceAmong}
 use Rattle.keep_edit_spec.specs.InsertKinds.{Added, IsAfterLine, added_as}
 use Rattle.keep_edit_spec.specs.Runs.{ArePlain, IsBeforeHeaders, IsInOrder, IsPlain, IsPlainBefore, KeepsPlace}
 use Rattle.keep_edit_spec.specs.Runs.{LetsCome, LetsTable, PassesTable, is_header, is_insert, takes_up_to}
@@ -73,16 +76,22 @@ module _ (s : Document) (edits fewer : List Edit) (are : (P : Edit → Type 0) �
   header_before d (inl all) = inl (are (λ x. IsTrue (is_header x)) all)
   header_before d (inr plain) = inr (clear_before bytes changes c d plain)
 
+  -- where a line can come among others
+  abbrev AreLet : List Edit → List TextChange → ℕ → Type 0
+  AreLet edits changes at =
+      ArePlain bytes changes × (All (LetsCome bytes changes at) changes × IsBeforeHeaders bytes edits at)
+
+  let_before : (at : ℕ) → AreLet edits (with_change changes c) at → AreLet fewer changes at
+  let_before at (plain, (lets, before)) =
+      (plain_before bytes changes c plain, (lets_before bytes changes c at lets, headers_before at before))
+
   pub placed_before : (f : Edit) (d : TextChange) → KeepsPlace s edits (with_change changes c) lines f d
       → KeepsPlace s fewer changes less f d
   placed_before (insert path value) d (order, h) = (
     order_before (added_as s path d) order,
     elim h [
       | inl all ↦ inl (are (λ x. IsTrue (is_insert x)) all)
-      | inr (plain, (lets, before)) ↦ inr (
-        plain_before bytes changes c plain,
-        (lets_before bytes changes c d.at lets, headers_before d.at before),
-      )
+      | inr lets ↦ inr (let_before d.at lets)
     ],
   )
   placed_before (append_table keys) d (passed, h) = (each (PassesTable keys) passed, header_before d h)
@@ -90,3 +99,44 @@ module _ (s : Document) (edits fewer : List Edit) (are : (P : Edit → Type 0) �
   placed_before (remove path) d h = tt
   placed_before (set path value) d h = tt
   placed_before (rename path name) d h = tt
+
+  pub among_before : (f : Edit) (d : TextChange) → KeepsPlaceAmong s edits (with_change changes c) lines f d
+      → KeepsPlaceAmong s fewer changes less f d
+  among_before (insert path value) d (order, lets) = (order_before (added_as s path d) order, let_before d.at lets)
+  among_before (append_table keys) d (passed, plain) =
+      (each (PassesTable keys) passed, clear_before bytes changes c d plain)
+  among_before (append_element keys) d (passed, plain) =
+      (each (PassesTable keys) passed, clear_before bytes changes c d plain)
+  among_before (remove path) d h = tt
+  among_before (set path value) d h = tt
+  among_before (rename path name) d h = tt
+
+-- ---- among edits of any kind
+
+-- What keeps its place among edits of any kind keeps it.
+pub keeps_place : (s : Document) (edits : List Edit) (changes : List TextChange) (lines : List Added) (f : Edit)
+    (d : TextChange) → KeepsPlaceAmong s edits changes lines f d → KeepsPlace s edits changes lines f d
+keeps_place s edits changes lines (insert path value) d (order, lets) = (order, inr lets)
+keeps_place s edits changes lines (append_table keys) d (passed, plain) = (passed, inr plain)
+keeps_place s edits changes lines (append_element keys) d (passed, plain) = (passed, inr plain)
+keeps_place s edits changes lines (remove path) d h = tt
+keeps_place s edits changes lines (set path value) d h = tt
+keeps_place s edits changes lines (rename path name) d h = tt
+
+-- A remove is one more of these: it writes neither a line nor a header.
+pub among_with_remove : (s : Document) (edits : List Edit) (changes : List TextChange) (lines : List Added)
+    (gone : List Part) (f : Edit) (d : TextChange)
+    → KeepsPlaceAmong s edits changes lines f d → KeepsPlaceAmong s (remove gone ∷ edits) changes lines f d
+among_with_remove s edits changes lines gone (insert path value) d (order, lets) = (
+  record {
+    after = order.after;
+    stays = order.stays;
+    passed = All-cons (LetsTable (added_as s path d)) (remove gone) edits tt order.passed;
+  },
+  lets,
+)
+among_with_remove s edits changes lines gone (append_table keys) d h = h
+among_with_remove s edits changes lines gone (append_element keys) d h = h
+among_with_remove s edits changes lines gone (remove path) d h = tt
+among_with_remove s edits changes lines gone (set path value) d h = tt
+among_with_remove s edits changes lines gone (rename path name) d h = tt

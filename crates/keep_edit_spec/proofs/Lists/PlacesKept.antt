@@ -4,9 +4,10 @@
 -- what the last edit takes or writes ends elsewhere than where it comes (`apart_now`, `not_there`), or is a line in
 -- whose place it comes (`placed_now`, `line_comes`): then what is before that line is there still (`said_now`). A line
 -- of a table which dotted keys make comes in the place of none (`line_placed`). Two lines that are in order are so
--- still, since two changes begin at one place only where they did (`order_now`).
+-- still, since two changes begin at one place only where they did (`order_now`). Of the run only its text is asked
+-- (TextsAfter), and of the edit where it changes that (`IsPlacedChange`).
 --
--- Theorem: `still_placed`.
+-- Theorems: `still_placed`; `change_placed`: an edit whose change is known changes the text so.
 use Rattle.std.proofs.Common.{◌≡◌, ◌≢◌, ℕ, ◌+◌, ◌<◌, Bool, List, [], ◌∷◌, length, refl, sym, ap, subst, ◌∙◌, arith, All}
 use Rattle.std.proofs.Common.{inl, inr, true, false, not, ◌&&◌, ◌||◌, ◌≤◌, suc}
 use Rattle.std.specs.Prelude.{IsTrue, ◌==◌, ◌⊎◌}
@@ -25,16 +26,17 @@ use Rattle.keep_edit_spec.specs.AddedLines.{first_new}
 use Rattle.keep_edit_spec.specs.InsertKinds.{Added, IsAfterAs, IsAfterLine, added_as, is_last_in_body}
 use Rattle.keep_edit_spec.specs.InsertKinds.{kind_of}
 use Rattle.keep_edit_spec.specs.AppendedHeaders.{AppendsElement, AppendsTable}
-use Rattle.keep_edit_spec.specs.Runs.{IsBeforeHeaders, IsPlain, IsPlainBefore, IsRun, IsStillPlaced, KeepsPlace}
+use Rattle.keep_edit_spec.specs.Runs.{IsBeforeHeaders, IsPlain, IsPlainBefore, IsStillPlaced, KeepsPlace}
 use Rattle.keep_edit_spec.specs.Runs.{MakesChange, is_header, is_insert, is_new_after, takes_up_to, ArePlain}
 use Rattle.keep_edit_spec.specs.Runs.{ComesInOrder, ComesInPlace, IsSeenStill, LeavesPlace, LetsCome, StaysPlaced, seen}
 use Rattle.keep_edit_spec.specs.Runs.{LetsTable, PassesBy, PassesLine, PassesTable, with_line}
-use Rattle.keep_edit_spec.specs.TextChanges.{Follow, IsBeside, TextChange, moved_past, text_with, with_change}
+use Rattle.keep_edit_spec.specs.TextChanges.{Follow, IsBeside, TextChange, moved_past, with_change}
 use Rattle.keep_edit_spec.specs.TextChanges.{change_at, moved_by_all}
 use Rattle.keep_edit_spec.proofs.Append.AppendPlace.{append_place}
 use Rattle.keep_edit_spec.proofs.Lists.PlainTexts.{plain_newline, plain_with}
 use Rattle.keep_edit_spec.proofs.Lists.TextChanges.{begins_apart, begins_at_one, end_apart, end_apart_let, moved_next}
 use Rattle.keep_edit_spec.proofs.Lists.TextChanges.{none_with, one_of_all, rest_of_all}
+use Rattle.keep_edit_spec.proofs.Lists.TextsAfter.{IsTextAfter}
 use Rattle.keep_edit_spec.specs.SaidLines.{SaysBefore}
 use Rattle.keep_edit_spec.specs.declared.line_kind.LineKind.{LineKind}
 use Rattle.keep_edit_spec.specs.declared.line_kind.LineKind.TheVariants.{LastInBody, OfDotted, WithHeader}
@@ -68,10 +70,10 @@ module _ (s : Document) (changes : List TextChange) (c : TextChange) (left : All
 abbrev range : {bytes : List ℕ} {at : ℕ} → SaysBefore bytes at → TextChange
 range b = change_at b.from (suc (length b.line)) []
 
-module _ (profile : Profile) (limit : ℕ) (s : Document) (edits : List Edit) (changes : List TextChange)
-    (lines : List Added) (now : Document) (r : IsRun profile limit s edits changes lines now) (c : TextChange)
-    (some : 0 < c.size) (within : c.at + c.size ≤ length (text s)) (left : All (λ x. IsBeside x c) changes)
-    (d : TextChange) (right : All (λ x. IsBeside x d) changes) (beside : IsBeside c d)
+module _ (profile : Profile) (limit : ℕ) (s : Document) (changes : List TextChange) (now : Document)
+    (r : IsTextAfter profile limit s changes now) (c : TextChange) (some : 0 < c.size)
+    (within : c.at + c.size ≤ length (text s)) (left : All (λ x. IsBeside x c) changes) (d : TextChange)
+    (right : All (λ x. IsBeside x d) changes) (beside : IsBeside c d)
     (lets : All (LetsCome (text s) (with_change changes c) d.at) (with_change changes c)) where
   abbrev all : List TextChange
   all = with_change changes c
@@ -188,7 +190,12 @@ header_other e f line head new = by (is_header e) (is_insert f) (is_header f) li
     by true false true line head new = absurd cc
     by false false true line head new = refl
 
--- An edit of a run other than an insert takes bytes, or writes a header at the end.
+-- Where an edit changes the text: within it; and one that is no insert takes bytes, or writes a header at the end.
+pub record IsPlacedChange (s : Document) (e : Edit) (c : TextChange) : Type 0 where
+  pub within : c.at + c.size ≤ length (text s)
+  pub takes : is_insert e ≡ false
+      → (0 < c.size) ⊎ ((is_header e ≡ true) × ((c.size ≡ 0) × (c.at ≡ length (text s))))
+
 takes_or_ends : (profile : Profile) (limit : ℕ) (s : Document) (e : Edit) (c : TextChange) → IsEditable profile limit s
     → MakesChange profile limit s e c → is_insert e ≡ false
     → (0 < c.size) ⊎ ((is_header e ≡ true) × ((c.size ≡ 0) × (c.at ≡ length (text s))))
@@ -200,6 +207,13 @@ takes_or_ends profile limit s (append_table keys) c fine h other =
     inr (refl, (h.adds, table_at_end profile limit s keys c fine h))
 takes_or_ends profile limit s (append_element keys) c fine h other =
     inr (refl, (h.adds, element_at_end profile limit s keys c fine h))
+
+pub change_placed : (profile : Profile) (limit : ℕ) (s : Document) (e : Edit) (c : TextChange)
+    → IsEditable profile limit s → MakesChange profile limit s e c → IsPlacedChange s e c
+change_placed profile limit s e c fine h = record {
+  within = within_text profile limit s e c fine h;
+  takes = takes_or_ends profile limit s e c fine h;
+}
 
 not_after : (bytes : List ℕ) (e : Edit) (edits : List Edit) (at : ℕ) → IsBeforeHeaders bytes (e ∷ edits) at
     → is_header e ≡ true → at ≢ length bytes
@@ -248,63 +262,60 @@ passes_now s now path value c d keys (first, kind) passes = λ is.
 -- ---- after an edit of a run
 
 module _ (profile : Profile) (limit : ℕ) (s : Document) (edits : List Edit) (changes : List TextChange)
-    (lines : List Added) (now : Document) (r : IsRun profile limit s edits changes lines now) (e : Edit)
+    (lines : List Added) (now : Document) (r : IsTextAfter profile limit s changes now) (e : Edit)
     (c : TextChange) where
   -- where newlines are alike
-  same_newline : IsEditable profile limit (edited_document now e)
-      → text (edited_document now e) ≡ text_with 0 (text s) (with_change changes c)
+  same_newline : IsTextAfter profile limit s (with_change changes c) (edited_document now e)
       → ArePlain (text s) (with_change changes c) → newline_of (edited_document now e) ≡ newline_of now
-  same_newline fine same (plain, new) =
-      plain_newline profile limit (edited_document now e) fine
-      (subst IsPlain (sym same) (plain_with (text s) (with_change changes c) plain new))
+  same_newline next (plain, new) =
+      plain_newline profile limit (edited_document now e) next.editable
+      (subst IsPlain (sym next.text) (plain_with (text s) (with_change changes c) plain new))
       ∙ sym (plain_newline profile limit now r.editable
       (subst IsPlain (sym r.text) (plain_with (text s) changes plain (rest_of_all (λ x. IsPlain x.new) changes c new))))
 
   -- what it takes or writes ends elsewhere than where a header comes
-  apart_now : MakesChange profile limit s e c → All (λ x. IsBeside x c) changes → (d : TextChange)
+  apart_now : IsPlacedChange s e c → All (λ x. IsBeside x c) changes → (d : TextChange)
       → All (λ x. IsBeside x d) changes → IsBeside c d → IsPlainBefore (text s) (with_change changes c) d.at
       → is_header e ≡ false → is_insert e ≡ false → (moved_past changes c).at + c.size ≢ (moved_past changes d).at
-  apart_now makes left d right beside plain no_header other =
-      elim (takes_or_ends profile limit s e c r.first makes other) [
+  apart_now placed left d right beside plain no_header other =
+      elim (placed.takes other) [
         | inl some ↦ taken_apart s changes c left r.follow some d right beside plain
         | inr (head, there) ↦ (let both : true ≡ false = sym head ∙ no_header in absurd cc)
       ]
 
   -- a header after an edit of another kind
-  header_placed : (f : Edit) → is_insert f ≡ false → is_header f ≡ true → MakesChange profile limit s e c
+  header_placed : (f : Edit) → is_insert f ≡ false → is_header f ≡ true → IsPlacedChange s e c
       → All (λ x. IsBeside x c) changes → (d : TextChange) → All (λ x. IsBeside x d) changes → IsBeside c d
-      → IsEditable profile limit (edited_document now e)
-      → text (edited_document now e) ≡ text_with 0 (text s) (with_change changes c)
+      → IsTextAfter profile limit s (with_change changes c) (edited_document now e)
       → All (λ x. IsTrue (is_header x)) (seen s e ∷ edits) ⊎ IsPlainBefore (text s) (with_change changes c) d.at
       → IsTrue (is_new_after e f) → StaysPlaced now e (moved_past changes c) f (moved_past changes d)
-  header_placed f line head makes left d right beside fine same k new =
+  header_placed f line head placed left d right beside next k new =
       let no_header : is_header e ≡ false = header_other e f line head new in
       elim k [
         | inl all ↦ absurd (none_other is_header (seen s e) edits (header_seen s e ∙ no_header) all)
         | inr plain ↦ (
-          same_newline fine same plain.0,
-          λ other. inl (apart_now makes left d right beside plain no_header other),
+          same_newline next plain.0,
+          λ other. inl (apart_now placed left d right beside plain no_header other),
         )
       ]
 
   -- and elsewhere than where a line comes, or this comes in the place of what it takes
-  placed_now : MakesChange profile limit s e c → All (λ x. IsBeside x c) changes → (path : List Part) (value : Value)
+  placed_now : IsPlacedChange s e c → All (λ x. IsBeside x c) changes → (path : List Part) (value : Value)
       (d : TextChange) → All (λ x. IsBeside x d) changes → IsBeside c d
       → All (LetsCome (text s) (with_change changes c) d.at) (with_change changes c)
       → (is_header e ≡ true → d.at ≢ length (text s)) → is_insert e ≡ false → kind_of now path ≡ LastInBody
       → ((moved_past changes c).at + c.size ≢ (moved_past changes d).at)
       ⊎ ComesInPlace now (moved_past changes c) (insert path value) (moved_past changes d)
-  placed_now makes left path value d right beside lets before other ends =
-      elim (takes_or_ends profile limit s e c r.first makes other) [
+  placed_now placed left path value d right beside lets before other ends =
+      elim (placed.takes other) [
         | inl some ↦
-            line_comes profile limit s edits changes lines now r c some (within_text profile limit s e c r.first makes)
-            left d right beside lets path value ends
+            line_comes profile limit s changes now r c some placed.within left d right beside lets path value ends
         | inr (head, (zero_size, end)) ↦ inl
             (header_apart s changes c left r.follow zero_size end d right (before head))
       ]
 
   -- an insert, of which it is known where it comes
-  module _ (path : List Part) (value : Value) (d : TextChange) (makes : MakesChange profile limit s e c)
+  module _ (path : List Part) (value : Value) (d : TextChange) (placed : IsPlacedChange s e c)
       (left : All (λ x. IsBeside x c) changes) (right : All (λ x. IsBeside x d) changes) (beside : IsBeside c d)
       (seen_there : IsSeenStill s now (insert path value))
       (k : KeepsPlace s (seen s e ∷ edits) (with_change changes c) (with_line s e c lines) (insert path value) d) where
@@ -324,7 +335,7 @@ module _ (profile : Profile) (limit : ℕ) (s : Document) (edits : List Edit) (c
             ⊎ ComesInPlace now (moved_past changes c) (insert path value) (moved_past changes d)
         elsewhere differs =
             let clear = none_with (takes_up_to d.at) changes c (k.0.stays differs) in
-            elim (takes_or_ends profile limit s e c r.first makes other) [
+            elim (placed.takes other) [
               | inl some ↦ inl
                   (end_apart changes c d r.follow left right clear.1 beside (ends_elsewhere d.at c some clear.0))
               | inr (head, (zero_size, end)) ↦ inl
@@ -334,7 +345,7 @@ module _ (profile : Profile) (limit : ℕ) (s : Document) (edits : List Edit) (c
         by : (a : LineKind) → kind_of s path ≡ a
             → ((moved_past changes c).at + c.size ≢ (moved_past changes d).at)
             ⊎ ComesInPlace now (moved_past changes c) (insert path value) (moved_past changes d)
-        by LastInBody is = placed_now makes left path value d right beside lets not_last other (seen_there.1 ∙ is)
+        by LastInBody is = placed_now placed left path value d right beside lets not_last other (seen_there.1 ∙ is)
         by OfDotted is = elsewhere (λ last. (let both : OfDotted ≡ LastInBody = sym is ∙ last in absurd cc))
         by WithHeader is = elsewhere (λ last. (let both : WithHeader ≡ LastInBody = sym is ∙ last in absurd cc))
 
@@ -382,30 +393,29 @@ module _ (profile : Profile) (limit : ℕ) (s : Document) (edits : List Edit) (c
 
   -- what another writes anew keeps its place
   pub still_placed : (f : Edit) (d : TextChange)
-      → MakesChange profile limit s e c → IsSeenStill s now e → IsSeenStill s now f
+      → IsPlacedChange s e c → IsSeenStill s now e → IsSeenStill s now f
       → All (λ x. IsBeside x c) changes → All (λ x. IsBeside x d) changes
-      → IsBeside c d → IsEditable profile limit (edited_document now e)
-      → text (edited_document now e) ≡ text_with 0 (text s) (with_change changes c)
+      → IsBeside c d → IsTextAfter profile limit s (with_change changes c) (edited_document now e)
       → KeepsPlace s (seen s e ∷ edits) (with_change changes c) (with_line s e c lines) f d
       → IsStillPlaced now e (moved_past changes c) f (moved_past changes d)
-  still_placed (insert path value) d makes seen_e seen_f left right beside fine same k = (
+  still_placed (insert path value) d placed seen_e seen_f left right beside next k = (
     λ new. elim k.1 [
       | inl all ↦ absurd (none_other is_insert (seen s e) edits (insert_seen s e ∙ insert_other e path value new) all)
       | inr (plain, (lets, before)) ↦ (
-        same_newline fine same plain,
-        line_placed path value d makes left right beside seen_f k lets before,
+        same_newline next plain,
+        line_placed path value d placed left right beside seen_f k lets before,
       )
     ],
-    lines_ordered path value d makes left right beside seen_f k seen_e,
+    lines_ordered path value d placed left right beside seen_f k seen_e,
   )
-  still_placed (append_table keys) d makes seen_e seen_f left right beside fine same k = (
-    header_placed (append_table keys) refl refl makes left d right beside fine same k.1,
+  still_placed (append_table keys) d placed seen_e seen_f left right beside next k = (
+    header_placed (append_table keys) refl refl placed left d right beside next k.1,
     line_passed seen_e keys k.0,
   )
-  still_placed (append_element keys) d makes seen_e seen_f left right beside fine same k = (
-    header_placed (append_element keys) refl refl makes left d right beside fine same k.1,
+  still_placed (append_element keys) d placed seen_e seen_f left right beside next k = (
+    header_placed (append_element keys) refl refl placed left d right beside next k.1,
     line_passed seen_e keys k.0,
   )
-  still_placed (remove path) d makes seen_e seen_f left right beside fine same k = (λ new. absurd cc, tt)
-  still_placed (set path value) d makes seen_e seen_f left right beside fine same k = (λ new. absurd cc, tt)
-  still_placed (rename path name) d makes seen_e seen_f left right beside fine same k = (λ new. absurd cc, tt)
+  still_placed (remove path) d placed seen_e seen_f left right beside next k = (λ new. absurd cc, tt)
+  still_placed (set path value) d placed seen_e seen_f left right beside next k = (λ new. absurd cc, tt)
+  still_placed (rename path name) d placed seen_e seen_f left right beside next k = (λ new. absurd cc, tt)

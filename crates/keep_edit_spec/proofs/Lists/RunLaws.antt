@@ -1,35 +1,29 @@
 -- Runs of edits that are known by the document before them: the law of one more.
 --
 -- What `later` says of one edit is that of the first document, where the changes move its own. So the edit is not
--- refused; by the law of its kind the document after it is editable, and its text has the change put in there
--- (`text_with_one`). An edit that it leaves alone, and that makes a change beside it, makes it still (StillMakes),
--- moved once more (`moved_with`). Both are seen after the run as they were seen before it. Bytes that no change touches
--- move alike (`rest_stays`). A new line or header keeps its place (PlacesKept), and kept it before that edit
+-- refused, and the text has the change put in there (`text_with_edit`). An edit that it leaves alone, and that makes a
+-- change beside it, makes it still (StillMakes), moved once more (`moved_with`): `later_still`. Both are seen after the
+-- run as they were seen before it. A new line or header keeps its place (PlacesKept), and kept it before that edit
 -- (PlacesBefore).
 --
--- Theorems: `none_is_run`, `run_goes_on`; `same_seen`: as others see an edit.
-use Rattle.std.proofs.Common.{◌≡◌, ℕ, List, [], ◌∷◌, refl, sym, ap, subst, subst₂, ◌∙◌, arith, All, take, drop, ap₂}
-use Rattle.std.proofs.Common.{◌+◌}
+-- Theorems: `none_is_run`, `run_goes_on`; `text_with_edit`, `later_still`: an edit that makes its change after a run,
+-- and another after it; `seen_on`, `same_seen`: as others see an edit; `lines_before`.
+use Rattle.std.proofs.Common.{◌≡◌, ℕ, List, [], ◌∷◌, refl, sym, ap, subst, subst₂, ◌∙◌, arith, All, take, drop}
 use Rattle.std.proofs.lemmas.List.Elements.{All-head, All-tail}
+use Rattle.keep_types.specs.declared.leaf.Profile.{Profile}
 use Rattle.keep_syntax.specs.Tree.{Document, text}
 use Rattle.keep_path.specs.Path.{Part}
-use Rattle.keep_edit_spec.specs.Changed.{put}
 use Rattle.keep_edit_spec.specs.InsertKinds.{Added, added_as}
 use Rattle.keep_edit_spec.specs.Edits.{Edit, append_element, append_table, edited_document, insert, remove, rename, set}
-use Rattle.keep_edit_spec.specs.Laws.{IsEditable, IsLawfulEdit}
-use Rattle.keep_edit_spec.specs.Runs.{IsOfPlace, IsSeenStill, LeavesAlone, MakesChange, NoneIsRun, RunGoesOn}
-use Rattle.keep_edit_spec.specs.Runs.{seen, with_line}
-use Rattle.keep_edit_spec.specs.TextChanges.{IsBeside, moved_by_all, moved_past, place_of_change, text_with}
-use Rattle.keep_edit_spec.specs.TextChanges.{with_change, TextChange, moved_by}
-use Rattle.keep_edit_spec.proofs.EditLaws.{change_put}
-use Rattle.keep_edit_spec.proofs.Lists.TextChanges.{beside_past, follow_with, moved_with, one_of_all, rest_of_all}
-use Rattle.keep_edit_spec.proofs.Lists.TextChanges.{text_with_one}
-use Rattle.keep_edit_spec.proofs.Lists.WiderChanges.{rest_stays}
-use Rattle.keep_edit_spec.proofs.Lists.MadeChanges.{change_allowed, change_is_there, change_lawful, change_puts}
-use Rattle.keep_edit_spec.proofs.Lists.MadeChanges.{within_text}
+use Rattle.keep_edit_spec.specs.Runs.{IsSeenStill, KeepsPlace, LeavesAlone, MakesChange, NoneIsRun, RunGoesOn, seen}
+use Rattle.keep_edit_spec.specs.Runs.{with_line}
+use Rattle.keep_edit_spec.specs.TextChanges.{IsBeside, TextChange, moved_by_all, moved_past, with_change}
+use Rattle.keep_edit_spec.proofs.Lists.TextChanges.{beside_past, moved_with, one_of_all, rest_of_all}
+use Rattle.keep_edit_spec.proofs.Lists.MadeChanges.{change_allowed, change_is_there, within_text}
 use Rattle.keep_edit_spec.proofs.Lists.StillMakes.{still_makes}
+use Rattle.keep_edit_spec.proofs.Lists.TextsAfter.{IsTextAfter, made_puts, of_run, text_goes_on}
 use Rattle.keep_edit_spec.proofs.Lists.PlacesBefore.{placed_before}
-use Rattle.keep_edit_spec.proofs.Lists.PlacesKept.{still_placed}
+use Rattle.keep_edit_spec.proofs.Lists.PlacesKept.{change_placed, still_placed}
 
 -- ---- as others see an edit
 
@@ -41,7 +35,7 @@ seen_here s (remove path) = tt
 seen_here s (append_table keys) = tt
 seen_here s (append_element keys) = tt
 
-seen_on : (s now then : Document) (e : Edit) → IsSeenStill s now e → IsSeenStill now then e → IsSeenStill s then e
+pub seen_on : (s now then : Document) (e : Edit) → IsSeenStill s now e → IsSeenStill now then e → IsSeenStill s then e
 seen_on s now then (insert path value) h k = (k.0 ∙ h.0, k.1 ∙ h.1)
 seen_on s now then (set path value) h k = tt
 seen_on s now then (rename path name) h k = tt
@@ -58,7 +52,7 @@ same_seen s now (append_table keys) h = refl
 same_seen s now (append_element keys) h = refl
 
 -- what holds of all lines holds of those before the last edit
-lines_before : (P : Added → Type 0) (s : Document) (e : Edit) (c : TextChange) (lines : List Added)
+pub lines_before : (P : Added → Type 0) (s : Document) (e : Edit) (c : TextChange) (lines : List Added)
     → All P (with_line s e c lines) → All P lines
 lines_before P s (insert path value) c lines h = All-tail P (added_as s path c) lines h
 lines_before P s (set path value) c lines h = h
@@ -85,59 +79,61 @@ none_is_run profile limit s editable = record {
 
 -- ---- one more
 
+-- an edit that makes its change after a run, as before it
+module _ (profile : Profile) (limit : ℕ) (s : Document) (edits : List Edit) (changes : List TextChange)
+    (lines : List Added) (now : Document) (e : Edit) (c : TextChange) (r : IsTextAfter profile limit s changes now)
+    (makes : MakesChange profile limit s e c) (beside : All (λ d. IsBeside d c) changes)
+    (is_now : MakesChange profile limit now e (moved_past changes c)) (seen_now : IsSeenStill s now e) where
+  pub text_with_edit : IsTextAfter profile limit s (with_change changes c) (edited_document now e)
+  text_with_edit =
+      text_goes_on profile limit s changes now e c r (within_text profile limit s e c r.first makes) beside
+      (made_puts profile limit now e (moved_past changes c) r.editable is_now)
+
+  -- another that makes its change after the run does so after this one, too
+  pub later_still : (f : Edit) (d : TextChange) → MakesChange profile limit now f (moved_past changes d)
+      → IsSeenStill s now f → LeavesAlone (seen s e) (seen s f) → All (λ x. IsBeside x d) (with_change changes c)
+      → KeepsPlace s (seen s e ∷ edits) (with_change changes c) (with_line s e c lines) f d
+      → MakesChange profile limit (edited_document now e) f (moved_past (with_change changes c) d)
+      × IsSeenStill s (edited_document now e) f
+  later_still f d makes_now seen_there alone beside' placed =
+      let others : All (λ x. IsBeside x d) changes = rest_of_all (λ x. IsBeside x d) changes c beside' in
+      let one : IsBeside c d = one_of_all (λ x. IsBeside x d) changes c beside' in
+      let left : LeavesAlone (seen now e) (seen now f) =
+      subst₂ (λ (a b : Edit). LeavesAlone a b) (sym (same_seen s now e seen_now)) (sym (same_seen s now f seen_there))
+      alone in
+      let (still, same) =
+      still_makes profile limit now e (moved_past changes c) f (moved_past changes d) r.editable is_now makes_now
+      left (beside_past changes c d r.follow beside others one)
+      (still_placed profile limit s edits changes lines now r e c f d
+      (change_placed profile limit s e c r.first makes) seen_now seen_there beside others one text_with_edit
+      placed) in (
+        subst (MakesChange profile limit (edited_document now e) f)
+            (sym (moved_with changes c d r.follow beside others one)) still,
+        seen_on s now (edited_document now e) f seen_there same,
+      )
+
 pub run_goes_on : RunGoesOn
 run_goes_on profile limit s edits changes lines now e c r makes alone beside placed =
     let (is_now, seen_now) = r.later e c makes alone beside placed in
-    let is : IsOfPlace now e (moved_past changes c) =
-    change_is_there profile limit now e (moved_past changes c) r.editable is_now in
-    let lawful : IsLawfulEdit profile limit now e =
-    change_lawful profile limit now e (moved_past changes c) r.editable is_now in
-    let fine : IsEditable profile limit (edited_document now e) =
-    record { valid = lawful.reads.valid; shallow = lawful.reads.shallow; obeys = lawful.obeys } in
-    let text_is : text (edited_document now e) ≡ text_with 0 (text s) (with_change changes c) =
-    change_put now e ∙ change_puts profile limit now e (moved_past changes c) r.editable is_now
-    ∙ ap (λ (t : List ℕ). put t (place_of_change (moved_past changes c))) r.text
-    ∙ sym (text_with_one (text s) changes c
-    (within_text profile limit s e c r.first makes) r.follow beside) in
+    let before : IsTextAfter profile limit s changes now = of_run profile limit s edits changes lines now r in
+    let after : IsTextAfter profile limit s (with_change changes c) (edited_document now e) =
+    text_with_edit profile limit s edits changes lines now e c before makes beside is_now seen_now in
     record {
       allowed = change_allowed profile limit now e (moved_past changes c) is_now;
-      is = is;
+      is = change_is_there profile limit now e (moved_past changes c) r.editable is_now;
       run = record {
-        first = r.first;
-        editable = fine;
-        follow = follow_with 0 changes c (omega arith) r.follow beside;
-        text = text_is;
-        kept = λ z beside' few.
-            let others : All (λ x. IsBeside x z) changes = rest_of_all (λ x. IsBeside x z) changes c beside' in
-            let one : IsBeside c z = one_of_all (λ x. IsBeside x z) changes c beside' in
-            let there : TextChange = moved_past changes c in
-            let at : moved_by_all (with_change changes c) z.at ≡ moved_by there (moved_by_all changes z.at) + 0 =
-            ap (λ (x : TextChange). x.at) (moved_with changes c z r.follow beside others one) ∙ omega arith in
-            ap₂ (λ (n : ℕ) (t : List ℕ). take z.size (drop n t)) at
-            (change_put now e ∙ change_puts profile limit now e there r.editable is_now)
-            ∙ rest_stays (text now) there (moved_past changes z) 0 z.size (omega arith)
-            (within_text profile limit now e there r.editable is_now)
-            (beside_past changes c z r.follow beside others one)
-            ∙ ap (λ (n : ℕ). take z.size (drop n (text now))) (omega arith)
-            ∙ r.kept z others few;
+        first = after.first;
+        editable = after.editable;
+        follow = after.follow;
+        text = after.text;
+        kept = after.kept;
         later = λ f d makes' alone' beside' placed'.
             let others : All (λ x. IsBeside x d) changes = rest_of_all (λ x. IsBeside x d) changes c beside' in
-            let one : IsBeside c d = one_of_all (λ x. IsBeside x d) changes c beside' in
             let (makes_now, seen_there) =
             r.later f d makes' (All-tail (λ x. LeavesAlone x (seen s f)) (seen s e) edits alone') others
             (placed_before s (seen s e ∷ edits) edits (λ P. All-tail P (seen s e) edits) (with_line s e c lines) lines
             (λ P. lines_before P s e c lines) changes c f d placed') in
-            let left : LeavesAlone (seen now e) (seen now f) =
-            subst₂ (λ (a b : Edit). LeavesAlone a b) (sym (same_seen s now e seen_now))
-            (sym (same_seen s now f seen_there)) (All-head (λ x. LeavesAlone x (seen s f)) (seen s e) edits alone') in
-            let (still, same) =
-            still_makes profile limit now e (moved_past changes c) f (moved_past changes d) r.editable is_now makes_now
-            left (beside_past changes c d r.follow beside others one)
-            (still_placed profile limit s edits changes lines now r e c f d makes seen_now seen_there beside others one
-            fine text_is placed') in (
-              subst (MakesChange profile limit (edited_document now e) f)
-                  (sym (moved_with changes c d r.follow beside others one)) still,
-              seen_on s now (edited_document now e) f seen_there same,
-            );
+            later_still profile limit s edits changes lines now e c before makes beside is_now seen_now f d makes_now
+            seen_there (All-head (λ x. LeavesAlone x (seen s f)) (seen s e) edits alone') beside' placed';
       };
     }

@@ -4,25 +4,25 @@
 -- writes has bytes (GivenBytes). Others see the edit as before: an insert as one of the same first new key.
 --
 -- Theorem: `still_makes`.
-use Rattle.std.proofs.Common.{◌≡◌, ◌≢◌, ℕ, ◌+◌, Bool, true, false, List, refl, sym, ap, ◌∙◌, arith}
-use Rattle.std.proofs.Common.{inl, inr, length, subst, suc, take}
+use Rattle.std.proofs.Common.{◌≡◌, ◌≢◌, ℕ, Bool, true, false, List, refl, sym, ap, subst, ◌∙◌, arith, inl, inr}
 use Rattle.keep_types.specs.declared.leaf.Profile.{Profile}
 use Rattle.keep_syntax.specs.Tree.{Document, Value}
 use Rattle.keep_path.specs.Path.{Part, beside}
 use Rattle.keep_meaning.specs.Meaning.{mentions_in}
-use Rattle.keep_edit_spec.specs.AddedLines.{AddsLine, AddsLineStill, first_new}
+use Rattle.keep_edit_spec.specs.AddedLines.{first_new}
+use Rattle.keep_edit_spec.specs.BroughtHeaders.{BringsHeader}
 use Rattle.keep_edit_spec.specs.ClearedLines.{ClearsLine}
-use Rattle.keep_edit_spec.specs.BroughtHeaders.{BringsHeader, StillBrings}
-use Rattle.keep_edit_spec.specs.DottedLines.{AddsDotted, AddsLineTo, AreInOrder, StillAdds, added_at}
-use Rattle.keep_edit_spec.specs.InsertKinds.{AddsAs, IsAfterAs, added_as, is_last_in_body, kind_of}
+use Rattle.keep_edit_spec.specs.DottedLines.{AddsLineTo, AreInOrder, added_at}
 use Rattle.keep_edit_spec.specs.Edits.{Edit, append_element, append_table, edited_document, insert, place, remove}
 use Rattle.keep_edit_spec.specs.Edits.{rename, set}
+use Rattle.keep_edit_spec.specs.ElementRuns.{IsElsewhere, changed_path}
+use Rattle.keep_edit_spec.specs.InsertKinds.{AddsAs, IsAfterAs, added_as, kind_of}
 use Rattle.keep_edit_spec.specs.Laws.{IsEditable}
 use Rattle.keep_edit_spec.specs.Look.{holder}
 use Rattle.keep_edit_spec.specs.RemovedLines.{RemovesLine}
 use Rattle.keep_edit_spec.specs.RemovedSections.{RemovesSection}
-use Rattle.keep_edit_spec.specs.Runs.{AreApart, IsStillPlaced, LeavesAlone, MakesChange, StillMakesChange, ComesInPlace}
-use Rattle.keep_edit_spec.specs.Runs.{IsSeenStill, PassesBy, PassesTable, ends_body, seen}
+use Rattle.keep_edit_spec.specs.Runs.{AreApart, IsStillPlaced, LeavesAlone, MakesChange, PassesBy, PassesTable}
+use Rattle.keep_edit_spec.specs.Runs.{StillMakesChange, seen}
 use Rattle.keep_edit_spec.specs.TextChanges.{IsBeside, TextChange, moved}
 use Rattle.keep_edit_spec.specs.declared.line_kind.LineKind.{LineKind}
 use Rattle.keep_edit_spec.specs.declared.line_kind.LineKind.TheVariants.{LastInBody, OfDotted, WithHeader}
@@ -31,83 +31,62 @@ use Rattle.keep_edit_spec.proofs.Lists.BroughtAfterHeader.{brought_after_element
 use Rattle.keep_edit_spec.proofs.Lists.BroughtAfterLine.{brought_after_line}
 use Rattle.keep_edit_spec.proofs.Lists.BroughtAfterRemove.{brought_after_clear, brought_after_remove}
 use Rattle.keep_edit_spec.proofs.Lists.BroughtAfterRename.{brought_after_rename}
-use Rattle.keep_edit_spec.proofs.Lists.BroughtAfterSection.{brought_after_section}
 use Rattle.keep_edit_spec.proofs.Lists.BroughtAfterSet.{brought_after_set}
 use Rattle.keep_edit_spec.proofs.Lists.ClearAfterRename.{clear_after_rename}
 use Rattle.keep_edit_spec.proofs.Lists.DottedAfterClear.{dotted_after_clear}
 use Rattle.keep_edit_spec.proofs.Lists.DottedAfterHeader.{dotted_after_element, dotted_after_table}
 use Rattle.keep_edit_spec.proofs.Lists.DottedAfterRemove.{dotted_after_remove}
 use Rattle.keep_edit_spec.proofs.Lists.DottedAfterRename.{dotted_after_rename}
-use Rattle.keep_edit_spec.proofs.Lists.DottedAfterSection.{dotted_after_section}
 use Rattle.keep_edit_spec.proofs.Lists.DottedAfterSet.{dotted_after_set}
+use Rattle.keep_edit_spec.proofs.Lists.GivenBytes.{clear_gives, rename_gives, set_gives}
+use Rattle.keep_edit_spec.proofs.Lists.HeaderAfterBrought.{element_after_brought, table_after_brought}
 use Rattle.keep_edit_spec.proofs.Lists.HeaderAfterClear.{element_after_clear, table_after_clear}
+use Rattle.keep_edit_spec.proofs.Lists.HeaderAfterInsert.{element_after_insert, table_after_insert}
+use Rattle.keep_edit_spec.proofs.Lists.HeaderAfterRemove.{element_after_remove, table_after_remove}
+use Rattle.keep_edit_spec.proofs.Lists.HeaderAfterRename.{element_after_rename, table_after_rename}
+use Rattle.keep_edit_spec.proofs.Lists.HeaderAfterSet.{element_after_set, table_after_set}
 use Rattle.keep_edit_spec.proofs.Lists.InsertAfterClear.{insert_after_clear}
+use Rattle.keep_edit_spec.proofs.Lists.InsertAfterHeader.{insert_after_element, insert_after_table}
 use Rattle.keep_edit_spec.proofs.Lists.InsertAfterRemove.{insert_after_remove}
 use Rattle.keep_edit_spec.proofs.Lists.InsertAfterRename.{insert_after_rename}
 use Rattle.keep_edit_spec.proofs.Lists.InsertAfterSet.{insert_after_set}
-use Rattle.keep_edit_spec.proofs.Lists.HeaderAfterBrought.{element_after_brought, table_after_brought}
+use Rattle.keep_edit_spec.proofs.Lists.InsertInPlace.{insert_in_place}
 use Rattle.keep_edit_spec.proofs.Lists.LineAfterBrought.{dotted_after_brought, line_after_brought}
-use Rattle.keep_edit_spec.proofs.Lists.LineKinds.{as_kind, keys_of_line, kind_is, line_kind, seen_still, table_is}
+use Rattle.keep_edit_spec.proofs.Lists.LineApart.{cleared_apart, line_apart}
+use Rattle.keep_edit_spec.proofs.Lists.LineKinds.{as_kind, keys_of_line, kind_is, line_kind, table_is}
+use Rattle.keep_edit_spec.proofs.Lists.MadeChanges.{removes_there}
+use Rattle.keep_edit_spec.proofs.Lists.MadeStill.{MakesStill, adds_still, brings_still, line_after, none_in_place}
+use Rattle.keep_edit_spec.proofs.Lists.MadeStill.{not_in_place, remove_after}
+use Rattle.keep_edit_spec.proofs.Lists.OtherHeader.{element_after_table, table_after_element}
 use Rattle.keep_edit_spec.proofs.Lists.RemoveAfterBrought.{clear_after_brought, remove_after_brought}
-use Rattle.keep_edit_spec.proofs.Lists.RenameAfterBrought.{rename_after_brought}
-use Rattle.keep_edit_spec.proofs.Lists.SectionAfterBrought.{section_after_brought}
-use Rattle.keep_edit_spec.proofs.Lists.SetAfterBrought.{set_after_brought}
-use Rattle.keep_edit_spec.proofs.Lists.StillBringsHeader.{still_brings_header}
 use Rattle.keep_edit_spec.proofs.Lists.RemoveAfterClear.{clear_after_clear, remove_after_clear}
+use Rattle.keep_edit_spec.proofs.Lists.RemoveAfterHeader.{clear_after_element, clear_after_table, remove_after_element}
+use Rattle.keep_edit_spec.proofs.Lists.RemoveAfterHeader.{remove_after_table}
 use Rattle.keep_edit_spec.proofs.Lists.RemoveAfterInsert.{clear_after_insert, remove_after_insert}
 use Rattle.keep_edit_spec.proofs.Lists.RemoveAfterRename.{remove_after_rename}
 use Rattle.keep_edit_spec.proofs.Lists.RemoveAfterSet.{clear_after_set, remove_after_set}
+use Rattle.keep_edit_spec.proofs.Lists.RemoveAfterTaken.{clear_after_taken, remove_after_taken}
+use Rattle.keep_edit_spec.proofs.Lists.RenameAfterBrought.{rename_after_brought}
 use Rattle.keep_edit_spec.proofs.Lists.RenameAfterClear.{rename_after_clear}
+use Rattle.keep_edit_spec.proofs.Lists.RenameAfterHeader.{rename_after_element, rename_after_table}
 use Rattle.keep_edit_spec.proofs.Lists.RenameAfterInsert.{rename_after_insert}
 use Rattle.keep_edit_spec.proofs.Lists.RenameAfterRemove.{rename_after_remove}
 use Rattle.keep_edit_spec.proofs.Lists.RenameAfterSet.{rename_after_set}
+use Rattle.keep_edit_spec.proofs.Lists.SetAfterBrought.{set_after_brought}
 use Rattle.keep_edit_spec.proofs.Lists.SetAfterClear.{set_after_clear}
+use Rattle.keep_edit_spec.proofs.Lists.SetAfterHeader.{set_after_element, set_after_table}
 use Rattle.keep_edit_spec.proofs.Lists.SetAfterInsert.{set_after_insert}
 use Rattle.keep_edit_spec.proofs.Lists.SetAfterRemove.{set_after_remove}
 use Rattle.keep_edit_spec.proofs.Lists.SetAfterRename.{set_after_rename}
-use Rattle.keep_edit_spec.proofs.Lists.SetAfterHeader.{set_after_element, set_after_table}
-use Rattle.keep_edit_spec.proofs.Lists.RemoveAfterHeader.{clear_after_element, clear_after_table, remove_after_element}
-use Rattle.keep_edit_spec.proofs.Lists.RemoveAfterHeader.{remove_after_table}
-use Rattle.keep_edit_spec.proofs.Lists.RenameAfterHeader.{rename_after_element, rename_after_table}
-use Rattle.keep_edit_spec.proofs.Lists.HeaderAfterSet.{element_after_set, table_after_set}
-use Rattle.keep_edit_spec.proofs.Lists.HeaderAfterRemove.{element_after_remove, table_after_remove}
-use Rattle.keep_edit_spec.proofs.Lists.InsertAfterHeader.{insert_after_element, insert_after_table}
-use Rattle.keep_edit_spec.proofs.Lists.HeaderAfterInsert.{element_after_insert, table_after_insert}
-use Rattle.keep_edit_spec.proofs.Lists.HeaderAfterRename.{element_after_rename, table_after_rename}
-use Rattle.keep_edit_spec.proofs.Lists.OtherHeader.{element_after_table, table_after_element}
-use Rattle.keep_edit_spec.proofs.Lists.HeaderAfterSection.{element_after_section, table_after_section}
-use Rattle.keep_edit_spec.proofs.Lists.InsertAfterSection.{insert_after_section}
-use Rattle.keep_edit_spec.proofs.Lists.LineApart.{cleared_apart, line_apart}
-use Rattle.keep_edit_spec.proofs.Lists.RemoveAfterSection.{clear_after_section, remove_after_section}
-use Rattle.keep_edit_spec.proofs.Lists.RenameAfterSection.{rename_after_section}
-use Rattle.keep_edit_spec.proofs.Lists.SectionAfterClear.{section_after_clear}
-use Rattle.keep_edit_spec.proofs.Lists.SectionAfterHeader.{section_after_element, section_after_table}
-use Rattle.keep_edit_spec.proofs.Lists.SectionAfterInsert.{section_after_insert}
-use Rattle.keep_edit_spec.proofs.Lists.SectionAfterRemove.{section_after_remove}
-use Rattle.keep_edit_spec.proofs.Lists.SectionAfterRename.{section_after_rename}
-use Rattle.keep_edit_spec.proofs.Lists.SectionAfterSet.{section_after_set}
-use Rattle.keep_edit_spec.proofs.Lists.SetAfterSection.{set_after_section}
 use Rattle.keep_edit_spec.proofs.Lists.StillAddsLineTo.{still_adds_line_to}
 use Rattle.keep_edit_spec.proofs.Lists.StillAppends.{still_appends_element, still_appends_table}
+use Rattle.keep_edit_spec.proofs.Lists.StillBringsHeader.{still_brings_header}
 use Rattle.keep_edit_spec.proofs.Lists.StillRemoves.{clear_after_remove, still_removes}
 use Rattle.keep_edit_spec.proofs.Lists.StillRemovesHeader.{still_removes_table}
 use Rattle.keep_edit_spec.proofs.Lists.StillRenames.{still_renames}
 use Rattle.keep_edit_spec.proofs.Lists.StillSets.{still_sets}
-use Rattle.std.specs.Prelude.{◌⊎◌}
-use Rattle.keep_edit_spec.proofs.Lists.GivenBytes.{clear_gives, rename_gives, set_gives}
-use Rattle.keep_edit_spec.proofs.Lists.InsertInPlace.{insert_in_place}
-use Rattle.keep_edit_spec.proofs.Lists.MadeChanges.{removes_there}
-
--- where no line comes in the place of one that was taken
-elsewhere : (s : Document) (c : TextChange) (f : Edit) (d : TextChange) → (ComesInPlace s c f d → ⊥)
-    → (c.at + c.size ≢ d.at) ⊎ ComesInPlace s c f d → c.at + c.size ≢ d.at
-elsewhere s c f d none (inl far) = far
-elsewhere s c f d none (inr here) = absurd (none here)
-
-not_in_place : (s : Document) (c : TextChange) (f : Edit) (d : TextChange) → ends_body s f ≡ false
-    → (c.at + c.size ≢ d.at) ⊎ ComesInPlace s c f d → c.at + c.size ≢ d.at
-not_in_place s c f d no_line =
-    elsewhere s c f d (λ here. (let both : true ≡ false = sym here.line ∙ no_line in absurd cc))
+use Rattle.keep_edit_spec.proofs.Lists.StillWithout.{still_makes_without, table_still}
+use Rattle.keep_edit_spec.proofs.Lists.TakenGone.{table_changed}
 
 -- Two removes that change lines beside one another are of two paths: of one path they would change one line.
 other_path : (profile : Profile) (limit : ℕ) (s : Document) (path : List Part) (c : TextChange) (other : List Part)
@@ -119,57 +98,6 @@ other_path profile limit s path c other d fine h k beside same =
     first.start ∙ ap (λ (p : List Part). (place s (remove p)).start) same
     ∙ sym (removes_there profile limit s other d fine k).0.start in
     elim beside [ inl ends ↦ omega (arith, ends, starts, some) | inr before ↦ omega (arith, before.0, starts) ]
-
--- A remove after an edit of another kind takes its line, leaves it with its comment, or takes its table, as before.
-remove_after : (profile : Profile) (limit : ℕ) (s now : Document) (path : List Part) (c d : TextChange)
-    → (RemovesLine profile limit s path d → RemovesLine profile limit now path (moved c d))
-    → (ClearsLine profile limit s path d → ClearsLine profile limit now path (moved c d))
-    → (RemovesSection profile limit s path d → RemovesSection profile limit now path (moved c d))
-    → MakesChange profile limit s (remove path) d → MakesChange profile limit now (remove path) (moved c d)
-remove_after profile limit s now path c d takes clears goes (inl k) = inl (takes k)
-remove_after profile limit s now path c d takes clears goes (inr (inl k)) = inr (inl (clears k))
-remove_after profile limit s now path c d takes clears goes (inr (inr k)) = inr (inr (goes k))
-
--- in another document, too, and seen as before
-abbrev MakesStill : Profile → ℕ → Document → Document → Edit → TextChange → Type 0
-MakesStill profile limit s now e c = MakesChange profile limit now e c × IsSeenStill s now e
-
-adds_still : (kind : LineKind) (profile : Profile) (limit : ℕ) (s now : Document) (path : List Part) (value : Value)
-    (c d : TextChange) → AddsAs kind profile limit s path value c
-    → AddsAs kind profile limit now path value d × (first_new now path ≡ first_new s path)
-    → MakesStill profile limit s now (insert path value) d
-adds_still kind profile limit s now path value c d was h =
-    ((kind, h.0), seen_still kind profile limit s now path value c d was h.0 h.1)
-
--- an insert that brings its header still has the same first new key
-brings_still : (profile : Profile) (limit : ℕ) (s now : Document) (path : List Part) (value : Value) (c d : TextChange)
-    → BringsHeader profile limit s path value c → StillBrings profile limit s now path value d
-    → MakesStill profile limit s now (insert path value) d
-brings_still profile limit s now path value c d was h =
-    adds_still WithHeader profile limit s now path value c d was
-    (h.0, ap (λ (table : List Part). take (suc (length table)) path) h.1)
-
--- after an edit of another kind: only a line at the end of a body comes in the place of one that was taken
-line_after : (kind : LineKind) (profile : Profile) (limit : ℕ) (s now : Document) (c : TextChange) (path : List Part)
-    (value : Value) (d : TextChange) → AddsAs kind profile limit s path value d
-    → (c.at + c.size ≢ d.at) ⊎ ComesInPlace s c (insert path value) d
-    → (AddsLine profile limit s path value d → (c.at + c.size ≢ d.at) ⊎ ComesInPlace s c (insert path value) d
-    → AddsLineStill profile limit s now path value (moved c d))
-    → (AddsDotted profile limit s path value d → c.at + c.size ≢ d.at
-    → StillAdds true profile limit s now path value (moved c d))
-    → (BringsHeader profile limit s path value d → c.at + c.size ≢ d.at
-    → StillBrings profile limit s now path value (moved c d))
-    → MakesStill profile limit s now (insert path value) (moved c d)
-line_after LastInBody profile limit s now c path value d k place line to_table brings =
-    adds_still LastInBody profile limit s now path value d (moved c d) k (line k place)
-line_after OfDotted profile limit s now c path value d k place line to_table brings =
-    adds_still OfDotted profile limit s now path value d (moved c d) k
-    (to_table k (not_in_place s c (insert path value) d
-    (ap is_last_in_body (kind_is OfDotted profile limit s path value d k)) place))
-line_after WithHeader profile limit s now c path value d k place line to_table brings =
-    brings_still profile limit s now path value d (moved c d) k
-    (brings k (not_in_place s c (insert path value) d
-    (ap is_last_in_body (kind_is WithHeader profile limit s path value d k)) place))
 
 -- headers that are appended pass by the table of one with a header
 passes_table : (profile : Profile) (limit : ℕ) (s : Document) (keys : List (List ℕ)) (path : List Part) (value : Value)
@@ -202,8 +130,8 @@ after_taken profile limit s path c (remove other) d fine h k alone beside placed
       remove_after profile limit s (edited_document s (remove path)) other c d
           (λ x. still_removes profile limit s path c other d fine h x differs)
           (λ x. clear_after_remove profile limit s path c other d fine h x differs beside)
-          (λ x. section_after_remove profile limit s path c other d fine h x
-          (line_apart profile limit s path c other d fine h x (inl beside)) beside) k,
+          (λ x. table_still profile limit s (remove path) c other d fine (inl h) x
+          (swapped path other (line_apart profile limit s path c other d fine h x (inl beside))) beside) k,
       tt,
     )
 after_taken profile limit s path c (set other more) d fine h k alone beside placed =
@@ -233,7 +161,7 @@ after_cleared profile limit s path c (insert other more) d fine h (kind, k) alon
     let newline = (placed.0 refl).0 in
     line_after kind profile limit s (edited_document s (remove path)) c other more d k ((placed.0 refl).1 refl)
     (λ x place. insert_after_clear profile limit s path c other more d fine h x alone beside newline
-    (elsewhere s c (insert other more) d (λ here. clear_gives profile limit s path c fine h here.takes) place))
+    (none_in_place s c (insert other more) d (λ here. clear_gives profile limit s path c fine h here.takes) place))
     (λ x far. dotted_after_clear profile limit s path c other more d fine h x alone beside newline far)
     (λ x far. brought_after_clear profile limit s path c other more d fine h x alone beside newline far)
 after_cleared profile limit s path c (remove other) d fine h k alone beside placed =
@@ -241,8 +169,8 @@ after_cleared profile limit s path c (remove other) d fine h k alone beside plac
       remove_after profile limit s (edited_document s (remove path)) other c d
           (λ x. remove_after_clear profile limit s path c other d fine h x differs beside)
           (λ x. clear_after_clear profile limit s path c other d fine h x differs beside)
-          (λ x. section_after_clear profile limit s path c other d fine h x
-          (cleared_apart profile limit s path c other d fine h x (inl beside)) beside) k,
+          (λ x. table_still profile limit s (remove path) c other d fine (inr (inl h)) x
+          (swapped path other (cleared_apart profile limit s path c other d fine h x (inl beside))) beside) k,
       tt,
     )
 after_cleared profile limit s path c (set other more) d fine h k alone beside placed =
@@ -263,45 +191,47 @@ after_cleared profile limit s path c (append_element more) d fine h k alone besi
   tt,
 )
 
--- after one that took a table with its header
+-- after one that took a table: the edit is elsewhere than at its path and below it, and on the way there
+without_table : (profile : Profile) (limit : ℕ) (s : Document) (path : List Part) (c : TextChange) (f : Edit)
+    (d : TextChange) → IsEditable profile limit s → RemovesSection profile limit s path c
+    → MakesChange profile limit s f d → IsElsewhere path (seen s f) → IsBeside c d → IsStillPlaced s (remove path) c f d
+    → MakesStill profile limit s (edited_document s (remove path)) f (moved c d)
+without_table profile limit s path c f d fine h k elsewhere beside placed =
+    still_makes_without profile limit s path c f d fine (inl h) k
+    (subst (λ (q : List Part). IsElsewhere q (seen s f)) (sym (table_changed profile limit s path c fine h)) elsewhere)
+    beside placed
+
+-- and so is a line that goes beside it (LineApart)
 after_section : (profile : Profile) (limit : ℕ) (s : Document) (path : List Part) (c : TextChange) (f : Edit)
     (d : TextChange) → IsEditable profile limit s → RemovesSection profile limit s path c
     → MakesChange profile limit s f d
     → LeavesAlone (remove path) (seen s f) → IsBeside c d → IsStillPlaced s (remove path) c f d
     → MakesStill profile limit s (edited_document s (remove path)) f (moved c d)
-after_section profile limit s path c (insert other more) d fine h (kind, k) alone beside placed =
-    let newline = (placed.0 refl).0 in
-    line_after kind profile limit s (edited_document s (remove path)) c other more d k ((placed.0 refl).1 refl)
-    (λ x place. insert_after_section profile limit s path c other more d fine h x alone beside newline)
-    (λ x far. dotted_after_section profile limit s path c other more d fine h x alone beside newline far)
-    (λ x far. brought_after_section profile limit s path c other more d fine h x alone beside newline far)
 after_section profile limit s path c (remove other) d fine h k alone beside placed =
     let differs : path ≢ other = other_path profile limit s path c other d fine (inr (inr h)) k beside in (
       remove_after profile limit s (edited_document s (remove path)) other c d
-          (λ x. remove_after_section profile limit s path c other d fine h x
-          (swapped other path (line_apart profile limit s other d path c fine x h (inr beside))) beside)
-          (λ x. clear_after_section profile limit s path c other d fine h x
-          (swapped other path (cleared_apart profile limit s other d path c fine x h (inr beside))) beside)
+          (λ x. remove_after_taken profile limit s path c other d fine (inl h) x
+          (there (line_apart profile limit s other d path c fine x h (inr beside))) beside)
+          (λ x. clear_after_taken profile limit s path c other d fine (inl h) x
+          (there (cleared_apart profile limit s other d path c fine x h (inr beside))) beside)
           (λ x. still_removes_table profile limit s path c fine other d differs h x) k,
       tt,
     )
+  where
+    there : AreApart other path → AreApart (changed_path path) other
+    there apart =
+        subst (λ (q : List Part). AreApart q other) (sym (table_changed profile limit s path c fine h))
+        (swapped other path apart)
+after_section profile limit s path c (insert other more) d fine h k alone beside placed =
+    without_table profile limit s path c (insert other more) d fine h k alone beside placed
 after_section profile limit s path c (set other more) d fine h k alone beside placed =
-    (set_after_section profile limit s path c other more d fine h k alone beside, tt)
-after_section profile limit s path c (rename other more) d fine h k alone beside placed = (
-  rename_after_section profile limit s path c other more d fine h k alone.0
-      (apart_renamed path other more alone.0 alone.1) beside,
-  tt,
-)
-after_section profile limit s path c (append_table more) d fine h k alone beside placed = (
-  table_after_section profile limit s path c more d fine h k (placed.0 refl).0
-      (not_in_place s c (append_table more) d refl ((placed.0 refl).1 refl)),
-  tt,
-)
-after_section profile limit s path c (append_element more) d fine h k alone beside placed = (
-  element_after_section profile limit s path c more d fine h k (placed.0 refl).0
-      (not_in_place s c (append_element more) d refl ((placed.0 refl).1 refl)),
-  tt,
-)
+    without_table profile limit s path c (set other more) d fine h k alone beside placed
+after_section profile limit s path c (rename other more) d fine h k alone beside placed =
+    without_table profile limit s path c (rename other more) d fine h k alone beside placed
+after_section profile limit s path c (append_table more) d fine h k alone beside placed =
+    without_table profile limit s path c (append_table more) d fine h k alone beside placed
+after_section profile limit s path c (append_element more) d fine h k alone beside placed =
+    without_table profile limit s path c (append_element more) d fine h k alone beside placed
 
 -- ---- after an insert that adds a line
 
@@ -354,7 +284,8 @@ after_line_to to profile limit s path value c (remove other) d fine h k alone be
   remove_after profile limit s (edited_document s (insert path value)) other c d
       (λ x. remove_after_insert profile limit s path value c to other d fine h x alone beside)
       (λ x. clear_after_insert profile limit s path value c to other d fine h x alone beside)
-      (λ x. section_after_insert profile limit s path value c to other d fine h x alone beside) k,
+      (λ x. table_still profile limit s (insert path value) c other d fine
+      (line_kind to, as_kind to profile limit s path value c h) x (swapped (first_new s path) other alone) beside) k,
   tt,
 )
 after_line_to to profile limit s path value c (set other more) d fine h k alone beside placed =
@@ -408,7 +339,8 @@ after_brought profile limit s path value c (remove other) d fine h k alone besid
   remove_after profile limit s (edited_document s (insert path value)) other c d
       (λ x. remove_after_brought profile limit s path value c other d fine h x alone beside)
       (λ x. clear_after_brought profile limit s path value c other d fine h x alone beside)
-      (λ x. section_after_brought profile limit s path value c other d fine h x alone beside) k,
+      (λ x. table_still profile limit s (insert path value) c other d fine (WithHeader, h) x
+      (swapped (first_new s path) other alone) beside) k,
   tt,
 )
 after_brought profile limit s path value c (set other more) d fine h k alone beside placed =
@@ -446,14 +378,14 @@ still_makes profile limit s (set path value) c (insert other more) d fine h (kin
     let newline = (placed.0 refl).0 in
     line_after kind profile limit s (edited_document s (set path value)) c other more d k ((placed.0 refl).1 refl)
     (λ x place. insert_after_set profile limit s path value c other more d fine h x alone beside newline
-    (elsewhere s c (insert other more) d (λ here. set_gives profile limit s path value c fine h here.takes) place))
+    (none_in_place s c (insert other more) d (λ here. set_gives profile limit s path value c fine h here.takes) place))
     (λ x far. dotted_after_set profile limit s path value c other more d fine h x alone beside newline far)
     (λ x far. brought_after_set profile limit s path value c other more d fine h x alone beside newline far)
 still_makes profile limit s (set path value) c (remove other) d fine h k alone beside placed = (
   remove_after profile limit s (edited_document s (set path value)) other c d
       (λ x. remove_after_set profile limit s path value c other d fine h x alone beside)
       (λ x. clear_after_set profile limit s path value c other d fine h x alone beside)
-      (λ x. section_after_set profile limit s path value c other d fine h x alone beside) k,
+      (λ x. table_still profile limit s (set path value) c other d fine h x (swapped path other alone) beside) k,
   tt,
 )
 still_makes profile limit s (set path value) c (set other more) d fine h k alone beside placed =
@@ -480,7 +412,8 @@ still_makes profile limit s (rename path name) c (insert other more) d fine h (k
     line_after kind profile limit s (edited_document s (rename path name)) c other more d k
     ((placed.0 refl).1 refl)
     (λ x place. insert_after_rename profile limit s path name c other more d fine h x alone.0 renamed side newline
-    (elsewhere s c (insert other more) d (λ here. rename_gives profile limit s path name c fine h here.takes) place))
+    (none_in_place s c (insert other more) d (λ here. rename_gives profile limit s path name c fine h here.takes)
+    place))
     (λ x far. dotted_after_rename profile limit s path name c other more d fine h x alone.0 renamed side newline far)
     (λ x far. brought_after_rename profile limit s path name c other more d fine h x alone.0 renamed side newline far)
 still_makes profile limit s (rename path name) c (remove other) d fine h k alone beside placed = (
@@ -489,8 +422,8 @@ still_makes profile limit s (rename path name) c (remove other) d fine h k alone
       (renamed_apart path name other alone.0 alone.1) beside)
       (λ x. clear_after_rename profile limit s path name c other d fine h x alone.0
       (renamed_apart path name other alone.0 alone.1) beside)
-      (λ x. section_after_rename profile limit s path name c other d fine h x alone.0
-      (renamed_apart path name other alone.0 alone.1) beside) k,
+      (λ x. table_still profile limit s (rename path name) c other d fine h x
+      (swapped path other alone.0, alone.1) beside) k,
   tt,
 )
 still_makes profile limit s (rename path name) c (set other more) d fine h k alone beside placed = (
@@ -515,7 +448,7 @@ still_makes profile limit s (append_table keys) c (insert other more) d fine h (
     line_after kind profile limit s (edited_document s (append_table keys)) c other more d k
     ((placed.0 refl).1 refl)
     (λ x place. insert_after_table profile limit s keys c other more d fine h x alone
-    (λ e. elsewhere s c (insert other more) d (λ here. omega (arith, here.some, h.adds)) place
+    (λ e. none_in_place s c (insert other more) d (λ here. omega (arith, here.some, h.adds)) place
     (omega (arith, e, h.adds))) newline)
     (λ x far. dotted_after_table profile limit s keys c other more d fine h x alone
     (λ e. far (omega (arith, e, h.adds))) newline)
@@ -525,7 +458,7 @@ still_makes profile limit s (append_table keys) c (remove other) d fine h k alon
   remove_after profile limit s (edited_document s (append_table keys)) other c d
       (λ x. remove_after_table profile limit s keys c other d fine h x)
       (λ x. clear_after_table profile limit s keys c other d fine h x)
-      (λ x. section_after_table profile limit s keys c other d fine h x alone) k,
+      (λ x. table_still profile limit s (append_table keys) c other d fine h x alone beside) k,
   tt,
 )
 still_makes profile limit s (append_table keys) c (set other more) d fine h k alone beside placed =
@@ -541,7 +474,7 @@ still_makes profile limit s (append_element keys) c (insert other more) d fine h
     line_after kind profile limit s (edited_document s (append_element keys)) c other more d k
     ((placed.0 refl).1 refl)
     (λ x place. insert_after_element profile limit s keys c other more d fine h x alone
-    (λ e. elsewhere s c (insert other more) d (λ here. omega (arith, here.some, h.adds)) place
+    (λ e. none_in_place s c (insert other more) d (λ here. omega (arith, here.some, h.adds)) place
     (omega (arith, e, h.adds))) newline)
     (λ x far. dotted_after_element profile limit s keys c other more d fine h x alone
     (λ e. far (omega (arith, e, h.adds))) newline)
@@ -551,7 +484,7 @@ still_makes profile limit s (append_element keys) c (remove other) d fine h k al
   remove_after profile limit s (edited_document s (append_element keys)) other c d
       (λ x. remove_after_element profile limit s keys c other d fine h x)
       (λ x. clear_after_element profile limit s keys c other d fine h x)
-      (λ x. section_after_element profile limit s keys c other d fine h x alone) k,
+      (λ x. table_still profile limit s (append_element keys) c other d fine h x alone beside) k,
   tt,
 )
 still_makes profile limit s (append_element keys) c (set other more) d fine h k alone beside placed =

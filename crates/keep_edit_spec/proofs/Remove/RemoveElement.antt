@@ -23,6 +23,7 @@ use Rattle.keep_edit_spec.specs.Lines.{drop_lines, last_line, begins, body_lengt
 use Rattle.keep_edit_spec.specs.Edits.{remove, without_lines}
 use Rattle.keep_edit_spec.specs.Trees.{IsTreeOf}
 use Rattle.keep_edit_spec.proofs.Common.HeadersGo.{Goes, goes_bodies}
+use Rattle.keep_edit_spec.proofs.Common.HeadersSay.{Says, says_bodies}
 use Rattle.keep_edit_spec.proofs.Common.Runs.{AllOf, SomeOf, pairs_split, all_left, all_right, all_join, Allowed, Rules}
 use Rattle.keep_edit_spec.proofs.Common.Runs.{kinds_allow, same_path-sound, same_path-refl, strip-append}
 use Rattle.keep_edit_spec.proofs.Common.SetLaw.{EachTo}
@@ -34,6 +35,7 @@ use Rattle.keep_edit_spec.proofs.Common.Doubles.{IsMentioned, some_has}
 use Rattle.keep_edit_spec.proofs.Common.ThroughAlone.{none_mentioned}
 use Rattle.keep_edit_spec.proofs.Append.AppendTable.{silent_prefixes}
 use Rattle.keep_edit_spec.proofs.Common.Cuts.{IsCut}
+use Rattle.keep_edit_spec.proofs.Remove.PartsGo.{PartsGo, parts_bodies}
 use Rattle.keep_edit_spec.proofs.Remove.RemoveLines.{IsRemoval, IsFound, found, without_mentions, drop_next}
 use Rattle.keep_edit_spec.proofs.Remove.RemoveSection.{body_is}
 use Rattle.keep_edit_spec.proofs.Remove.RemoveRefusal.{lines_begun, never_begun}
@@ -120,15 +122,18 @@ regroup_two : (left prefixes run right : List Mention) (d m : Mention)
     → left ++ (((prefixes ++ d ∷ []) ++ (m ∷ run)) ++ right) ≡ (left ++ prefixes) ++ (d ∷ ((m ∷ run) ++ right))
 regroup_two left prefixes run right d m = simp append_assoc refl
 
--- Of the lines before the element and of those after it, with what they say, the paths go where that function takes
--- them.
+-- Of the lines before the element and of those after it, with what they say (`mid`, as it was), the paths go where that
+-- function takes them, and so do those of the key parts of headers after it, and of what those say.
 pub record IsElementCut (p : List Part) (f : List Part → List Part) (from to : List Mention) (r u : Reading)
     (pre rest : List Line) : Type 0 where
   pub mid : List Mention
+  pub mid_is : mid ≡ lines_mentions start pre ++ lines_mentions r rest
   pub cut : IsCut p from mid
   pub is : to ≡ map (moved f) mid
   pub before : Goes (λ q. strip p q ≡ None) f start start pre
   pub behind : Goes (λ q. strip p q ≡ None) f r u rest
+  pub says : Says (λ q. strip p q ≡ None) f r u rest
+  pub parts : PartsGo (λ q. strip p q ≡ None) f r u rest
 
 pub element_cut : (pre post : List Line) (l : Line) (b : Gap) (k : Key) (a : Gap) → l.content ≡ element b k a
     → (let r : Reading = reading_after_lines start pre in
@@ -199,6 +204,12 @@ element_cut pre post l b k a e rules free =
     ))) in
     record {
       mid = left ++ right;
+      mid_is = ap (λ (ms : List Mention). left ++ ms)
+          (sym (body.further [])
+          ∙ ap (λ (c : Content).
+          lines_mentions
+          (after_line r (record { before = l.before; content = c; after = l.after; comment = l.comment })) rest)
+          (sym e));
       cut = record {
         before = left;
         ways = prefixes ++ top ∷ [];
@@ -222,6 +233,16 @@ element_cut pre post l b k a e rules free =
           (sym (ap (λ (c : Content).
           after_line r (record { before = l.before; content = c; after = l.after; comment = l.comment })) e))
           (goes_bodies (λ q. strip p q ≡ None) (shifted prefix n) p r.body outer less rest two.go);
+      says =
+          subst (λ (x : Reading). Says (λ q. strip p q ≡ None) (shifted prefix n) x r rest)
+          (sym (ap (λ (c : Content).
+          after_line r (record { before = l.before; content = c; after = l.after; comment = l.comment })) e))
+          (says_bodies (λ q. strip p q ≡ None) (shifted prefix n) p r.body outer less rest two.says);
+      parts =
+          subst (λ (x : Reading). PartsGo (λ q. strip p q ≡ None) (shifted prefix n) x r rest)
+          (sym (ap (λ (c : Content).
+          after_line r (record { before = l.before; content = c; after = l.after; comment = l.comment })) e))
+          (parts_bodies (λ q. strip p q ≡ None) (shifted prefix n) p r.body outer less rest two.parts);
     }
 
 -- ---- in the document

@@ -19,11 +19,14 @@ use Rattle.keep_meaning.specs.Marks.{define, begun, Mention, Reading, elements_o
 use Rattle.keep_meaning.specs.Meaning.{keys_of, keyval_mentions, line_mentions, after_line, lines_mentions}
 use Rattle.keep_meaning.specs.Meaning.{reading_after_lines}
 use Rattle.keep_edit_spec.specs.Look.{strip}
+use Rattle.keep_edit_spec.specs.Lines.{key_prefixes}
 use Rattle.keep_edit_spec.proofs.Common.HeadersGo.{Goes}
+use Rattle.keep_edit_spec.proofs.Common.HeadersSay.{Says}
 use Rattle.keep_edit_spec.proofs.Common.Runs.{AllOf, all_left, all_right, all_join, all_map, IsDisjoint}
 use Rattle.keep_edit_spec.proofs.Common.LineLaws.{EndsInKey}
 use Rattle.keep_edit_spec.proofs.Common.Moves.{moved}
 use Rattle.keep_edit_spec.proofs.Remove.KeyvalMentions.{starts_keyval}
+use Rattle.keep_edit_spec.proofs.Remove.PartsGo.{HeaderParts, PartsGo}
 use Rattle.keep_edit_spec.proofs.Remove.Shift.{shifted, element_at, disjoint_root, shifted_root}
 use Rattle.keep_edit_spec.proofs.Remove.ShiftPrefixes.{IsShift, NotPassed, IsWayShift, elements_more, way_shift}
 use Rattle.keep_edit_spec.proofs.Remove.ShiftLines.{IsBeside, AreShifted, IsStop, keyval_preserved, keyval_shifted}
@@ -33,6 +36,7 @@ pub record IsLineShift (prefix : List Part) (n : ℕ) (r u : Reading) (l : Line)
   pub mentioned : line_mentions u l ≡ map (moved (shifted prefix n)) (line_mentions r l)
   pub preserved : AllOf (IsDisjoint (element_at prefix n)) (line_mentions r l)
   pub next : AreShifted prefix n (after_line r l) (after_line u l)
+  pub parts : HeaderParts (λ q. strip (element_at prefix n) q ≡ None) (shifted prefix n) r u l
 
 module _ (prefix : List Part) (ends : EndsInKey prefix) (n : ℕ) (r u : Reading) (h : AreShifted prefix n r u) where
   -- a header's way and path, from the root
@@ -52,12 +56,20 @@ module _ (prefix : List Part) (ends : EndsInKey prefix) (n : ℕ) (r u : Reading
       → header_path u.tables [] keys ≡ shifted prefix n (header_path r.tables [] keys)
   path_is keys w = ap (λ (x : List Part). header_path u.tables x keys) (sym (shifted_root prefix n ends)) ∙ w.path
 
+  parts_are : (keys : List (List ℕ)) → IsWayShift prefix n r.tables u.tables [] keys
+      → map (header_path u.tables []) (key_prefixes keys)
+      ≡ map (shifted prefix n) (map (header_path r.tables []) (key_prefixes keys))
+  parts_are keys w =
+      ap (λ (x : List Part). map (header_path u.tables x) (key_prefixes keys)) (sym (shifted_root prefix n ends))
+      ∙ w.parts
+
   content_shift : (before after' : Gap) (comment : Option Written) (c : Content)
       → (let l : Line = record { before = before; content = c; after = after'; comment = comment } in
       AllOf (IsBeside prefix n) (line_mentions r l)
       → IsStop n (elements_of prefix r.tables) (elements_of prefix (after_line r l).tables)
       → IsLineShift prefix n r u l)
-  content_shift before after' comment blank all stop = record { mentioned = refl; preserved = tt; next = h }
+  content_shift before after' comment blank all stop =
+      record { mentioned = refl; preserved = tt; next = h; parts = λ e. absurd cc }
   content_shift before after' comment (keyval name v) all stop =
       let near =
       near_all prefix ends n r (record { before = before; content = keyval name v; after = after'; comment = comment })
@@ -68,6 +80,7 @@ module _ (prefix : List Part) (ends : EndsInKey prefix) (n : ℕ) (r u : Reading
             ∙ keyval_shifted prefix n r.body (keyval_mentions name v) (starts_keyval name v) near;
         preserved = keyval_preserved prefix n r.body (keyval_mentions name v) (starts_keyval name v) near h.preserved;
         next = h;
+        parts = λ e. absurd cc;
       }
   content_shift before after' comment (header b k a) all stop =
       let keys : List (List ℕ) = keys_of k in
@@ -84,6 +97,7 @@ module _ (prefix : List Part) (ends : EndsInKey prefix) (n : ℕ) (r u : Reading
             ∙ sym (map-append (moved (shifted prefix n)) prefixes end);
         preserved = all_join (IsDisjoint (element_at prefix n)) prefixes end w.way_preserved (w.path_preserved, tt);
         next = record { tables = h.tables; body = path_is keys w; preserved = w.path_preserved };
+        parts = λ e. (w.parts_preserved, parts_are keys w);
       }
   content_shift before after' comment (element b k a) all stop =
       let keys : List (List ℕ) = keys_of k in
@@ -112,6 +126,7 @@ module _ (prefix : List Part) (ends : EndsInKey prefix) (n : ℕ) (r u : Reading
           body = ap (λ (q : List Part). q ++ index (elements_of q u.tables) ∷ []) (path_is keys w) ∙ sym begins.is;
           preserved = begins.preserved;
         };
+        parts = λ e. (w.parts_preserved, parts_are keys w);
       }
     where
       subst_tables : (at to : List Part) → to ≡ shifted prefix n at
@@ -150,13 +165,22 @@ pub record AreLinesShift (prefix : List Part) (n : ℕ) (r u : Reading) (ls : Li
   pub preserved : AllOf (IsDisjoint (element_at prefix n)) (lines_mentions r ls)
   pub next : AreShifted prefix n (reading_after_lines r ls) (reading_after_lines u ls)
   pub go : Goes (λ q. strip (element_at prefix n) q ≡ None) (shifted prefix n) r u ls
+  pub says : Says (λ q. strip (element_at prefix n) q ≡ None) (shifted prefix n) r u ls
+  pub parts : PartsGo (λ q. strip (element_at prefix n) q ≡ None) (shifted prefix n) r u ls
 
 -- Lines that begin elements only with lesser numbers, or only with greater ones.
 pub lines_shift : (prefix : List Part) → EndsInKey prefix → (n : ℕ) (r u : Reading) (ls : List Line)
     → AreShifted prefix n r u → AllOf (IsBeside prefix n) (lines_mentions r ls)
     → IsStop n (elements_of prefix r.tables) (elements_of prefix (reading_after_lines r ls).tables)
     → AreLinesShift prefix n r u ls
-lines_shift prefix ends n r u [] h all stop = record { mentioned = refl; preserved = tt; next = h; go = tt }
+lines_shift prefix ends n r u [] h all stop = record {
+  mentioned = refl;
+  preserved = tt;
+  next = h;
+  go = tt;
+  says = tt;
+  parts = tt;
+}
 lines_shift prefix ends n r u (l ∷ ls) h all stop =
     let r' : Reading = after_line r l in
     let here : List Mention = line_mentions r l in
@@ -175,4 +199,6 @@ lines_shift prefix ends n r u (l ∷ ls) h all stop =
       preserved = all_join (IsDisjoint (element_at prefix n)) here rest one.preserved ih.preserved;
       next = ih.next;
       go = ((λ e. (one.next.preserved, one.next.body)), ih.go);
+      says = ((λ e. (one.mentioned, one.preserved)), ih.says);
+      parts = (one.parts, ih.parts);
     }

@@ -4,7 +4,7 @@
 -- at changed paths, but for the array itself, which has one less after the element's lines. The next step of a header
 -- goes on from a path, or from the last element there. Both are the changed ones of the old document: for the array
 -- itself the last element's number is one less exactly where the change makes it so. By induction over the keys this
--- holds of the whole header (`way_shift`).
+-- holds of the whole header, and of the paths of its key parts (`way_shift`).
 --
 -- Theorem: `way_shift`.
 use Rattle.std.proofs.Common.{◌≡◌, ℕ, zero, suc, ◌+◌, ◌-◌, ◌<◌, ◌≤◌, Bool, true, false, cond, List, [], ◌∷◌, ◌++◌, map}
@@ -18,6 +18,7 @@ use Rattle.keep_meaning.specs.Marks.{through, past, passed, Mention, elements_of
 use Rattle.keep_meaning.specs.Marks.{header_path, header_prefixes}
 use Rattle.keep_meaning.specs.Nodes.{is_passed}
 use Rattle.keep_edit_spec.specs.Look.{strip}
+use Rattle.keep_edit_spec.specs.Lines.{key_prefixes}
 use Rattle.keep_edit_spec.proofs.Common.Runs.{AllOf, all_left, all_right, all_join, IsDisjoint, same_path-sound}
 use Rattle.keep_edit_spec.proofs.Common.Runs.{same_path-refl}
 use Rattle.keep_edit_spec.proofs.Common.LineLaws.{EndsInKey}
@@ -25,6 +26,7 @@ use Rattle.keep_edit_spec.proofs.Common.Moves.{moved}
 use Rattle.keep_edit_spec.proofs.Remove.Shift.{shifted, element_at, disjoint_step, prefix_same, last_same, same_number}
 use Rattle.keep_edit_spec.proofs.Remove.Shift.{disjoint_key, disjoint_prefix, shifted_prefix, shifted_key}
 use Rattle.keep_edit_spec.proofs.Remove.Shift.{shifted_index, shifted_below, shifted_above}
+use Rattle.keep_edit_spec.proofs.Rename.RenamedParts.{prefixes_entered}
 
 -- Of the lines up to some place, in the old and the new document: before the element's lines both have as many elements
 -- of the array, not more than its number; after them the new one has one less.
@@ -212,19 +214,31 @@ pub record IsWayShift (prefix : List Part) (n : ℕ) (ts us : List (List Part)) 
   pub path : header_path us (shifted prefix n at) keys ≡ shifted prefix n (header_path ts at keys)
   pub way_preserved : AllOf (IsDisjoint (element_at prefix n)) (header_prefixes ts at keys)
   pub path_preserved : strip (element_at prefix n) (header_path ts at keys) ≡ None
+  pub parts : map (header_path us (shifted prefix n at)) (key_prefixes keys)
+      ≡ map (shifted prefix n) (map (header_path ts at) (key_prefixes keys))
+  pub parts_preserved : AllOf (λ q. strip (element_at prefix n) q ≡ None) (map (header_path ts at) (key_prefixes keys))
 
 -- A header's path and its way, where it does not go past the element.
 pub way_shift : (prefix : List Part) → EndsInKey prefix → (n : ℕ) (ts us : List (List Part)) → IsShift prefix n ts us
     → (at : List Part) (keys : List (List ℕ)) → strip (element_at prefix n) at ≡ None
     → AllOf (NotPassed (element_at prefix n)) (header_prefixes ts at keys) → IsWayShift prefix n ts us at keys
 way_shift prefix ends n ts us h at [] hat all =
-    record { prefixes = refl; path = refl; way_preserved = tt; path_preserved = hat }
+    record {
+      prefixes = refl;
+      path = refl;
+      way_preserved = tt;
+      path_preserved = hat;
+      parts = refl;
+      parts_preserved = tt;
+    }
 way_shift prefix ends n ts us h at (k ∷ []) hat all =
     record {
       prefixes = refl;
       path = sym (shifted_key prefix n at k);
       way_preserved = tt;
       path_preserved = disjoint_key prefix n at k hat;
+      parts = ap (λ (q : List Part). q ∷ []) (sym (shifted_key prefix n at k));
+      parts_preserved = (disjoint_key prefix n at k hat, tt);
     }
 way_shift prefix ends n ts us h at (k ∷ l ∷ ks) hat all =
     let q : List Part = at ++ key k ∷ [] in
@@ -251,4 +265,18 @@ way_shift prefix ends n ts us h at (k ∷ l ∷ ks) hat all =
           all_join (IsDisjoint (element_at prefix n)) (passing_mentions ts q) (header_prefixes ts to (l ∷ ks))
           (passing_preserved prefix ends n ts us h q hq e) ih.way_preserved;
       path_preserved = ih.path_preserved;
+      parts = ap (λ (ps : List (List Part)). (shifted prefix n at ++ key k ∷ []) ∷ ps)
+          (prefixes_entered us (shifted prefix n at) k (l ∷ ks)
+          ∙ ap (λ (x : List Part). map (header_path us (entered_path us x)) (key_prefixes (l ∷ ks))) next
+          ∙ ap (λ (x : List Part). map (header_path us x) (key_prefixes (l ∷ ks))) e.is
+          ∙ ih.parts
+          ∙ ap (map (shifted prefix n)) (sym (prefixes_entered ts at k (l ∷ ks))))
+          ∙ ap (λ (x : List Part).
+          x ∷ map (shifted prefix n) (map (header_path ts at) (map (λ prefix. k ∷ prefix) (key_prefixes (l ∷ ks)))))
+          next;
+      parts_preserved = (
+        hq,
+        subst (AllOf (λ (x : List Part). strip (element_at prefix n) x ≡ None))
+            (sym (prefixes_entered ts at k (l ∷ ks))) ih.parts_preserved,
+      );
     }
