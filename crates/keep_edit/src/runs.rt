@@ -112,6 +112,9 @@ impl Document {
         ensures next { IfOk result (λ next. (first < next) × (next ≤ length edits.now)) }
         ensures number { IfErr result (λ stop. stop.0 < length edits.now) }
     {
+        if let Some(few) = self.too_few(&edits[first..]) {
+            return self.apply_up_to(edits, first, first + few);
+        }
         let Run { changes, end } = self.changes_at_once(edits, first);
         if end > first && self.is_worth_reading(&edits[first..end]) {
             if let Some(document) = self.with_changes(&changes) {

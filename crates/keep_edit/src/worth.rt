@@ -1,14 +1,80 @@
 //! What edits of a list take one by one, beside a reading of the text after all of them. It tells whether they are made
 //! at once, and no answer.
+ghost use Rattle.std.specs.Prelude.{◌<◌, ◌≤◌, IfSome, length};
+
 use crate::document::Document;
 use keep_edit_plan::Edit;
-use keep_rules::{Origin, Path};
+use keep_rules::{Origin, Path, Step};
 use keep_syntax::{Owner, STANDARD_DEPTH, Span};
 
 /// What it takes to read a text anew, in parts of it.
 const READING: usize = 1000;
+/// Of no more edits it is looked up whether they are too few to be made at once, before that is tried.
+const FEW: usize = 32;
+
+/// Whether the keys of a path begin with those of a header, so that it may be of what the header makes.
+fn begins_with(path: &Path, keys: &[String]) -> bool {
+    let mut next = 0;
+    for number in 0..path.len() {
+        if next == keys.len() {
+            return true;
+        }
+        if let Some(Step::Key(key)) = path.step(number) {
+            if key.as_str() != keys[next].as_str() {
+                return false;
+            }
+            next += 1;
+        }
+    }
+    next == keys.len()
+}
+
+/// Whether an edit is of what one that appends a header of these keys makes.
+fn is_of_header(edit: &Edit, keys: &[String]) -> bool {
+    match edit {
+        Edit::Insert(path, _) | Edit::Remove(path) | Edit::Set(path, _) | Edit::Rename(path, _) =>
+            begins_with(path, keys),
+        Edit::Table(_) | Edit::Element(_) => false,
+    }
+}
+
+/// How many of these edits come before one that is of what the last header before it makes, which one of them appends,
+/// or all if there is none. None where these are many.
+fn up_to_own_header(edits: &[Edit]) -> Option<usize>
+    requires { 0 < length edits.now }
+    ensures { IfSome result (λ count. (0 < count) × (count ≤ length edits.now)) }
+{
+    let mut keys: &[String] = &[];
+    for number in 0..edits.len().min(FEW) {
+        let edit = &edits[number];
+        if number > 0 && !keys.is_empty() && is_of_header(edit, keys) {
+            return Some(number);
+        }
+        if let Edit::Table(own) | Edit::Element(own) = edit {
+            keys = own.as_slice();
+        }
+    }
+    if edits.len() > FEW {
+        return None;
+    }
+    Some(edits.len())
+}
 
 impl Document {
+    /// How many of these edits are made one by one in any case: none of them can be made at once with the one after
+    /// them, or there is none, and they take less one by one than to read the text anew. None where more may be made at
+    /// once.
+    pub(crate) fn too_few(&self, edits: &[Edit]) -> Option<usize>
+        requires { 0 < length edits.now }
+        ensures { IfSome result (λ few. (0 < few) × (few ≤ length edits.now)) }
+    {
+        let few = up_to_own_header(edits)?;
+        if self.is_worth_reading(&edits[..few]) {
+            return None;
+        }
+        Some(few)
+    }
+
     /// Whether edits take longer one by one than to read the text anew after all of them. It looks at no more of them
     /// than that takes.
     pub(crate) fn is_worth_reading(&self, edits: &[Edit]) -> bool {
