@@ -5,6 +5,7 @@ pub mod MilestoneLaws
 pub mod PastLaws
 pub mod BulkMilestoneLemmas
 pub mod CountLaws
+pub mod SeekLaws
 pub mod TestLaws
 pub mod FlatLaws
 pub mod MoveLaws

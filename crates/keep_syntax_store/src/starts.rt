@@ -18,6 +18,9 @@ const FAR: u8 = 255;
 /// How many near steps are taken at once. So few lead less far than 2 ^ 16, and numbers of 16 bits are summed fastest.
 const MOST_NEAR: usize = 256;
 
+/// So many near steps are passed at once where a place is sought. In the group that has it each is looked at.
+const GROUP: usize = 64;
+
 /// How many steps are copied at once where there are no milestones, and about how many there are from one milestone to
 /// the next.
 const BLOCK: usize = 1024;
@@ -356,29 +359,43 @@ impl Starts {
         }
     }
 
-    /// The last of ascending places that is at most `place`, or else `low`.
+    /// The last of ascending places that is at most `place`, or else `low`. Near places are passed together where the
+    /// last of them is at most `place`.
     pub fn last_to(&self, place: usize, low: usize) -> usize
         ensures { result ≡ last_to place low self.now }
     {
-        let (number, left) = self.near_place(place);
+        let (number, mut left) = self.near_place(place);
         let mut last = if number == 0 { low } else { left.at };
-        'places: for at in left {
+        'runs: while let Some(at) = left.advance() {
             if place < at {
                 return last;
             }
-            last = at;
+            let after = left;
+            left.take_near(GROUP);
+            if place < left.at {
+                // among those just passed: each is looked at
+                return after.last_to(place, at);
+            }
+            last = left.at;
         }
         last
     }
 
-    /// The first of ascending places that is at least `place`, or else `high`.
+    /// The first of ascending places that is at least `place`, or else `high`. Near places are passed together where
+    /// the last of them is before it.
     pub fn first_from(&self, place: usize, high: usize) -> usize
         ensures { result ≡ first_from place high self.now }
     {
-        let (_, left) = self.near_place(place);
-        'places: for at in left {
+        let (_, mut left) = self.near_place(place);
+        'runs: while let Some(at) = left.advance() {
             if place <= at {
                 return at;
+            }
+            let after = left;
+            left.take_near(GROUP);
+            if place <= left.at {
+                // among those just passed: each is looked at
+                return after.first_from(place, high);
             }
         }
         high
@@ -649,6 +666,7 @@ impl Starts {
 impl<'a> Places<'a> {
     ghost use Rattle.std.specs.Iterator.{YieldsFirst};
     ghost use Rattle.keep_syntax_store.specs.Left.{places_left};
+    ghost use Rattle.keep_syntax_store.specs.Starts.{first_from, last_to};
     ghost use Rattle.keep_syntax_store.specs.Rereading.{places_before};
 
     /// Those after a milestone.
@@ -734,6 +752,32 @@ impl<'a> Places<'a> {
             steps,
             far: &self.far[..count_far(steps)],
         }
+    }
+
+    /// The last of ascending places that is at most `place`, or else `low`, one place after another.
+    fn last_to(&self, place: usize, low: usize) -> usize
+        ensures { result ≡ last_to place low (places_left self.now) }
+    {
+        let mut last = low;
+        'places: for at in *self {
+            if place < at {
+                return last;
+            }
+            last = at;
+        }
+        last
+    }
+
+    /// The first of ascending places that is at least `place`, or else `high`, one place after another.
+    fn first_from(&self, place: usize, high: usize) -> usize
+        ensures { result ≡ first_from place high (places_left self.now) }
+    {
+        'places: for at in *self {
+            if place <= at {
+                return at;
+            }
+        }
+        high
     }
 
     /// How many of ascending places are before `place`, one place after another.

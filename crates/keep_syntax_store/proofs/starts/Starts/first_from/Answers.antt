@@ -2,11 +2,19 @@ use Rattle.std.proofs.Common.{sym, ap, ◌∙◌}
 use Rattle.keep_syntax_store.specs.Left.{places_left}
 use Rattle.keep_syntax_store.specs.Starts.{first_from}
 use Rattle.keep_syntax_store.proofs.AscendLaws.{first_after_number}
+use Rattle.keep_syntax_store.proofs.SeekLaws.{run_from}
 use Rattle.keep_syntax_store.proofs.starts.Starts.first_from.Goals as goal
 
-pub places-init : goal.places-init
-places-init c =
+pub runs-init : goal.runs-init
+runs-init c =
     let near = c.near_place in
     first_after_number c.args.place c.args.high c.args.self.now near.result.0 near.ensures.before
-    ∙ ap (first_from c.args.place c.args.high)
-    (sym near.ensures.past.left ∙ sym (ap places_left c.into_iter-at-iterator.ensures.into_iter_gives))
+    ∙ ap (first_from c.args.place c.args.high) (sym near.ensures.past.left)
+
+pub runs-preserved : goal.runs-preserved
+runs-preserved c =
+    c.runs.invariant
+    ∙ run_from c.args.place c.args.high c.in-Some.at c.advance.new.self.at c.take_near.new.self.at
+    (places_left c.runs.left) (places_left c.advance.new.self) c.take_near.result.steps.now
+    (places_left c.take_near.new.self) c.in-Some.ensures.first c.take_near.ensures.left c.take_near.result.near
+    c.take_near.ensures.at c.if-place-at.false c.if-place-left.false
