@@ -9,7 +9,7 @@
 -- `among_made`, `among_within`: so all are made.
 use Rattle.std.proofs.Common.{◌≡◌, ◌≢◌, ◌<◌, ◌∷◌, ◌++◌, [], ℕ, suc, List, length, take, get_or, refl, sym, ap, subst}
 use Rattle.std.proofs.Common.{subst₂, ◌∙◌, All, IsUtf8, inl, inr}
-use Rattle.std.specs.Prelude.{◌⊎◌, Bool, None, Option, Some, false, true}
+use Rattle.std.specs.Prelude.{◌⊎◌, None, Option, Some, false, true}
 use Rattle.std.proofs.lemmas.List.Folds.{list_any_none}
 use Rattle.std.proofs.lemmas.List.Elements.{All-cons, All-nil, All-push, All-weaker}
 use Rattle.std.proofs.lemmas.Str.{IsUtf8-string_bytes}
@@ -26,7 +26,7 @@ use Rattle.keep_edit_spec.specs.Laws.{IsLawfulEdit}
 use Rattle.keep_edit_spec.specs.Refusals.{refusal}
 use Rattle.keep_edit_spec.specs.Runs as runs
 use Rattle.keep_edit_spec.specs.Runs.{ArePlain, IsBeforeHeaders, IsInOrder, IsPlainBefore, LetsCome}
-use Rattle.keep_edit_spec.specs.Runs.{MakesChange, PassesTable, with_line}
+use Rattle.keep_edit_spec.specs.Runs.{LetsTable, MakesChange, with_line}
 use Rattle.keep_edit_spec.specs.TextChanges.{IsBeside, TextChange, with_change}
 use Rattle.keep_edit_spec.specs.declared.line_kind.LineKind.{LineKind}
 use Rattle.keep_edit_spec.proofs.Shared.{all_with}
@@ -44,11 +44,12 @@ use Rattle.keep_edit.specs.declared.gone_between.GoneBetween.{GoneBetween}
 use Rattle.keep_edit.specs.declared.outline.Outline.{Outline}
 use Rattle.keep_edit_spec.proofs.Shared.{element_run_goes_on, element_run_goes_on_by_entry}
 use Rattle.keep_edit.proofs.ElementsGone.{in_none, none_gone_to, of_one, one_element_less, plain_elsewhere}
-use Rattle.keep_edit.proofs.RunSteps.{AreMadeTo, IsBare, IsPlaced, change_made, known_with, more_changes, order, parts}
-use Rattle.keep_edit.proofs.RunSteps.{passes, plain_alone, plain_header, plain_insert, tree_made}
+use Rattle.keep_edit.proofs.RunSteps.{AreMadeTo, IsPlaced, change_made, headers_with, known_with, more_changes, order}
+use Rattle.keep_edit.proofs.RunSteps.{parts, passes, plain_alone, plain_header, plain_insert, tree_made}
 
 -- So far these changes are made, and the edits up to number `end` are made by them, which have these outlines, and
--- whose lines are known, or removed elements of these arrays. If none is gone, they are made at once as any others.
+-- whose lines and headers are known, or removed elements of these arrays. If none is gone, they are made at once as any
+-- others.
 pub record AreMadeAmong (edits : List Edit) (first end : ℕ) (now : ProfiledText) (outlines : List Outline)
     (changes : List TextChange) (adds : AddedLines) (gone : GoneBetween) : Type 0 where
   pub made : (s : Document) (old : ProfiledText) → (h : AreMade s (take first edits) old now)
@@ -151,8 +152,7 @@ module _ (s : Document) (edits : List Edit) (n : ℕ) (old now : ProfiledText) (
     (c : TextChange) (line : Option LineKind) (makes : MakesInRun now.profile before e a c line)
     (others_alone : All (λ y. LeavesAlone y o) outlines) (away : All (λ array. IsElsewhere array (outlined o)) arrays)
     (beside : All (λ b. IsBeside b c) changes) (placed : IsPlacedAmong outlines now.text changes o c.at)
-    (appended : Bool) (bare : IsBare outlines o appended)
-    (kept : IsLineKept adds changes o c.at line appended next_adds)
+    (kept : IsLineKept adds changes o c.at line next_adds)
     (utf8 : All (λ b. IsUtf8 b.new) (with_change changes c))
     (within : All (IsChangeIn now.text) (with_change changes c)) where
   abbrev t : Document
@@ -174,14 +174,12 @@ module _ (s : Document) (edits : List Edit) (n : ℕ) (old now : ProfiledText) (
 
   in_order : (p : List Part) (v : Value) → a ≡ runs.seen before (law.insert p v) → line ≡ Some (kind_of before p)
       → IsInOrder h.es changes h.lines (added_as before p c)
-  in_order =
-      order before h.es changes h.lines outlines adds next_adds o a plain_is c line appended bare kept h.headless
-      h.known
+  in_order = order before h.es changes h.lines adds next_adds o a plain_is c line kept h.headers_known h.known
 
-  pass : (ks : List (List ℕ)) → runs.is_header (outlined o) ≡ true → All (PassesTable ks) h.lines
-  pass =
-      passes before h.es changes h.lines outlines adds next_adds o a plain_is c line appended bare kept h.headless
-      h.known
+  pass : (f : law.Edit) → a ≡ f → All (λ l. LetsTable l f) h.lines
+  pass f same =
+      subst (λ (g : law.Edit). All (λ l. LetsTable l g) h.lines) same
+      (passes before h.es changes h.lines adds next_adds o a plain_is c line kept h.headers_known h.known)
 
   -- a line comes so in this text
   abbrev Comes : List ℕ → Type 0
@@ -201,12 +199,9 @@ module _ (s : Document) (edits : List Edit) (n : ℕ) (old now : ProfiledText) (
           let (plain_all, (come, ends)) = placed.insert is_one in
           subst Comes read.reads.spelled (plain_all, (come, before_headers ends))
 
-      headed : (ks : List (List ℕ)) → runs.is_header (outlined o) ≡ true
-          → All (PassesTable ks) h.lines × IsPlainBefore (text before) changes c.at
-      headed ks head = (
-        pass ks head,
-        subst (λ (bytes : List ℕ). IsPlainBefore bytes changes c.at) read.reads.spelled (placed.header head),
-      )
+      headed : runs.is_header (outlined o) ≡ true → IsPlainBefore (text before) changes c.at
+      headed head =
+          subst (λ (bytes : List ℕ). IsPlainBefore bytes changes c.at) read.reads.spelled (placed.header head)
 
       by : (f : law.Edit) → a ≡ runs.seen before f → IsOfKind before f line
           → runs.is_insert (outlined o) ≡ runs.is_insert a → runs.is_header (outlined o) ≡ runs.is_header a
@@ -216,8 +211,10 @@ module _ (s : Document) (edits : List Edit) (n : ℕ) (old now : ProfiledText) (
       by (law.remove p) same of insert header = tt
       by (law.set p v) same of insert header = tt
       by (law.rename p name) same of insert header = tt
-      by (law.append_table ks) same of insert header = headed ks (header ∙ ap runs.is_header same)
-      by (law.append_element ks) same of insert header = headed ks (header ∙ ap runs.is_header same)
+      by (law.append_table ks) same of insert header =
+          (pass (law.append_table ks) same, headed (header ∙ ap runs.is_header same))
+      by (law.append_element ks) same of insert header =
+          (pass (law.append_element ks) same, headed (header ∙ ap runs.is_header same))
 
   longer : IsLongerAmong now.profile before h.es changes h.lines h.paths t e a c line
   longer =
@@ -254,8 +251,10 @@ module _ (s : Document) (edits : List Edit) (n : ℕ) (old now : ProfiledText) (
         let (all_before, its) = parts (λ y. IsElsewhere path (outlined y)) outlines o all in
         All-cons (IsElsewhere path) a h.es
         (plain_elsewhere path a (subst (IsElsewhere path) (sym plain_is) its)) (h.elsewhere path all_before);
-    known = known_with before h.es changes h.lines outlines adds next_adds o a plain_is c line appended bare kept
-        h.headless h.known longer.edit longer.seen_is longer.of;
+    known = known_with before h.es changes h.lines adds next_adds o a plain_is c line kept h.headers_known h.known
+        longer.edit longer.seen_is longer.of;
+    headers_known = headers_with before h.es changes h.lines adds next_adds o a plain_is c line kept h.headers_known
+        h.known;
     of_arrays = h.of_arrays;
     leads = h.leads;
     run = subst
@@ -272,28 +271,28 @@ placed_too outlines bytes changes x at h =
 
 pub more_among : (edits : List Edit) (first end : ℕ) (now : ProfiledText) (outlines : List Outline)
     (changes : List TextChange) (adds next : AddedLines) (gone : GoneBetween) (d x : Edit) (o : Outline) (t : TextEdit)
-    (line : Option LineKind) (appended : Bool)
+    (line : Option LineKind)
     → AreMadeAmong edits first end now outlines changes adds gone → end < length edits → get_or edits end d ≡ x
     → MakesInRunHere now x (outlined o) t line → All (λ y. LeavesAlone y o) outlines
     → All (λ array. IsElsewhere array (outlined o)) gone.arrays.items
     → All (λ b. IsBeside b (change_of t)) changes → IsPlacedAmong outlines now.text changes o (change_of t).at
-    → IsBare outlines o appended → IsLineKept adds changes o (change_of t).at line appended next
+    → IsLineKept adds changes o (change_of t).at line next
     → AreMadeAmong edits first (suc end) now (outlines ++ o ∷ []) (with_change changes (change_of t)) next gone
-more_among edits first end now outlines changes adds next gone d x o t line appended so_far lt here makes alone away
-    beside placed bare kept =
+more_among edits first end now outlines changes adds next gone d x o t line so_far lt here makes alone away beside
+    placed kept =
     let c : TextChange = change_of t in
     let utf8 = all_with (λ b. IsUtf8 b.new) changes c so_far.utf8 (IsUtf8-string_bytes t.new) in
     let within = all_with (IsChangeIn now.text) changes c so_far.within (change_in now.text t makes.within) in
     record {
       made = λ s old h. one_more_among s edits end old now h.tree outlines changes adds next gone.arrays.items
           gone.elements h.read (so_far.made s old h) d x lt here o makes.edit (makes.in_run h.tree) makes.is
-          (makes.outline_is h.tree h.read) c line (makes.makes h.tree h.read) alone away beside placed appended bare
-          kept utf8 within;
+          (makes.outline_is h.tree h.read) c line (makes.makes h.tree h.read) alone away beside placed kept utf8
+          within;
       none = λ empty.
           let (same, all) = so_far.none empty in (
             same,
-            more_changes edits first end now outlines changes adds next d x o t line appended all lt here makes alone
-                beside (placed_too outlines now.text changes o c.at placed) bare kept,
+            more_changes edits first end now outlines changes adds next d x o t line all lt here makes alone beside
+                (placed_too outlines now.text changes o c.at placed) kept,
           );
       elsewhere = λ k array less.
           let array_there : List Part = get_or gone.arrays.items k array in

@@ -129,6 +129,7 @@ module _ (s : Document) (edits : List Edit) (n : ℕ) (old now : ProfiledText) (
     headless = h.headless;
     elsewhere = away;
     known = h.lines;
+    headers_known = h.headers_known;
     of_arrays = All-nil (λ path. HasArray gone.arrays.items (changed_path path));
     leads = λ q. ap (λ (paths : List (List Part)). first_path paths q) (sym same);
     run = run;
@@ -178,6 +179,7 @@ module _ (s : Document) (edits : List Edit) (n : ℕ) (old now : ProfiledText) (
     headless = h.headless;
     elsewhere = h.elsewhere;
     known = h.known;
+    headers_known = h.headers_known;
     of_arrays = All-push (λ q. HasArray next_arrays (changed_path q)) h.paths path
         (All-weaker (λ q. HasArray arrays (changed_path q)) (λ q. HasArray next_arrays (changed_path q))
         (λ q. kept (changed_path q)) h.paths h.of_arrays) own;

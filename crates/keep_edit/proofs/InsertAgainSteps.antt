@@ -38,7 +38,7 @@ use Rattle.keep_edit_plan.specs.declared.edit.Edit.TheVariants as edit
 use Rattle.keep_edit_plan.specs.declared.text_edit.TextEdit.{TextEdit}
 use Rattle.keep_edit.specs.Again.{InsertsAgainHere}
 use Rattle.keep_edit.specs.Answers.{IsSpanOf}
-use Rattle.keep_edit.specs.AddedLines.{IsKnownAt}
+use Rattle.keep_edit.specs.AddedLines.{IsHeaderKnown, IsKnownAt}
 use Rattle.keep_edit.specs.Lists.{AreMade, IsEdit}
 use Rattle.keep_edit.specs.Reading.{IsAcceptedValue, IsTextOfTree, IsTextOfValue, ProfiledText, limit}
 use Rattle.keep_edit.specs.Runs.{IsRunTo, changed_text, outlined}
@@ -214,6 +214,7 @@ module _ (s : Document) (edits : List Edit) (n : ℕ) (old now : ProfiledText) (
     renames = λ q name any. rename_in q (h.renames q name any);
     allow = λ q name all. all_again (AllowsKey q name) (λ its. its) (h.allow q name all);
     lines = lines_known;
+    headers_known = all_again (IsHeaderKnown adds) (λ its. its) h.headers_known;
     at_once = r.still;
     changes_are = sym new_is;
     tree_is = tree_of_run now before ms new all_made.tree read r.still (sym new_is) all_made.read;

@@ -3,12 +3,11 @@
 --
 -- Paths are added only for edits of the kind of the first one (`of_kind`).
 --
--- Theorems: `placed_of_kind`, `bare_of_kind`, `placed_plain`.
+-- Theorems: `placed_of_kind`, `placed_plain`.
 use Rattle.std.proofs.Common.{◌≡◌, ◌≢◌, ℕ, Bool, true, false, List, length, All, refl, sym, ◌∙◌, inl, inr}
 use Rattle.std.specs.Prelude.{◌⊎◌}
 use Rattle.std.proofs.lemmas.List.Elements.{All-weaker}
 use Rattle.std.proofs.lemmas.Bool.{or_parts}
-use Rattle.keep_edit_spec.specs.Edits as law
 use Rattle.keep_edit_spec.specs.Runs as runs
 use Rattle.keep_edit_spec.specs.Runs.{ArePlain}
 use Rattle.keep_edit_spec.specs.TextChanges.{TextChange}
@@ -18,7 +17,7 @@ use Rattle.keep_edit.specs.Runs.{IsPlaceKept, outlined, writes_anew}
 use Rattle.keep_edit.specs.Seen.{HasPathsOf, IsSeen}
 use Rattle.keep_edit.specs.declared.seen.SeenKeys.{SeenKeys}
 use Rattle.keep_edit.proofs.ElementSteps.{IsPlacedAmong}
-use Rattle.keep_edit.proofs.RunSteps.{IsBare, IsPlaced}
+use Rattle.keep_edit.proofs.RunSteps.{IsPlaced}
 
 -- the two write a line, or a header, alike
 abbrev IsOfKind : Outline → Outline → Type 0
@@ -77,21 +76,6 @@ placed_of_kind seen outlines bytes changes x at all h = record {
   header = λ is. inl (All-weaker (IsSeen seen) (λ y. runs.is_header (outlined y) ≡ true)
       (λ y k. (same_kind seen x y h k).1 ∙ is) outlines all);
 }
-
--- an edit that adds a line comes after such alone
-pub bare_of_kind : (seen : SeenKeys) (outlines : List Outline) (x : Outline) (appended : Bool)
-    → All (IsSeen seen) outlines → IsSeen seen x → IsBare outlines x appended
-bare_of_kind seen outlines x appended all h = λ line none.
-    All-weaker (IsSeen seen) (λ y. runs.is_header (outlined y) ≡ false)
-    (λ y k. no_header (outlined y) ((same_kind seen x y h k).0 ∙ line)) outlines all
-  where
-    no_header : (e : law.Edit) → runs.is_insert e ≡ true → runs.is_header e ≡ false
-    no_header (law.insert p v) is = refl
-    no_header (law.set p v) is = refl
-    no_header (law.remove p) is = refl
-    no_header (law.rename p name) is = refl
-    no_header (law.append_table ks) is = absurd cc
-    no_header (law.append_element ks) is = absurd cc
 
 -- where it writes none, or all is plain and its place is kept
 pub placed_plain : (outlines : List Outline) (bytes : List ℕ) (changes : List TextChange) (x : Outline) (at : ℕ)

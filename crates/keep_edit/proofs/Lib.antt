@@ -15,6 +15,7 @@ mod AlikeLaws
 mod KeysOnPath
 mod SeenLaws
 mod SeenPathLaws
+mod HeaderLaws
 mod KindLaws
 mod LineLaws
 mod InRuns

@@ -34,7 +34,7 @@ use Rattle.keep_edit_plan.proofs.Shared.{change_in, editable}
 use Rattle.keep_edit_plan.specs.TextEdits.{IsChangeIn, IsReplaced, change_of}
 use Rattle.keep_edit_plan.specs.declared.edit.Edit.{Edit}
 use Rattle.keep_edit_plan.specs.declared.text_edit.TextEdit.{TextEdit}
-use Rattle.keep_edit.specs.AddedLines.{IsKnownAt}
+use Rattle.keep_edit.specs.AddedLines.{IsHeaderKnown, IsKnownAt}
 use Rattle.keep_edit.specs.Lists.{AreMade, IsEdit}
 use Rattle.keep_edit.specs.Reading.{limit, IsTextOfTree, ProfiledText}
 use Rattle.keep_edit.specs.Runs.{Allows, AllowsRename, IsRenamedBy, IsRunTo, IsSetBy, RenamesAgainHere, changed_text}
@@ -209,6 +209,7 @@ module _ (s : Document) (edits : List Edit) (n : ℕ) (old now : ProfiledText) (
         let (all_before, its) = parts (λ y. AllowsKey q name (outlined y)) outlines o all in
         all_again (AllowsKey q name) (subst (AllowsKey q name) again.outline_is its) (h.allow q name all_before);
     lines = lines_known;
+    headers_known = all_again (IsHeaderKnown adds) tt h.headers_known;
     at_once = r.still;
     changes_are = sym new_is;
     tree_is = tree_of_run now before ms new all_made.tree read r.still (sym new_is) all_made.read;

@@ -8,7 +8,8 @@
 -- Theorems: `no_changes`, `more_changes`: before the first edit, and with one more; `all_made`, `all_within`: so all
 -- are made; `text_utf8`: the text with the changes; `change_made`, `tree_made`: an edit that puts one change more into
 -- it; `tree_of_run`: the document after a run; `run_so_far`: the run of the edits so far; `order`, `passes`,
--- `known_with`: a line or a header comes in order, and the line is known; `unadded`, `added`: what is added to a list.
+-- `known_with`, `headers_with`: a line or a header comes in order, and is known; `unadded`, `added`: what is added to a
+-- list.
 use Rattle.std.proofs.Common.{◌≡◌, ◌≢◌, ◌<◌, ◌≤◌, ◌+◌, ◌∷◌, ◌++◌, [], ℕ, zero, suc, List, length, take, drop}
 use Rattle.std.proofs.Common.{get_or, refl, sym, ap, subst, subst₂, ◌∙◌, arith, All, IsUtf8, IsCharBoundary, inl, inr}
 use Rattle.std.specs.Prelude.{◌⊎◌, Any, Bool, Err, IfOk, IsTrue, None, Ok, OnErr, Option, Result, Some, false}
@@ -37,17 +38,16 @@ use Rattle.keep_edit_spec.specs.Runs as runs
 use Rattle.keep_edit_spec.specs.RunLists.{AreAtOnce, IsSetIn, MadeEdit, changes_of, document_after, lines_of}
 use Rattle.keep_edit_spec.specs.RunLists.{seen_of}
 use Rattle.keep_edit_spec.specs.Runs.{ArePlain, IsBeforeHeaders, IsInOrder, IsPlainBefore, IsRun, IsRunLonger}
-use Rattle.keep_edit_spec.specs.Runs.{KeepsPlace, LetsCome, LetsTable, MakesChange, PassesTable, with_line}
+use Rattle.keep_edit_spec.specs.Runs.{KeepsPlace, LetsCome, LetsTable, MakesChange, with_line}
 use Rattle.keep_edit_spec.specs.TextChanges.{Follow, IsBeside, TextChange, moved_past, text_with, with_change}
 use Rattle.keep_edit_spec.specs.declared.line_kind.LineKind.{LineKind}
-use Rattle.keep_edit_spec.specs.declared.line_kind.LineKind.TheVariants.{LastInBody, OfDotted, WithHeader}
 use Rattle.keep_edit_spec.proofs.Shared.{all_with, change_lawful, change_put, run_goes_on}
 use Rattle.keep_edit_spec.proofs.Shared.{run_goes_on_by_entry, run_is_known}
 use Rattle.keep_edit_plan.proofs.Shared.{change_in, editable, one_tree}
 use Rattle.keep_edit_plan.specs.TextEdits.{IsChangeIn, change_of}
 use Rattle.keep_edit_plan.specs.declared.edit.Edit.{Edit}
 use Rattle.keep_edit_plan.specs.declared.text_edit.TextEdit.{TextEdit}
-use Rattle.keep_edit.specs.AddedLines.{IsKnownAt}
+use Rattle.keep_edit.specs.AddedLines.{IsHeaderKnown, IsKnownAt}
 use Rattle.keep_edit.specs.Lists.{IsEdit, AreMade}
 use Rattle.keep_edit.specs.Reading.{limit, IsTextOfTree, ProfiledText}
 use Rattle.keep_edit.specs.Runs.{IsKnownThen, IsLineKept, IsOfKind, IsRunTo, LeavesAlone, MakeChanges, MakesInRun}
@@ -124,6 +124,23 @@ plain_allows path name (law.remove p) h = h
 plain_allows path name (law.append_table ks) h = h
 plain_allows path name (law.append_element ks) h = h
 
+-- whether a header passes by a table, and is known, neither
+plain_lets : (l : Added) (e : law.Edit) → LetsTable l (plain e) → LetsTable l e
+plain_lets l (law.set p v) h = h
+plain_lets l (law.insert p v) h = h
+plain_lets l (law.rename p more) h = h
+plain_lets l (law.remove p) h = h
+plain_lets l (law.append_table ks) h = h
+plain_lets l (law.append_element ks) h = h
+
+plain_known : (added : AddedLines) (e : law.Edit) → IsHeaderKnown added (plain e) → IsHeaderKnown added e
+plain_known added (law.set p v) h = h
+plain_known added (law.insert p v) h = h
+plain_known added (law.rename p more) h = h
+plain_known added (law.remove p) h = h
+plain_known added (law.append_table ks) h = h
+plain_known added (law.append_element ks) h = h
+
 -- ---- new lines and headers
 
 -- All edits before one that writes a line or a header do so, too; or each newline is alike, and none takes the byte
@@ -136,15 +153,6 @@ pub record IsPlaced (outlines : List Outline) (bytes : List ℕ) (changes : List
       × (All (λ y. runs.is_header (outlined y) ≡ false) outlines ⊎ (at ≢ length bytes))))
   pub header : runs.is_header (outlined x) ≡ true
       → All (λ y. runs.is_header (outlined y) ≡ true) outlines ⊎ IsPlainBefore bytes changes at
-
--- Where an edit that adds a line comes after no header that is appended, none of those edits appends one.
-abbrev pub IsBare : List Outline → Outline → Bool → Type 0
-IsBare outlines x appended =
-    runs.is_insert (outlined x) ≡ true → appended ≡ false → All (λ y. runs.is_header (outlined y) ≡ false) outlines
-
-each : {P : law.Edit → Type 0} (es : List law.Edit) → ((e : law.Edit) → P e) → All P es
-each {P} [] holds = All-nil P
-each {P} (e ∷ es) holds = All-cons P e es (holds e) (each es holds)
 
 -- ---- the text is in UTF-8
 
@@ -291,13 +299,12 @@ rename_seen s (law.append_element ks) path name is = absurd cc
 
 -- ---- a new line or header more
 
--- The line of an insert, or a header, comes in order after edits that are seen so, and add lines that are known.
+-- The line of an insert, or a header, comes in order after edits that are seen so, and add lines and headers that are
+-- known.
 module _ (before : Document) (es : List law.Edit) (changes : List TextChange) (lines : List Added)
-    (outlines : List Outline) (adds next_adds : AddedLines) (o : Outline) (a : law.Edit)
-    (plain_is : plain a ≡ outlined o) (c : TextChange) (line : Option LineKind) (appended : Bool)
-    (bare : IsBare outlines o appended) (kept : IsLineKept adds changes o c.at line appended next_adds)
-    (headless : All (λ y. runs.is_header (outlined y) ≡ false) outlines → All (λ f. runs.is_header f ≡ false) es)
-    (known : All (IsKnownAt adds) lines) where
+    (adds next_adds : AddedLines) (o : Outline) (a : law.Edit) (plain_is : plain a ≡ outlined o) (c : TextChange)
+    (line : Option LineKind) (kept : IsLineKept adds changes o c.at line next_adds)
+    (headers_known : All (IsHeaderKnown adds) es) (known : All (IsKnownAt adds) lines) where
   -- the line of an insert, as the code knows it
   abbrev line_then : List Part → Added
   line_then p = added_as before p c
@@ -307,51 +314,29 @@ module _ (before : Document) (es : List law.Edit) (changes : List TextChange) (l
   outlined_is p v is = sym plain_is ∙ ap plain is
 
   known_then : (p : List Part) (v : Value) → a ≡ runs.seen before (law.insert p v) → line ≡ Some (kind_of before p)
-      → IsKnownThen adds changes (line_then p) appended next_adds
+      → IsKnownThen adds changes (line_then p) next_adds
   known_then p v is of = kept.own (first_new before p) (kind_of before p) (outlined_is p v is) of
-
-  -- headers pass by the table of a line that brings none, and none are appended before one that does
-  passed : (p : List Part) (v : Value) → a ≡ runs.seen before (law.insert p v) → line ≡ Some (kind_of before p)
-      → All (LetsTable (line_then p)) es
-  passed p v is of = by (kind_of before p) refl
-    where
-      none_with : (kind_of before p ≡ WithHeader → ⊥) → (f : law.Edit) → LetsTable (line_then p) f
-      none_with other (law.append_table ks) = λ headed. absurd (other headed)
-      none_with other (law.append_element ks) = λ headed. absurd (other headed)
-      none_with other (law.insert q w) = tt
-      none_with other (law.remove q) = tt
-      none_with other (law.set q w) = tt
-      none_with other (law.rename q name) = tt
-
-      no_header : (f : law.Edit) → runs.is_header f ≡ false → LetsTable (line_then p) f
-      no_header (law.append_table ks) none = absurd cc
-      no_header (law.append_element ks) none = absurd cc
-      no_header (law.insert q w) none = tt
-      no_header (law.remove q) none = tt
-      no_header (law.set q w) none = tt
-      no_header (law.rename q name) none = tt
-
-      by : (kind : LineKind) → kind_of before p ≡ kind → All (LetsTable (line_then p)) es
-      by WithHeader kind =
-          All-weaker (λ f. runs.is_header f ≡ false) (LetsTable (line_then p)) no_header es
-          (headless (bare (ap runs.is_insert (outlined_is p v is)) ((known_then p v is of).headless kind)))
-      by LastInBody kind =
-          each es (none_with (λ headed. (let both : LastInBody ≡ WithHeader = sym kind ∙ headed in cc)))
-      by OfDotted kind =
-          each es (none_with (λ headed. (let both : OfDotted ≡ WithHeader = sym kind ∙ headed in cc)))
 
   pub order : (p : List Part) (v : Value) → a ≡ runs.seen before (law.insert p v) → line ≡ Some (kind_of before p)
       → IsInOrder es changes lines (line_then p)
   order p v is of = record {
     after = All-weaker (IsKnownAt adds) (λ l. IsAfterLine l (line_then p)) (known_then p v is of).after lines known;
     stays = (known_then p v is of).stays;
-    passed = passed p v is of;
+    passed = All-weaker (IsHeaderKnown adds) (LetsTable (line_then p)) (known_then p v is of).passed es headers_known;
   }
 
-  -- a header that is appended passes by all tables of lines with headers, as there are none
-  pub passes : (ks : List (List ℕ)) → runs.is_header (outlined o) ≡ true → All (PassesTable ks) lines
-  passes ks head =
-      All-weaker (IsKnownAt adds) (PassesTable ks) (λ l its is. absurd (kept.header head l its is)) lines known
+  -- a header that is appended passes by the tables of the lines with headers
+  pub passes : All (λ l. LetsTable l a) lines
+  passes =
+      All-weaker (IsKnownAt adds) (λ l. LetsTable l a)
+      (λ l its. plain_lets l a (subst (LetsTable l) (sym plain_is) (kept.passes l its))) lines known
+
+  -- and is known too
+  pub headers_with : All (IsHeaderKnown next_adds) (a ∷ es)
+  headers_with =
+      All-cons (IsHeaderKnown next_adds) a es
+      (plain_known next_adds a (subst (IsHeaderKnown next_adds) (sym plain_is) kept.header))
+      (All-weaker (IsHeaderKnown adds) (IsHeaderKnown next_adds) kept.headers es headers_known)
 
   others_known : All (IsKnownAt next_adds) lines
   others_known = All-weaker (IsKnownAt adds) (IsKnownAt next_adds) kept.others lines known
@@ -434,9 +419,8 @@ module _ (s : Document) (edits : List Edit) (n : ℕ) (old now : ProfiledText) (
     (lt : n < length edits) (here : get_or edits n d ≡ x) (o : Outline) (e a : law.Edit) (given : IsEdit x e)
     (plain_is : plain a ≡ outlined o) (c : TextChange) (line : Option LineKind)
     (makes : MakesInRun now.profile before e a c line) (others_alone : All (λ y. LeavesAlone y o) outlines)
-    (beside : All (λ b. IsBeside b c) changes) (placed : IsPlaced outlines now.text changes o c.at) (appended : Bool)
-    (bare : IsBare outlines o appended)
-    (kept : IsLineKept adds changes o c.at line appended next_adds)
+    (beside : All (λ b. IsBeside b c) changes) (placed : IsPlaced outlines now.text changes o c.at)
+    (kept : IsLineKept adds changes o c.at line next_adds)
     (utf8 : All (λ b. IsUtf8 b.new) (with_change changes c))
     (within : All (IsChangeIn now.text) (with_change changes c)) where
   abbrev t : Document
@@ -461,12 +445,12 @@ module _ (s : Document) (edits : List Edit) (n : ℕ) (old now : ProfiledText) (
 
   in_order : (p : List Part) (v : Value) → a ≡ runs.seen before (law.insert p v) → line ≡ Some (kind_of before p)
       → IsInOrder es changes lines (added_as before p c)
-  in_order =
-      order before es changes lines outlines adds next_adds o a plain_is c line appended bare kept h.headless h.lines
+  in_order = order before es changes lines adds next_adds o a plain_is c line kept h.headers_known h.lines
 
-  pass : (ks : List (List ℕ)) → runs.is_header (outlined o) ≡ true → All (PassesTable ks) lines
-  pass =
-      passes before es changes lines outlines adds next_adds o a plain_is c line appended bare kept h.headless h.lines
+  pass : (f : law.Edit) → a ≡ f → All (λ l. LetsTable l f) lines
+  pass f same =
+      subst (λ (g : law.Edit). All (λ l. LetsTable l g) lines) same
+      (passes before es changes lines adds next_adds o a plain_is c line kept h.headers_known h.lines)
 
   keeps : a ≡ runs.seen before e → IsOfKind before e line → KeepsPlace before es changes lines e c
   keeps is of =
@@ -504,11 +488,9 @@ module _ (s : Document) (edits : List Edit) (n : ℕ) (old now : ProfiledText) (
       by (law.set p v) same of insert header = tt
       by (law.rename p name) same of insert header = tt
       by (law.append_table ks) same of insert header =
-          let head : runs.is_header (outlined o) ≡ true = header ∙ ap runs.is_header same in
-          (pass ks head, all_headers (placed.header head))
+          (pass (law.append_table ks) same, all_headers (placed.header (header ∙ ap runs.is_header same)))
       by (law.append_element ks) same of insert header =
-          let head : runs.is_header (outlined o) ≡ true = header ∙ ap runs.is_header same in
-          (pass ks head, all_headers (placed.header head))
+          (pass (law.append_element ks) same, all_headers (placed.header (header ∙ ap runs.is_header same)))
 
   longer : IsLonger now.profile before es changes lines t e a c line
   longer = goes_on_by now.profile before es changes lines t e a c line so_far others beside keeps makes
@@ -540,8 +522,8 @@ module _ (s : Document) (edits : List Edit) (n : ℕ) (old now : ProfiledText) (
   -- its line is known too, if it adds one
   lines_known : All (IsKnownAt next_adds) (lines_of before ms)
   lines_known =
-      known_with before es changes lines outlines adds next_adds o a plain_is c line appended bare kept h.headless
-      h.lines longer.edit longer.seen_is longer.of
+      known_with before es changes lines adds next_adds o a plain_is c line kept h.headers_known h.lines longer.edit
+      longer.seen_is longer.of
 
   -- of all edits as they are seen
   all_seen : (P : law.Edit → Type 0) → P a → All P es → All P (seen_of before ms)
@@ -587,6 +569,8 @@ module _ (s : Document) (edits : List Edit) (n : ℕ) (old now : ProfiledText) (
         all_seen (AllowsKey path name)
         (plain_allows path name a (subst (AllowsKey path name) (sym plain_is) its)) (h.allow path name all_before);
     lines = lines_known;
+    headers_known = subst (λ (g : law.Edit). All (IsHeaderKnown next_adds) (g ∷ es)) (sym longer.seen_is)
+        (headers_with before es changes lines adds next_adds o a plain_is c line kept h.headers_known h.lines);
     at_once = at_once;
     changes_are = ap (λ (cs : List TextChange). with_change cs c) h.changes_are;
     tree_is = tree_of_run now before ms (with_change changes c) made.tree read at_once
@@ -596,7 +580,7 @@ module _ (s : Document) (edits : List Edit) (n : ℕ) (old now : ProfiledText) (
 -- ---- as the code goes
 
 -- So far these changes are made, and the edits up to number `end` are made by them, which have these outlines, and
--- whose lines are known.
+-- whose lines and headers are known.
 pub record AreMadeTo (edits : List Edit) (first end : ℕ) (now : ProfiledText) (outlines : List Outline)
     (changes : List TextChange) (adds : AddedLines) : Type 0 where
   pub made : (s : Document) (old : ProfiledText) → (h : AreMade s (take first edits) old now)
@@ -618,6 +602,7 @@ no_changes edits first now adds = record {
     renames = λ path name (k, x, less, is, holds). absurd (omega (arith, less));
     allow = λ path name all. All-nil (AllowsKey path name);
     lines = All-nil (IsKnownAt adds);
+    headers_known = All-nil (IsHeaderKnown adds);
     at_once = tt;
     changes_are = refl;
     tree_is = refl;
@@ -628,22 +613,21 @@ no_changes edits first now adds = record {
 
 pub more_changes : (edits : List Edit) (first end : ℕ) (now : ProfiledText) (outlines : List Outline)
     (changes : List TextChange) (adds next : AddedLines) (d x : Edit) (o : Outline) (t : TextEdit)
-    (line : Option LineKind) (appended : Bool)
+    (line : Option LineKind)
     → AreMadeTo edits first end now outlines changes adds → end < length edits → get_or edits end d ≡ x
     → MakesInRunHere now x (outlined o) t line → All (λ y. LeavesAlone y o) outlines
     → All (λ b. IsBeside b (change_of t)) changes → IsPlaced outlines now.text changes o (change_of t).at
-    → IsBare outlines o appended → IsLineKept adds changes o (change_of t).at line appended next
+    → IsLineKept adds changes o (change_of t).at line next
     → AreMadeTo edits first (suc end) now (outlines ++ o ∷ []) (with_change changes (change_of t)) next
-more_changes edits first end now outlines changes adds next d x o t line appended so_far lt here makes alone beside
-    placed bare kept =
+more_changes edits first end now outlines changes adds next d x o t line so_far lt here makes alone beside placed
+    kept =
     let c : TextChange = change_of t in
     let utf8 = all_with (λ b. IsUtf8 b.new) changes c so_far.utf8 (IsUtf8-string_bytes t.new) in
     let within = all_with (IsChangeIn now.text) changes c so_far.within (change_in now.text t makes.within) in
     record {
       made = λ s old h. one_made_more s edits end old now h.tree outlines changes adds next h.read
           (so_far.made s old h) d x lt here o makes.edit (makes.in_run h.tree) makes.is
-          (makes.outline_is h.tree h.read) c line (makes.makes h.tree h.read) alone beside placed appended bare kept
-          utf8 within;
+          (makes.outline_is h.tree h.read) c line (makes.makes h.tree h.read) alone beside placed kept utf8 within;
       within = within;
       utf8 = utf8;
     }

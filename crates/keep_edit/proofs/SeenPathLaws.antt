@@ -5,7 +5,8 @@
 -- begins with. The same of the keys of headers and of the paths that renames make. A header goes to the table of a path
 -- or below it only if its keys begin with those of the path.
 --
--- Theorems: `numbers_kept`, `goes_on`, `all_before`, `no_key_more`: one more; `first_key`: of a header; `insert_alone`,
+-- Theorems: `numbers_kept`, `goes_on`, `all_before`, `no_key_more`: one more; `first_key`: of a header; `some_key`,
+-- `passes_unless`: a header that passes by a path; `insert_alone`,
 -- `remove_alone`, `set_alone`, `rename_alone`, `table_alone`, `element_alone`, `alone_as`: an edit that all of those
 -- leave alone; `key_allowed`, `allowed_as`: a new key that all of those allow; `headless`: where there is no header.
 use Rattle.std.proofs.Common.{◌≡◌, ◌≢◌, ◌+◌, ◌-◌, ◌<◌, ◌==◌, ◌∷◌, ◌++◌, ◌∙◌, [], ℕ, Bor, FoldHasher, Global, List}
@@ -82,7 +83,7 @@ keys_alike path = ap finish (keys_hashed_alike initial path)
 abbrev HasSomeKey : List Part → Type 0
 HasSomeKey path = 0 < length (map key (keys_in path))
 
-some_key : (path : List Part) → BeginsInKey path → HasSomeKey path
+pub some_key : (path : List Part) → BeginsInKey path → HasSomeKey path
 some_key [] (text, is) = absurd cc
 some_key (key own ∷ path) (text, is) = omega arith
 some_key (index n ∷ path) (text, is) = absurd cc
@@ -91,6 +92,19 @@ some_pushed : (path : List Part) (name : List ℕ) → HasSomeKey (path ++ key n
 some_pushed [] name = omega arith
 some_pushed (key own ∷ path) name = omega arith
 some_pushed (index n ∷ path) name = some_pushed path name
+
+-- ---- headers that pass by
+
+-- A header passes by a path if what holds of the number of its keys holds of that of no beginning of the header's keys.
+pub passes_unless : (P : ℕ → Type 0) (keys : List (List ℕ)) (path : List Part) → HasSomeKey path
+    → P (keys_number path) → ((n : ℕ) → n < length (map key keys) → ¬ P (keys_number (take (n + 1) (map key keys))))
+    → PassesBy keys path
+passes_unless P keys path some its lacks =
+    none_above (λ l. P (keys_number l)) (map key (keys_in path)) (map key keys)
+    (subst P (sym (keys_alike path)) its) (λ n is many.
+    let more : (n - 1) + 1 ≡ n = omega (arith, is, some) in
+    subst (λ (k : ℕ). ¬ P (keys_number (take k (map key keys)))) more
+    (lacks (n - 1) (omega (arith, is, some, many))))
 
 -- ---- edits that leave one another alone
 
@@ -122,20 +136,11 @@ module _ (seen : SeenPaths) where
   passes_later : (keys : List (List ℕ)) (path : List Part) → HasPath seen (map key keys) → HasSomeKey path
       → ¬ HasBeginning seen path → PassesBy keys path
   passes_later keys path h some lacks =
-      none_above (λ l. ¬ HasBeginning seen l) (map key (keys_in path)) (map key keys)
-      (subst (λ (k : ℕ). ¬ HasNumber seen.beginnings k) (sym (keys_alike path)) lacks) (λ n is many.
-      let more : (n - 1) + 1 ≡ n = omega (arith, is, some) in
-      λ none. none (subst (λ (k : ℕ). HasBeginning seen (take k (map key keys))) more
-      (h.all (n - 1) (omega (arith, is, some, many)))))
+      passes_unless (λ k. ¬ HasNumber seen.beginnings k) keys path some lacks (λ n lt none. none (h.all n lt))
 
   passes_earlier : (keys : List (List ℕ)) (p : List Part) → MissesPath seen (map key keys) → HasSomeKey p
       → HasEnd seen p → PassesBy keys p
-  passes_earlier keys p m some has =
-      none_above (HasEnd seen) (map key (keys_in p)) (map key keys)
-      (subst (HasNumber seen.ends) (sym (keys_alike p)) has) (λ n is many.
-      let more : n ≡ (n - 1) + 1 = omega (arith, is, some) in
-      λ end. m.all (n - 1) (omega (arith, is, some, many))
-      (subst (λ (k : ℕ). HasEnd seen (take k (map key keys))) more end))
+  passes_earlier keys p m some has = passes_unless (HasNumber seen.ends) keys p some has m.all
 
   -- a path after a header, and one before it
   later : (keys : List (List ℕ)) (path : List Part) → HasPath seen (map key keys) → MissesPath seen path

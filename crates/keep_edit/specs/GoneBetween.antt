@@ -12,7 +12,7 @@ use Rattle.keep_edit_spec.specs.TextChanges.{IsBeside, TextChange, with_change}
 use Rattle.keep_edit_plan.specs.TextEdits.{change_of}
 use Rattle.keep_edit_plan.specs.declared.edit.Edit.{Edit}
 use Rattle.keep_edit_plan.specs.declared.text_edit.TextEdit.{TextEdit}
-use Rattle.keep_edit.specs.AddedLines.{IsKnownAt}
+use Rattle.keep_edit.specs.AddedLines.{IsHeaderKnown, IsKnownAt}
 use Rattle.keep_edit.specs.Lists.{AreMade}
 use Rattle.keep_edit.specs.Reading.{ProfiledText, limit}
 use Rattle.keep_edit.specs.Runs.{RemovesHeaderHere, changed_text, outlined, plain}
@@ -49,8 +49,8 @@ pub record TakesElement (now : ProfiledText) (old new : GoneBetween) (before aft
   pub plain : after.are_plain ≡ true → (before.are_plain ≡ true) × IsPlain (string_bytes change.new)
 
 -- With the edits up to number `end` made, this is the text with the changes. It is known of the document that it is
--- after a run of edits, which leave alone what each of these outlines does, and whose lines are known, and that
--- elements of these arrays alone are gone; paths lead back to the first document by `gone`.
+-- after a run of edits, which leave alone what each of these outlines does, and whose lines and headers are known, and
+-- that elements of these arrays alone are gone; paths lead back to the first document by `gone`.
 pub record IsElementRunTo (s : Document) (edits : List Edit) (end : ℕ) (old now : ProfiledText) (before : Document)
     (outlines : List Outline) (changes : List TextChange) (added : AddedLines) (arrays gone : List (List Part))
     : Type 0 where
@@ -63,6 +63,7 @@ pub record IsElementRunTo (s : Document) (edits : List Edit) (end : ℕ) (old no
   pub headless : All (λ x. runs.is_header (outlined x) ≡ false) outlines → All (λ e. runs.is_header e ≡ false) es
   pub elsewhere : (path : List Part) → All (λ x. IsElsewhere path (outlined x)) outlines → All (IsElsewhere path) es
   pub known : All (IsKnownAt added) lines
+  pub headers_known : All (IsHeaderKnown added) es
   pub of_arrays : All (λ path. HasArray arrays (changed_path path)) paths
   pub leads : (q : List Part) → first_path paths q ≡ first_path gone q
   pub run : IsElementRun now.profile limit before es changes lines paths made.tree

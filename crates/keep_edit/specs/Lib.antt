@@ -11,5 +11,6 @@ pub mod Seen
 pub mod SeenPaths
 pub mod ValueAfter
 pub mod Again
+pub mod SeenHeaders
 pub mod AddedLines
 pub mod GoneBetween

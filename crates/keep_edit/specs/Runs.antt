@@ -21,14 +21,14 @@ use Rattle.keep_edit_spec.specs.RenamedKeys.{RenamesKey}
 use Rattle.keep_edit_spec.specs.Runs as runs
 use Rattle.keep_edit_spec.specs.RunLists.{AreAtOnce, IsSetIn, MadeEdit, changes_of, document_after, lines_of}
 use Rattle.keep_edit_spec.specs.RunLists.{seen_of}
-use Rattle.keep_edit_spec.specs.Runs.{LetsCome, MakesChange, takes_up_to}
+use Rattle.keep_edit_spec.specs.Runs.{LetsCome, LetsTable, MakesChange, takes_up_to}
 use Rattle.keep_edit_spec.specs.SetValues.{SetsValue}
 use Rattle.keep_edit_spec.specs.TextChanges.{TextChange, change_at, text_with}
 use Rattle.keep_edit_spec.specs.declared.line_kind.LineKind.{LineKind}
-use Rattle.keep_edit_spec.specs.declared.line_kind.LineKind.TheVariants.{LastInBody, WithHeader}
+use Rattle.keep_edit_spec.specs.declared.line_kind.LineKind.TheVariants.{LastInBody}
 use Rattle.keep_edit_plan.specs.Headers.{key_texts}
 use Rattle.keep_edit_plan.specs.TextEdits.{HasChange, MakesChangeHere, change_of}
-use Rattle.keep_edit.specs.AddedLines.{IsKnownAt}
+use Rattle.keep_edit.specs.AddedLines.{IsHeaderKnown, IsKnownAt}
 use Rattle.keep_edit.specs.Answers.{IsSpanOf}
 use Rattle.keep_edit.specs.Gone.{IsGoneWith}
 use Rattle.keep_edit.specs.Lists.{AreMade, IsEdit}
@@ -117,22 +117,25 @@ abbrev pub line_of : List Part → ℕ → LineKind → Added
 line_of first at kind = record { first = first; at = at; kind = kind }
 
 -- A line comes after those that are known, and is known then. One that does not end a body comes after no change that
--- takes the byte before it; and one with a header, where no header is appended.
-pub record IsKnownThen (old : AddedLines) (changes : List TextChange) (line : Added) (appended : Bool)
-    (new : AddedLines) : Type 0 where
+-- takes the byte before it; and headers that are known to be appended pass by the table of one with a header.
+pub record IsKnownThen (old : AddedLines) (changes : List TextChange) (line : Added) (new : AddedLines)
+    : Type 0 where
   pub stays : line.kind ≢ LastInBody → list_any (takes_up_to line.at) changes ≡ false
-  pub headless : line.kind ≡ WithHeader → appended ≡ false
+  pub passed : (e : law.Edit) → IsHeaderKnown old e → LetsTable line e
   pub after : (l : Added) → IsKnownAt old l → IsAfterLine l line
   pub here : IsKnownAt new line
 
 -- An edit with this outline comes after these changes, with the line of this kind that it adds at this byte, if it adds
--- one. All lines that were known are known then. If it appends a header, none of them has one.
+-- one. All lines and headers that were known are known then. If it appends a header, that passes by the tables of those
+-- lines with headers, and is known.
 pub record IsLineKept (old : AddedLines) (changes : List TextChange) (x : Outline) (at : ℕ) (line : Option LineKind)
-    (appended : Bool) (new : AddedLines) : Type 0 where
+    (new : AddedLines) : Type 0 where
   pub others : (l : Added) → IsKnownAt old l → IsKnownAt new l
+  pub headers : (e : law.Edit) → IsHeaderKnown old e → IsHeaderKnown new e
   pub own : (first : List Part) (kind : LineKind) → outlined x ≡ law.insert first no_value → line ≡ Some kind
-      → IsKnownThen old changes (line_of first at kind) appended new
-  pub header : runs.is_header (outlined x) ≡ true → (l : Added) → IsKnownAt old l → l.kind ≢ WithHeader
+      → IsKnownThen old changes (line_of first at kind) new
+  pub passes : (l : Added) → IsKnownAt old l → LetsTable l (outlined x)
+  pub header : IsHeaderKnown new (outlined x)
 
 -- what is left of keys after so many, and after those of the steps of a path
 abbrev pub rest_from : List (String Global) → ℕ → List Part
@@ -238,8 +241,8 @@ pub record RenamesAgainHere (now : ProfiledText) (x : Edit) (outlines : List Out
   pub within : IsSpanOf now.text t.place
 
 -- With the edits up to number `end` made, this is the text with the changes. It is known of the document that it is
--- after a list of edits that are made at once, which leave alone what each of these outlines does, and whose lines are
--- known.
+-- after a list of edits that are made at once, which leave alone what each of these outlines does, and whose lines and
+-- headers are known.
 pub record IsRunTo (s : Document) (edits : List Edit) (end : ℕ) (old now : ProfiledText) (before : Document)
     (outlines : List Outline) (changes : List TextChange) (added : AddedLines) : Type 0 where
   pub made : AreMade s (take end edits) old (changed_text now changes)
@@ -257,6 +260,7 @@ pub record IsRunTo (s : Document) (edits : List Edit) (end : ℕ) (old now : Pro
   pub allow : (path : List Part) (name : List ℕ) → All (λ x. AllowsKey path name (outlined x)) outlines
       → All (AllowsKey path name) (seen_of before ms)
   pub lines : All (IsKnownAt added) (lines_of before ms)
+  pub headers_known : All (IsHeaderKnown added) (seen_of before ms)
   pub at_once : AreAtOnce now.profile limit before ms
   pub changes_are : changes_of ms ≡ changes
   pub tree_is : document_after before ms ≡ made.tree

@@ -60,6 +60,7 @@ mod planned;
 mod renamed;
 mod runs;
 mod seen;
+mod seen_headers;
 mod seen_paths;
 mod value_after;
 mod worth;

@@ -274,7 +274,7 @@ impl Document {
             let Some(made) = self.change_in_run(&mut planner, &mut opened, edit, next, seen) else {
                 return so_far.up_to(number);
             };
-            if !lines.keep_line(&so_far, &outline, &made, false) {
+            if !lines.keep_line(&so_far, &outline, &made) {
                 return so_far.up_to(number);
             }
             if !so_far.add(number, outline, made.change) {
@@ -338,7 +338,7 @@ impl Document {
             let Some(made) = self.change_in_run(&mut planner, &mut opened, edit, next, seen) else {
                 return so_far.up_to(number);
             };
-            if !lines.keep_line(&so_far, &outline, &made, paths.has_header()) {
+            if !lines.keep_line(&so_far, &outline, &made) {
                 return so_far.up_to(number);
             }
             if outline.writes_anew() {

@@ -24,20 +24,35 @@ fn write_key(hasher: &mut FoldHasher, path: &Steps, number: usize)
     }
 }
 
-/// The number of the keys of a path with another key in place of its last step.
+/// A hasher that was given the keys of the first steps of a path.
+fn keys_hashed(path: &Steps, count: usize) -> FoldHasher
+    ensures { result ≡ keys_hashed (take count path.now) }
+{
+    let mut hasher = FoldHasher::default();
+    for number in 0..count {
+        write_key(&mut hasher, path, number);
+    }
+    hasher
+}
+
+/// The number of the keys of a path.
+pub fn number_of_keys(path: &Steps) -> u64
+    ensures { result ≡ keys_number path.now }
+{
+    keys_hashed(path, path.len()).finish()
+}
+
+/// That of the path with another key in place of its last step.
 fn number_beside(path: &Steps, key: &str) -> u64
     ensures { result ≡ keys_number (beside path.now key.now) }
 {
-    let mut hasher = FoldHasher::default();
-    for number in 0..path.len().saturating_sub(1) {
-        write_key(&mut hasher, path, number);
-    }
+    let mut hasher = keys_hashed(path, path.len().saturating_sub(1));
     hasher.write(key.as_bytes());
     hasher.finish()
 }
 
 /// Whether the first step of a path is a key.
-fn begins_in_key(path: &Steps) -> bool
+pub fn begins_in_key(path: &Steps) -> bool
     ensures { IsTrue result → BeginsInKey path.now }
 {
     matches!(path.step(0), Some(Step::Key(_)))

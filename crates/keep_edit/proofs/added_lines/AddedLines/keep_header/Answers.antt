@@ -1,8 +1,9 @@
-use Rattle.std.proofs.Common.{◌≡◌, ◌∙◌, false, refl, subst, sym, true}
+use Rattle.std.proofs.Common.{◌≡◌, ◌∙◌, false, subst, sym, true}
 use Rattle.std.specs.Prelude.{◌==◌}
 use Rattle.std.specs.HashSet.{contains_by}
 use Rattle.keep_edit.specs.Seen.{number_of}
-use Rattle.keep_edit.proofs.LineLaws.{ok_holds, others_by}
+use Rattle.keep_edit.proofs.HeaderLaws.{ok_holds}
+use Rattle.keep_edit.proofs.LineLaws.{others_by}
 use Rattle.keep_edit.proofs.SeenLaws.{HasNumber, number_added}
 use Rattle.keep_edit.proofs.added_lines.AddedLines.keep_header.Goals as goal
 
@@ -32,5 +33,5 @@ returns-then-is_ok c = λ yes.
           let some : HasNumber old.tables number = subst (HasNumber old.tables) (sym number_is) has in absurd cc);
       with_it = subst (HasNumber c.insert-then-is_ok.new.self) number_is own;
       more = λ q has. on (number_of q) has;
-      has = refl;
+      brought = c.bring.ensures c.if-not-bring.false;
     }

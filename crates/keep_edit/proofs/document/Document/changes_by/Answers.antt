@@ -1,5 +1,5 @@
 use Rattle.std.proofs.Common.{◌≡◌, ◌+◌, ◌<◌, ℕ, All, List, suc, length, refl, sym, subst}
-use Rattle.std.proofs.Common.{false, subst₂, ◌∙◌, arith}
+use Rattle.std.proofs.Common.{subst₂, ◌∙◌, arith}
 use Rattle.std.proofs.lemmas.List.Elements.{All-append, All-nil, All-weaker}
 use Rattle.keep_edit_spec.specs.TextChanges.{TextChange}
 use Rattle.keep_edit_plan.specs.TextEdits.{change_of}
@@ -8,7 +8,7 @@ use Rattle.keep_edit.specs.Runs.{LeavesAlone, MakesInRunHere}
 use Rattle.keep_edit.specs.Seen.{IsSeen}
 use Rattle.keep_edit.specs.declared.outline.Outline.{Outline}
 use Rattle.keep_edit.proofs.AgainSteps.{made_once_more}
-use Rattle.keep_edit.proofs.KindLaws.{bare_of_kind, placed_of_kind}
+use Rattle.keep_edit.proofs.KindLaws.{placed_of_kind}
 use Rattle.keep_edit.proofs.RunSteps.{AreMadeTo, all_made, all_within, more_changes, no_changes}
 use Rattle.keep_edit.proofs.SeenLaws.{more_seen, was_added}
 use Rattle.keep_edit.proofs.document.Document.changes_by.Goals as goal
@@ -164,13 +164,13 @@ loop-number-preserved c =
           c.add-in-loop-number.new.self.changes next) one
           (subst₂ (λ (os : List Outline) (cs : List TextChange). AreMadeTo edits first (suc number) now os cs next)
           (sym pushed) (sym with_it)
-          (more_changes edits first number now outlines changes adds next x x o change made.line false so_far low
+          (more_changes edits first number now outlines changes adds next x x o change made.line so_far low
           (sym c.index-edits-number.is)
           (subst (λ a. MakesInRunHere now x a change made.line) (sym c.of-outline.ensures)
           c.in-Some-change_in_run.ensures.made)
           alone beside
           (placed_of_kind c.add.new.self outlines now.text changes o (change_of change).at still here)
-          (bare_of_kind c.add.new.self outlines o false still here) (c.keep_line.ensures c.if-not-keep_line.false))),
+          (c.keep_line.ensures c.if-not-keep_line.false))),
       subst (All (IsSeen c.add.new.self)) (sym pushed)
           (more_seen (IsSeen c.loop-number.keys) (IsSeen c.add.new.self) outlines o
           c.add.ensures.others here seen),

@@ -20,7 +20,7 @@ use Rattle.keep_edit.proofs.AgainSteps.{each_put, made_once_more}
 use Rattle.keep_edit.proofs.ElementSteps.{AreMadeAmong, IsPlacedAmong, among_made, among_within, less_among}
 use Rattle.keep_edit.proofs.ElementSteps.{more_among, none_gone}
 use Rattle.keep_edit.proofs.KindLaws.{placed_plain}
-use Rattle.keep_edit.proofs.RunSteps.{IsBare, no_changes}
+use Rattle.keep_edit.proofs.RunSteps.{no_changes}
 use Rattle.keep_edit.proofs.SeenPathLaws.{headless}
 use Rattle.keep_edit.proofs.SeenLaws.{more_seen, was_added}
 use Rattle.keep_edit.proofs.document.Document.changes_of_kinds.Goals as goal
@@ -254,25 +254,20 @@ loop-number-preserved c =
           text_plain (w.is_text_plain-is ∙ w.if-not-is_text_plain.false),
           were_plain (w.keeps_place.ensures.plain w.if-not-keeps_place.false),
         ),
-        subst (IsPlaceKept now.text changes o (change_of change).at) w.has_header-else-not-is_text_plain.ensures
+        subst (IsPlaceKept now.text changes o (change_of change).at) w.has_header.ensures
             (w.keeps_place.ensures.kept w.if-not-keeps_place.false),
       )
       | else-writes_anew w ↦ absurd (let was = w.if-writes_anew.false in cc)
     ]) in
     let elsewhere = c.leave_alone.ensures c.if-not-leave_alone.false in
-    let bare : IsBare outlines o c.has_header.result =
-    λ line none.
-    All-weaker (IsSeen c.loop-number.paths) (λ y. runs.is_header (outlined y) ≡ false)
-    (λ y k. headless c.add.new.self (sym c.has_header.ensures ∙ none) y (c.add.ensures.others y k)) outlines seen in
     let (beside, with_it) = c.add-in-loop-number.ensures.changes c.if-not-add.false in
     let pushed = c.add-in-loop-number.ensures.outlines c.if-not-add.false in (
       among_as edits first now next gone
-          (more_among edits first number now outlines changes adds next gone x x o change made.line
-          c.has_header.result so_far low
+          (more_among edits first number now outlines changes adds next gone x x o change made.line so_far low
           (sym c.index-edits-number.is)
           (subst (λ a. MakesInRunHere now x a change made.line) (sym c.of-outline.ensures)
           c.in-Some-change_in_run.ensures.made)
-          alone elsewhere beside placed bare (c.keep_line.ensures c.if-not-keep_line.false))
+          alone elsewhere beside placed (c.keep_line.ensures c.if-not-keep_line.false))
           one pushed with_it,
       subst (All (IsSeen c.add.new.self)) (sym pushed)
           (more_seen (IsSeen c.loop-number.paths) (IsSeen c.add.new.self) outlines o
