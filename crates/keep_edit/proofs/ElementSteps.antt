@@ -35,6 +35,7 @@ use Rattle.keep_edit_plan.specs.TextEdits.{IsChangeIn, change_of}
 use Rattle.keep_edit_plan.specs.declared.edit.Edit.{Edit}
 use Rattle.keep_edit_plan.specs.declared.text_edit.TextEdit.{TextEdit}
 use Rattle.keep_edit.specs.GoneBetween.{AreElsewhere, HasArray, IsElementRunTo, RemovesElementHere}
+use Rattle.keep_edit.specs.KindsRun.{IsPlacedAmong}
 use Rattle.keep_edit.specs.Lists.{AreMade, IsEdit}
 use Rattle.keep_edit.specs.Reading.{IsTextOfTree, ProfiledText, limit}
 use Rattle.keep_edit.specs.Runs.{IsLineKept, IsOfKind, LeavesAlone, MakeChanges, MakesInRun, MakesInRunHere}
@@ -76,15 +77,6 @@ none_gone edits first end now outlines changes adds gone so_far empty same = rec
 }
 
 -- ---- one edit more
-
--- If an edit writes a line or a header, each newline is alike, and none takes the byte before its place, but for one in
--- whose place a line comes; nor, before a line, writes a header there.
-pub record IsPlacedAmong (outlines : List Outline) (bytes : List ℕ) (changes : List TextChange) (x : Outline) (at : ℕ)
-    : Type 0 where
-  pub insert : runs.is_insert (outlined x) ≡ true
-      → ArePlain bytes changes × (All (LetsCome bytes changes at) changes
-      × (All (λ y. runs.is_header (outlined y) ≡ false) outlines ⊎ (at ≢ length bytes)))
-  pub header : runs.is_header (outlined x) ≡ true → IsPlainBefore bytes changes at
 
 -- others see it so, and the run is longer
 record IsLongerAmong (profile : Profile) (s : Document) (es : List law.Edit) (changes : List TextChange)

@@ -13,10 +13,10 @@ use Rattle.keep_edit_spec.specs.Runs.{ArePlain}
 use Rattle.keep_edit_spec.specs.TextChanges.{TextChange}
 use Rattle.keep_edit.specs.declared.outline.Outline.{Outline}
 use Rattle.keep_edit.specs.declared.outline.Outline.TheVariants.{Element, Insert, Remove, Rename, Set, Table}
+use Rattle.keep_edit.specs.KindsRun.{IsPlacedAmong}
 use Rattle.keep_edit.specs.Runs.{IsPlaceKept, outlined, writes_anew}
 use Rattle.keep_edit.specs.Seen.{HasPathsOf, IsSeen}
 use Rattle.keep_edit.specs.declared.seen.SeenKeys.{SeenKeys}
-use Rattle.keep_edit.proofs.ElementSteps.{IsPlacedAmong}
 use Rattle.keep_edit.proofs.RunSteps.{IsPlaced}
 
 -- the two write a line, or a header, alike

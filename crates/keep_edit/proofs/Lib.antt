@@ -31,5 +31,6 @@ mod SectionSteps
 mod ElementArrays
 mod ElementsGone
 mod ElementSteps
+mod KindsRunSteps
 mod ValueAfterLaws
 mod OpenedLaws

@@ -14,3 +14,4 @@ pub mod Again
 pub mod SeenHeaders
 pub mod AddedLines
 pub mod GoneBetween
+pub mod KindsRun

@@ -52,6 +52,7 @@ mod gone;
 mod gone_between;
 mod index_change;
 mod inserted;
+mod kinds_run;
 mod lines;
 mod opened;
 mod outline;

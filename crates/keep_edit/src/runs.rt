@@ -7,6 +7,7 @@ ghost use Rattle.keep_syntax.specs.Tree as tree;
 ghost use Rattle.keep_edit.specs.Lists.{AreMade, StopsAt};
 ghost use Rattle.keep_edit.specs.Answers.{IsSpanOf};
 ghost use Rattle.keep_edit.specs.GoneBetween.{AreElsewhere, HasArray, RemovesElementHere, TakesElement};
+ghost use Rattle.keep_edit.specs.KindsRun.{AddsOne, GoesOn, IsPlacedAmong, IsRunOn, with_text};
 ghost use Rattle.keep_edit.specs.Reading.{IsTextOfTree, ProfiledText, limit};
 ghost use Rattle.keep_edit.specs.Runs.{AddsItemHere, IsPlaceKept, IsSeenAs, MakeChanges, MakesInRunHere};
 ghost use Rattle.keep_edit.specs.Runs.{MakesItselfHere};
@@ -16,18 +17,19 @@ ghost use Rattle.keep_edit.specs.ValueAfter.{MakesValue};
 ghost use Rattle.keep_edit_plan.specs.TextEdits.{IsChangeIn, change_of};
 ghost use Rattle.keep_edit_spec.specs.AddedItems.{item_path};
 ghost use Rattle.keep_edit_spec.specs.RemovedHeaders.{RemovesHeader, first_path};
+ghost use Rattle.keep_edit_spec.specs.Runs.{IsPlain};
 ghost use Rattle.keep_path.specs.Path.{Part};
 
 use crate::added_lines::AddedLines;
-use crate::alike::{agree, is_same, leave_alone_within};
+use crate::alike::{agree, is_same};
 use crate::at_once::{AtOnce, Run, RunEdit, is_plain};
 use crate::document::Document;
 use crate::gone::{GoneElements, array_of};
 use crate::gone_between::GoneBetween;
+use crate::kinds_run::KindsRun;
 use crate::opened::OpenValues;
 use crate::outline::{Outline, SeenAs, Steps, index_at};
 use crate::seen::SeenKeys;
-use crate::seen_paths::SeenPaths;
 use crate::value_after::value_after;
 use keep_edit_plan::{Edit, Planner, TextEdit, TextEdits, first_steps};
 use keep_edit_spec::EditFault;
@@ -252,8 +254,6 @@ impl Document {
         let end = edits.len().min(first.saturating_add(MOST_AT_ONCE));
         for number in first..end {
             let edit = &edits[number];
-            let seen = self.seen_as(edit);
-            let outline = Outline::of(edit, seen);
             if let Some(again) = self.again(&so_far, &mut opened, &mut planner, edits, edit) {
                 if !keys.allow_again(&again) {
                     return so_far.up_to(number);
@@ -263,11 +263,9 @@ impl Document {
                 }
                 continue;
             }
-            if outline.has_long_path()
-                || !(keys.leaves_alone(&outline)
-                    || leave_alone_within(&mut left, so_far.outlines.as_slice(), &outline))
-                || !keys.add(&outline).unwrap_or(false)
-            {
+            let seen = self.seen_as(edit);
+            let outline = Outline::of(edit, seen);
+            if !keys.keep_alone(&mut left, so_far.outlines.as_slice(), &outline) {
                 return so_far.up_to(number);
             }
             let next = edits.get(number + 1);
@@ -294,65 +292,90 @@ impl Document {
         ensures made { MakeChanges edits.now first result.end self.now result.changes }
         ensures within { All (IsChangeIn self.now.text) result.changes }
     {
-        let mut so_far = AtOnce::new(self.alloc());
-        let mut opened = OpenValues::new(self.alloc());
-        let mut planner = Planner::new(self.alloc(), self.as_ref());
-        let mut paths = SeenPaths::new(self.alloc());
-        let mut lines = AddedLines::new(self.alloc());
-        let mut gone = GoneBetween::new(self.alloc());
-        let mut left = self.most_pairs();
-        let mut is_text_plain = false;
+        let mut run = KindsRun::new(self.alloc(), self.as_ref(), self.most_pairs());
         let end = edits.len().min(first.saturating_add(MOST_AT_ONCE));
         for number in first..end {
-            let edit = &edits[number];
-            let seen = self.seen_as(edit);
-            if is_of_element(edit, seen) {
-                if !self.take_element(&mut so_far, &mut gone, edit) {
-                    return so_far.up_to(number);
-                }
-                continue;
-            }
-            let outline = Outline::of(edit, seen);
-            let again = match gone.is_empty() {
-                true => self.again(&so_far, &mut opened, &mut planner, edits, edit),
-                false => None,
-            };
-            if let Some(again) = again {
-                if !paths.allow_again(&again) {
-                    return so_far.up_to(number);
-                }
-                if !so_far.put_again(number, again) {
-                    return so_far.up_to(number);
-                }
-                continue;
-            }
-            if outline.has_long_path_among_all()
-                || !gone.leave_alone(&outline)
-                || !(paths.leave_alone(&outline)
-                    || leave_alone_within(&mut left, so_far.outlines.as_slice(), &outline))
-                || !paths.add(&outline).unwrap_or(false)
-            {
-                return so_far.up_to(number);
-            }
-            let next = edits.get(number + 1);
-            let Some(made) = self.change_in_run(&mut planner, &mut opened, edit, next, seen) else {
-                return so_far.up_to(number);
-            };
-            if !lines.keep_line(&so_far, &outline, &made) {
-                return so_far.up_to(number);
-            }
-            if outline.writes_anew() {
-                is_text_plain = is_text_plain || is_plain(self.text.as_str());
-                let at = made.change.place.start;
-                if !is_text_plain || !self.keeps_place(&so_far, &outline, at, paths.has_header()) {
-                    return so_far.up_to(number);
-                }
-            }
-            if !so_far.add(number, outline, made.change) {
-                return so_far.up_to(number);
+            if !self.goes_on(&mut run, edits, number) {
+                return run.up_to(number);
             }
         }
-        so_far.up_to(end)
+        run.up_to(end)
+    }
+
+    /// Whether a run goes on with the edit that has this number: its change is made with the others then. If it does
+    /// not, they have not changed.
+    fn goes_on<'a>(&self, run: &mut KindsRun<'a>, edits: &'a [Edit], number: usize) -> bool
+        requires few { number < length edits.now }
+        requires run { IsRunOn self.now run.old }
+        requires elsewhere { AreElsewhere run.old.gone.arrays.items run.old.so_far.outlines.items }
+        requires within { All (IsChangeIn self.now.text) run.old.so_far.changes }
+        ensures done { IsTrue result → GoesOn self.now run.old edits.now number run.new }
+        ensures run { IsTrue result → IsRunOn self.now run.new }
+        ensures refused { result ≡ false → run.new.so_far.changes ≡ run.old.so_far.changes }
+    {
+        let edit = &edits[number];
+        let seen = self.seen_as(edit);
+        if is_of_element(edit, seen) {
+            return self.take_element(&mut run.so_far, &mut run.gone, edit);
+        }
+        if run.gone.is_empty() {
+            let again = self.again(&run.so_far, &mut run.opened, &mut run.planner, edits, edit);
+            if let Some(again) = again {
+                return run.put_again(number, again);
+            }
+        }
+        self.add_to(run, number, edit, edits.get(number + 1), seen)
+    }
+
+    /// Adds an edit, which has this number in the list, to a run, if the others leave it alone and it makes its own
+    /// change beside theirs. Returns whether it was added; if not, no change was added.
+    fn add_to<'a>(
+        &self,
+        run: &mut KindsRun<'a>,
+        number: usize,
+        edit: &'a Edit,
+        next: Option<&Edit>,
+        seen: SeenAs,
+    ) -> bool
+        requires seen { IsSeenAs self.now edit.now seen }
+        requires run { IsRunOn self.now run.old }
+        requires within { All (IsChangeIn self.now.text) run.old.so_far.changes }
+        ensures added { IsTrue result → AddsOne self.now run.old edit.now run.new }
+        ensures run { IsTrue result → IsRunOn self.now run.new }
+        ensures refused { result ≡ false → run.new.so_far.changes ≡ run.old.so_far.changes }
+    {
+        let outline = Outline::of(edit, seen);
+        if !run.leave_alone(&outline) {
+            return false;
+        }
+        let Some(made) = self.change_in_run(&mut run.planner, &mut run.opened, edit, next, seen)
+        else {
+            return false;
+        };
+        if !run.lines.keep_line(&run.so_far, &outline, &made) {
+            return false;
+        }
+        if !self.keeps_place_in(run, &outline, made.change.place.start) {
+            return false;
+        }
+        run.so_far.add(number, outline, made.change)
+    }
+
+    /// Whether an edit writes no line and no header, or the one that it writes at a byte can come there after a run's
+    /// changes as before them, as the text has no carriage return.
+    fn keeps_place_in(&self, run: &mut KindsRun, outline: &Outline, at: usize) -> bool
+        requires run { IsRunOn self.now run.old }
+        requires within { All (IsChangeIn self.now.text) run.old.so_far.changes }
+        ensures placed { IsTrue result
+            → IsPlacedAmong run.old.so_far.outlines.items self.now.text run.old.so_far.changes outline.now at }
+        ensures text { run.new.is_text_plain ≡ true → IsPlain self.now.text }
+        ensures rest { run.new ≡ with_text run.old run.new.is_text_plain }
+    {
+        if !outline.writes_anew() {
+            return true;
+        }
+        run.is_text_plain = run.is_text_plain || is_plain(self.text.as_str());
+        run.is_text_plain && self.keeps_place(&run.so_far, outline, at, run.paths.has_header())
     }
 
     /// What an edit changes of the text, if it sets a value that these edits are known to set, or is of an entry of

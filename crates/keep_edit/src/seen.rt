@@ -1,5 +1,5 @@
 //! The paths of edits of one kind that are made at once, by which most are known to leave alone those before them.
-ghost use Rattle.std.specs.Prelude.{◌≡◌, ◌+◌, ◌≤◌, ℕ, IfOk, IsTrue, List, OnOk, length, map, take, true};
+ghost use Rattle.std.specs.Prelude.{◌≡◌, ◌+◌, ◌≤◌, ℕ, All, IfOk, IsTrue, List, OnOk, length, map, take, true};
 ghost use Rattle.keep_edit.specs.declared.outline.Outline.{Outline};
 ghost use Rattle.keep_edit.specs.Runs.{Allows, LeavesAlone, outlined};
 ghost use Rattle.keep_edit.specs.Seen.{GoesOn, HasPath, IsSeen, hashed, number_of};
@@ -7,6 +7,7 @@ ghost use Rattle.keep_edit_plan.specs.Headers.{key_texts};
 ghost use Rattle.keep_edit_spec.specs.Runs.{is_insert};
 ghost use Rattle.keep_path.specs.Path.{Part, beside, key};
 
+use crate::alike::leave_alone_within;
 use crate::outline::{Outline, Steps};
 use keep_rules::Step;
 use std::alloc::{AllocError, Global};
@@ -141,6 +142,22 @@ impl<'a> SeenKeys<'a> {
             (Outline::Remove(_), Outline::Remove(_)) | (Outline::Set(_), Outline::Set(_)) => true,
             _ => false,
         }
+    }
+
+    /// Whether an edit is known to be left alone by each of some whose paths were added, by its paths or as they are
+    /// compared, within so many pairs. Then its paths are added.
+    pub fn keep_alone(&mut self, left: &mut usize, outlines: &[Outline], outline: &Outline) -> bool
+        requires { All (IsSeen self.old) outlines.now }
+        ensures alone { IsTrue result → All (λ y. LeavesAlone y outline.now) outlines.now }
+        ensures seen { IsTrue result → IsSeen self.new outline.now }
+        ensures others { (other : Outline) → IsSeen self.old other → IsSeen self.new other }
+    {
+        if outline.has_long_path()
+            || !(self.leaves_alone(outline) || leave_alone_within(left, outlines, outline))
+        {
+            return false;
+        }
+        self.add(outline).unwrap_or(false)
     }
 
     /// Whether each edit whose paths were added is known by these to allow the new key of a rename, the path of which

@@ -10,9 +10,8 @@ use Rattle.keep_edit.specs.declared.outline.Outline.{Outline}
 use Rattle.keep_edit.proofs.AgainSteps.{made_once_more}
 use Rattle.keep_edit.proofs.KindLaws.{placed_of_kind}
 use Rattle.keep_edit.proofs.RunSteps.{AreMadeTo, all_made, all_within, more_changes, no_changes}
-use Rattle.keep_edit.proofs.SeenLaws.{more_seen, was_added}
+use Rattle.keep_edit.proofs.SeenLaws.{more_seen}
 use Rattle.keep_edit.proofs.document.Document.changes_by.Goals as goal
-use Rattle.keep_edit.proofs.document.Document.changes_by.Goals.{else-leaves_alone, then-leaves_alone}
 
 pub loop-number-init : goal.loop-number-init
 loop-number-init c =
@@ -26,15 +25,19 @@ loop-number-init c =
       c.new-planner.ensures ∙ c.as_ref.ensures,
     )
 
+pub keep_alone-requires : goal.keep_alone-requires
+keep_alone-requires c =
+    subst (All (IsSeen c.loop-number.keys)) (sym c.as_slice.ensures.value) c.loop-number.invariant.1
+
 pub returns-clause-made : goal.returns-clause-made
 returns-clause-made c =
     all_made c.args.edits.now c.args.first c.args.self.now _ _ _ c.loop-number.invariant.0 c.up_to-2.ensures.0
     (c.up_to-2.ensures.1 ∙ omega (arith, c.loop-number-test.false, c.loop-number.auto.number-end))
 
-pub returns-then-has_long_path-clause-made : goal.returns-then-has_long_path-clause-made
-returns-then-has_long_path-clause-made c =
+pub returns-then-not-keep_alone-clause-made : goal.returns-then-not-keep_alone-clause-made
+returns-then-not-keep_alone-clause-made c =
     all_made c.args.edits.now c.args.first c.args.self.now _ _ _ c.loop-number.invariant.0
-    c.up_to-then-has_long_path.ensures.0 c.up_to-then-has_long_path.ensures.1
+    c.up_to-then-not-keep_alone.ensures.0 c.up_to-then-not-keep_alone.ensures.1
 
 pub returns-in_default-change_in_run-clause-made :
     goal.returns-in_default-change_in_run-clause-made
@@ -57,10 +60,10 @@ returns-clause-within c =
     all_within c.args.edits.now c.args.first c.args.self.now _ _ _ c.loop-number.invariant.0
     c.up_to-2.ensures.0
 
-pub returns-then-has_long_path-clause-within : goal.returns-then-has_long_path-clause-within
-returns-then-has_long_path-clause-within c =
+pub returns-then-not-keep_alone-clause-within : goal.returns-then-not-keep_alone-clause-within
+returns-then-not-keep_alone-clause-within c =
     all_within c.args.edits.now c.args.first c.args.self.now _ _ _ c.loop-number.invariant.0
-    c.up_to-then-has_long_path.ensures.0
+    c.up_to-then-not-keep_alone.ensures.0
 
 pub returns-in_default-change_in_run-clause-within : goal.returns-in_default-change_in_run-clause-within
 returns-in_default-change_in_run-clause-within c =
@@ -144,24 +147,16 @@ loop-number-preserved c =
     let (so_far, seen, plans) = c.loop-number.invariant in
     let low : number < length edits = omega (arith, c.loop-number-test.true, c.min-end.ensures) in
     let one : suc number ≡ number + 1 = omega arith in
-    let alone : All (λ y. LeavesAlone y o) outlines = elim c.if-leaves_alone.branch [
-      | then-leaves_alone w ↦
-          All-weaker (IsSeen c.loop-number.keys) (λ y. LeavesAlone y o) (c.leaves_alone.ensures w.if-leaves_alone.true)
-          outlines seen
-      | else-leaves_alone w ↦
-          subst (All (λ y. LeavesAlone y o)) w.as_slice.ensures.value
-          (w.leave_alone_within.ensures (sym w.value-is ∙ c.if-not-leave_alone_within.false))
-    ] in
-    let here : IsSeen c.add.new.self o =
-    was_added (IsSeen c.add.new.self o) c.add.result
-    c.add.ensures.seen
-    (sym c.unwrap_or.ensures ∙ c.if-not-unwrap_or.false) in
-    let still : All (IsSeen c.add.new.self) outlines =
-    All-weaker (IsSeen c.loop-number.keys) (IsSeen c.add.new.self) c.add.ensures.others outlines seen in
-    let (beside, with_it) = c.add-in-loop-number.ensures.changes c.if-not-add.false in
-    let pushed = c.add-in-loop-number.ensures.outlines c.if-not-add.false in (
-      subst (λ (n : ℕ). AreMadeTo edits first n now c.add-in-loop-number.new.self.outlines.items
-          c.add-in-loop-number.new.self.changes next) one
+    let alone : All (λ y. LeavesAlone y o) outlines =
+    subst (All (λ y. LeavesAlone y o)) c.as_slice.ensures.value
+    (c.keep_alone.ensures.alone c.if-not-keep_alone.false) in
+    let here : IsSeen c.keep_alone.new.self o = c.keep_alone.ensures.seen c.if-not-keep_alone.false in
+    let still : All (IsSeen c.keep_alone.new.self) outlines =
+    All-weaker (IsSeen c.loop-number.keys) (IsSeen c.keep_alone.new.self) c.keep_alone.ensures.others outlines seen in
+    let (beside, with_it) = c.add.ensures.changes c.if-not-add.false in
+    let pushed = c.add.ensures.outlines c.if-not-add.false in (
+      subst (λ (n : ℕ). AreMadeTo edits first n now c.add.new.self.outlines.items
+          c.add.new.self.changes next) one
           (subst₂ (λ (os : List Outline) (cs : List TextChange). AreMadeTo edits first (suc number) now os cs next)
           (sym pushed) (sym with_it)
           (more_changes edits first number now outlines changes adds next x x o change made.line so_far low
@@ -169,10 +164,10 @@ loop-number-preserved c =
           (subst (λ a. MakesInRunHere now x a change made.line) (sym c.of-outline.ensures)
           c.in-Some-change_in_run.ensures.made)
           alone beside
-          (placed_of_kind c.add.new.self outlines now.text changes o (change_of change).at still here)
+          (placed_of_kind c.keep_alone.new.self outlines now.text changes o (change_of change).at still here)
           (c.keep_line.ensures c.if-not-keep_line.false))),
-      subst (All (IsSeen c.add.new.self)) (sym pushed)
-          (more_seen (IsSeen c.loop-number.keys) (IsSeen c.add.new.self) outlines o
-          c.add.ensures.others here seen),
+      subst (All (IsSeen c.keep_alone.new.self)) (sym pushed)
+          (more_seen (IsSeen c.loop-number.keys) (IsSeen c.keep_alone.new.self) outlines o
+          c.keep_alone.ensures.others here seen),
       c.change_in_run.ensures.planner ∙ c.again.ensures.planner ∙ plans,
     )

@@ -1,0 +1,32 @@
+use Rattle.std.proofs.Common.{◌≡◌, ◌∙◌, All, ap, subst, sym}
+use Rattle.std.proofs.lemmas.List.Elements.{All-weaker}
+use Rattle.keep_edit.specs.Runs.{LeavesAlone}
+use Rattle.keep_edit.specs.SeenPaths.{IsSeen}
+use Rattle.keep_edit.specs.declared.kinds_run.KindsRun.{KindsRun}
+use Rattle.keep_edit.specs.declared.seen_paths.SeenPaths.{SeenPaths}
+use Rattle.keep_edit.proofs.SeenLaws.{was_added}
+use Rattle.keep_edit.proofs.kinds_run.KindsRun.leave_alone.Goals as goal
+use Rattle.keep_edit.proofs.kinds_run.KindsRun.leave_alone.Goals.{else-leave_alone, then-leave_alone}
+
+pub returns-clause-added : goal.returns-clause-added
+returns-clause-added c = λ added.
+    let o = c.args.outline.now in
+    let old = c.args.self.now in
+    let outlines = old.so_far.outlines.items in
+    let same : c.if-leave_alone.self.paths ≡ old.paths = elim c.if-leave_alone.branch [
+      | then-leave_alone w ↦ ap (λ (r : KindsRun). r.paths) w.self-is
+      | else-leave_alone w ↦ ap (λ (r : KindsRun). r.paths) w.self-is
+    ] in
+    record {
+      alone = elim c.if-leave_alone.branch [
+        | then-leave_alone w ↦
+            All-weaker (IsSeen old.paths) (λ y. LeavesAlone y o)
+            (c.leave_alone-else-not-leave_alone.ensures w.if-leave_alone.true) outlines c.requires
+        | else-leave_alone w ↦
+            subst (All (λ y. LeavesAlone y o)) w.as_slice.ensures.value
+            (w.leave_alone_within.ensures (sym w.value-is ∙ c.if-not-leave_alone_within.false))
+      ];
+      elsewhere = c.leave_alone.ensures c.if-not-leave_alone.false;
+      seen = was_added (IsSeen c.add.new.self o) c.add.result c.add.ensures.seen (sym c.unwrap_or.ensures ∙ added);
+      others = λ y is. c.add.ensures.others y (subst (λ (paths : SeenPaths). IsSeen paths y) (sym same) is);
+    }
