@@ -22,7 +22,7 @@ use std::alloc::Global;
 use std::marker::Model;
 
 /// Elements of no more arrays go in one run, since each path is compared with that of each array.
-pub const MOST_ARRAYS: usize = 256;
+pub const MOST_ARRAYS: usize = 512;
 
 /// An array of tables, and the numbers that elements of it had when they went, one after another.
 #[derive(Drop)]
