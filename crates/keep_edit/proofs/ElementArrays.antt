@@ -4,11 +4,14 @@
 -- Where edits are elsewhere than in each of the arrays, they are so still with one array more in which none of them is
 -- (`with_array`), and elsewhere than in an array that is one of these (`element_here`).
 --
--- Theorems: `array_is`: the array of an element; `with_array`: one array more; `element_here`: the element that a
--- remove takes, whose array is kept.
-use Rattle.std.proofs.Common.{◌≡◌, ℕ, Bool, true, false, List, [], ◌∷◌, ◌++◌, Option, Some, sym, ap, subst, cond, ◌∙◌}
+-- Theorems: `array_is`: the array of an element; `pushed`, `with_array`, `own_array`, `array_still`: one array more;
+-- `element_here`: the element that a remove takes, whose array is kept.
+use Rattle.std.proofs.Common.{◌≡◌, ◌<◌, ℕ, Bool, true, false, List, [], ◌∷◌, ◌++◌, Option, Some, sym, ap, subst, cond}
+use Rattle.std.proofs.Common.{◌∙◌, arith, length, refl}
 use Rattle.std.specs.Prelude.{All, IfSome}
+use Rattle.std.proofs.lemmas.List.{get_or_append_left, length-append}
 use Rattle.std.proofs.lemmas.List.Elements.{All-push}
+use Rattle.std.proofs.lemmas.List.Quantifiers.{Any-push}
 use Rattle.std.proofs.lemmas.Option.{IfSome_then}
 use Rattle.keep_path.specs.Path.{Part, index, last_part, without_last}
 use Rattle.keep_edit_spec.specs.Edits as law
@@ -30,14 +33,32 @@ array_is path array n is last = rw (last, changed_path) is
 
 -- ---- one array more
 
--- after a push, which may be refused
-pub with_array : (arrays new : List (List Part)) (array : List Part) (outlines : List Outline) (b : Bool)
-    → new ≡ cond b (arrays ++ array ∷ []) arrays → AreElsewhere arrays outlines
-    → All (λ o. IsElsewhere array (outlined o)) outlines → AreElsewhere new outlines
-with_array arrays new array outlines true is elsewhere own =
-    subst (λ l. AreElsewhere l outlines) (sym is)
-    (All-push (λ a. All (λ o. IsElsewhere a (outlined o)) outlines) arrays array elsewhere own)
-with_array arrays new array outlines false is elsewhere own = subst (λ l. AreElsewhere l outlines) (sym is) elsewhere
+-- after a push, which was not refused
+pub pushed : (arrays new : List (List Part)) (array : List Part) (b : Bool)
+    → new ≡ cond b (arrays ++ array ∷ []) arrays → b ≡ true → new ≡ arrays ++ array ∷ []
+pushed arrays new array true is here = is
+pushed arrays new array false is here = absurd cc
+
+module _ (arrays new : List (List Part)) (array : List Part) (is : new ≡ arrays ++ array ∷ []) where
+  pub with_array : (outlines : List Outline) → AreElsewhere arrays outlines
+      → All (λ o. IsElsewhere array (outlined o)) outlines → AreElsewhere new outlines
+  with_array outlines elsewhere own =
+      subst (λ l. AreElsewhere l outlines) (sym is)
+      (All-push (λ a. All (λ o. IsElsewhere a (outlined o)) outlines) arrays array elsewhere own)
+
+  pub own_array : HasArray new array
+  own_array = subst (λ l. HasArray l array) (sym is) (Any-push (λ other. other ≡ array) arrays array refl)
+
+  pub array_still : (a : List Part) → HasArray arrays a → HasArray new a
+  array_still a (k, other, lt, read, same) =
+      let long : k < length (arrays ++ array ∷ []) = omega (arith, lt, length-append arrays (array ∷ [])) in
+      subst (λ l. HasArray l a) (sym is) (
+        k,
+        other,
+        long,
+        get_or_append_left arrays (array ∷ []) other k lt ∙ read,
+        same,
+      )
 
 -- ---- one element less
 

@@ -14,7 +14,7 @@ use Rattle.keep_edit_plan.specs.declared.edit.Edit.{Edit}
 use Rattle.keep_edit.specs.GoneBetween.{AreElsewhere}
 use Rattle.keep_edit.specs.KindsRun.{AddsOne, GoesOn, IsRunOn, PutsOne, StartsAt, TakesOne}
 use Rattle.keep_edit.specs.Reading.{ProfiledText}
-use Rattle.keep_edit.specs.SeenPaths.{IsSeen}
+use Rattle.keep_edit.specs.SeenPaths.{IsArraySeen, IsSeen}
 use Rattle.keep_edit.specs.declared.added_lines.AddedLines.{AddedLines}
 use Rattle.keep_edit.specs.declared.gone_between.GoneBetween.{GoneBetween}
 use Rattle.keep_edit.specs.declared.kinds_run.KindsRun.{KindsRun}
@@ -79,7 +79,7 @@ run_longer edits first end now old new so_far run lt h = by h.by
     by : AddsOne now old h.edit new ⊎ PutsOne now old h.edit new ⊎ TakesOne now old h.edit new
         → AreMadeIn edits first (suc end) now new
     by (inl adds) = adds_one edits first end now old new so_far lt h.edit h.edit h.here adds
-    by (inr (inl puts)) = puts_one edits first end now old new so_far lt h.edit h.edit h.here run.seen puts
+    by (inr (inl puts)) = puts_one edits first end now old new so_far lt h.edit h.edit h.here run.seen.0 puts
     by (inr (inr takes)) = takes_one edits first end now old new so_far lt h.edit h.edit h.here takes
 
 -- ---- none yet
@@ -92,7 +92,10 @@ run_begins edits first now run h = (
       h.elements)
       h.outlines h.changes refl refl,
   record {
-    seen = subst (All (IsSeen run.paths)) (sym h.outlines) (All-nil (IsSeen run.paths));
+    seen = (
+      subst (All (IsSeen run.paths)) (sym h.outlines) (All-nil (IsSeen run.paths)),
+      subst (All (IsArraySeen run.paths)) (sym h.arrays) (All-nil (IsArraySeen run.paths)),
+    );
     text = λ yes. absurd (let no = h.text in cc);
     plain = λ yes. subst (All (λ d. IsPlain d.new)) (sym h.changes) (All-nil (λ (d : TextChange). IsPlain d.new));
     planner = h.planner;

@@ -15,6 +15,7 @@ mod AlikeLaws
 mod KeysOnPath
 mod SeenLaws
 mod SeenPathLaws
+mod KnownLaws
 mod HeaderLaws
 mod KindLaws
 mod LineLaws

@@ -8,24 +8,28 @@
 -- Theorems: `numbers_kept`, `goes_on`, `all_before`, `no_key_more`: one more; `first_key`: of a header; `some_key`,
 -- `passes_unless`: a header that passes by a path; `insert_alone`,
 -- `remove_alone`, `set_alone`, `rename_alone`, `table_alone`, `element_alone`, `alone_as`: an edit that all of those
--- leave alone; `key_allowed`, `allowed_as`: a new key that all of those allow; `headless`: where there is no header.
+-- leave alone; `path_elsewhere`, `seen_elsewhere`, `rename_elsewhere`, `header_elsewhere`, `elsewhere_as`: an edit that
+-- is elsewhere than in an array; `key_allowed`, `allowed_as`: a new key that all of those allow; `headless`: where
+-- there is no header; `arrays_still`: arrays that are known still.
 use Rattle.std.proofs.Common.{◌≡◌, ◌≢◌, ◌+◌, ◌-◌, ◌<◌, ◌==◌, ◌∷◌, ◌++◌, ◌∙◌, [], ℕ, Bor, FoldHasher, Global, List}
 use Rattle.std.proofs.Common.{None, Option, Some, String, ap, arith, false, fold, inl, inr, length, map, refl}
-use Rattle.std.proofs.Common.{slice_get, string_bytes, subst, sym, take, true}
+use Rattle.std.proofs.Common.{All, slice_get, string_bytes, subst, sym, take, true}
 use Rattle.std.specs.Hash.FoldHasher.{finish, initial, write}
 use Rattle.std.specs.HashSet.{Updates}
 use Rattle.std.proofs.lemmas.Bool.{cases_lt}
 use Rattle.std.proofs.lemmas.List.{take_all}
+use Rattle.std.proofs.lemmas.List.Elements.{All-weaker}
 use Rattle.std.proofs.lemmas.Option.{slice_get_within}
 use Rattle.keep_path.specs.Path.{Part, beside, index, key, without_last}
 use Rattle.keep_edit_spec.specs.Look.{keys_in}
 use Rattle.keep_edit_spec.specs.Runs as runs
-use Rattle.keep_edit_spec.specs.Runs.{AreApart, PassesBy}
+use Rattle.keep_edit_spec.specs.ElementRuns.{IsElsewhere}
+use Rattle.keep_edit_spec.specs.Runs.{AreApart, IsNoStep, PassesBy}
 use Rattle.keep_edit_plan.specs.Headers.{key_texts}
 use Rattle.keep_edit.specs.declared.outline.Outline.{Outline}
 use Rattle.keep_edit.specs.declared.outline.Outline.TheVariants.{Element, Insert, Remove, Rename, Set, Table}
 use Rattle.keep_edit.specs.Runs.{Allows, LeavesAlone, outlined}
-use Rattle.keep_edit.specs.SeenPaths.{BeginsInKey, GoesOn, HasBeginning, HasEnd, HasKey, HasPath, IsSeen}
+use Rattle.keep_edit.specs.SeenPaths.{BeginsInKey, GoesOn, HasBeginning, HasEnd, HasKey, HasPath, IsArraySeen, IsSeen}
 use Rattle.keep_edit.specs.SeenPaths.{LacksAbove, MissesNames, MissesPath, keys_hashed, keys_number, path_to, with_key}
 use Rattle.keep_edit.specs.declared.seen_paths.SeenPaths.{SeenPaths}
 use Rattle.keep_edit.proofs.AlikeLaws.{own_or_apart}
@@ -124,6 +128,9 @@ module _ (seen : SeenPaths) where
             (h.all (n - 1) (omega (arith, is, other, many))))),
       )
 
+  turned : (a b : List Part) → AreApart a b → AreApart b a
+  turned a b h = (h.1, h.0)
+
   -- a path begins with all of itself
   whole : (p : List Part) → HasPath seen p → HasBeginning seen p
   whole p h =
@@ -189,6 +196,33 @@ module _ (seen : SeenPaths) where
   set_alone path m names (Rename p w) (h, new) = (apart p path h m, λ n is. names n w.now is new.2)
   set_alone path m names (Table ks) (h, header) = later (key_texts ks.now) path h m
   set_alone path m names (Element ks) (h, header) = later (key_texts ks.now) path h m
+
+  -- so an edit of a path is elsewhere than in an array that was seen, and one that was is elsewhere than in a new one
+  pub path_elsewhere : (path : List Part) → MissesPath seen path → (array : List Part) → IsArraySeen seen array
+      → AreApart array path
+  path_elsewhere path m array (h, keys) = apart array path h m
+
+  pub seen_elsewhere : (array : List Part) → MissesPath seen array → MissesNames seen array
+      → (e : Outline) → IsSeen seen e → IsElsewhere array (outlined e)
+  seen_elsewhere array m names (Insert p) (h, keys) = turned p array (apart p array h m)
+  seen_elsewhere array m names (Remove p) (h, keys) = turned p array (apart p array h m)
+  seen_elsewhere array m names (Set p) (h, keys) = turned p array (apart p array h m)
+  seen_elsewhere array m names (Rename p w) (h, new) =
+      (turned p array (apart p array h m), λ n is. names n w.now is new.2)
+  seen_elsewhere array m names (Table ks) (h, header) = later (key_texts ks.now) array h m
+  seen_elsewhere array m names (Element ks) (h, header) = later (key_texts ks.now) array h m
+
+  pub rename_elsewhere : (path : List Part) (name : Bor (List ℕ)) → MissesPath seen path → ¬ HasKey seen name.now
+      → (array : List Part) → IsArraySeen seen array → AreApart array path × IsNoStep name.now array
+  rename_elsewhere path name m lacks array (h, keys) = (apart array path h m, λ n is. lacks (keys n name.now is))
+
+  pub header_elsewhere : (more : Bor (List (String Global))) → MissesPath seen (path_to more)
+      → (array : List Part) → IsArraySeen seen array → PassesBy (key_texts more.now) array
+  header_elsewhere more m array (h, keys) = earlier (key_texts more.now) array m h
+
+  pub elsewhere_as : (x y : Outline) → x ≡ y → ((a : List Part) → IsArraySeen seen a → IsElsewhere a (outlined y))
+      → (a : List Part) → IsArraySeen seen a → IsElsewhere a (outlined x)
+  elsewhere_as x y is all a h = subst (λ (o : Outline). IsElsewhere a (outlined o)) (sym is) (all a h)
 
   pub rename_alone : (path : List Part) (name : Bor (List ℕ)) → MissesPath seen path
       → ¬ HasBeginning seen (beside path name.now) → ¬ HasKey seen name.now
@@ -259,3 +293,10 @@ module _ (seen : SeenPaths) where
   pub alone_as : (x y : Outline) → x ≡ y → ((e : Outline) → IsSeen seen e → LeavesAlone e y)
       → (e : Outline) → IsSeen seen e → LeavesAlone e x
   alone_as x y is all e h = subst (LeavesAlone e) (sym is) (all e h)
+
+-- ---- arrays that were seen
+
+pub arrays_still : (old new : SeenPaths) → ((o : Outline) → IsSeen old o → IsSeen new o)
+    → (arrays : List (List Part)) → All (IsArraySeen old) arrays → All (IsArraySeen new) arrays
+arrays_still old new on arrays =
+    All-weaker (IsArraySeen old) (IsArraySeen new) (λ (a : List Part). on (Remove a)) arrays

@@ -1,10 +1,12 @@
 -- Elements of arrays of tables that removes in a row take, and the paths that others had before.
-use Rattle.std.specs.Prelude.{◌≡◌, ℕ, ◌+◌, nat_lt, if◌then◌else◌, List, [], ◌∷◌, ◌++◌, map}
+use Rattle.std.specs.Prelude.{◌≡◌, All, ℕ, ◌+◌, nat_lt, if◌then◌else◌, List, [], ◌∷◌, ◌++◌, map}
 use Rattle.std.specs.List.{AllPairs}
 use Rattle.keep_path.specs.Path.{Part}
 use Rattle.keep_edit_spec.specs.AddedItems.{item_path}
 use Rattle.keep_edit_spec.specs.RemovedHeaders.{first_path, path_before}
 use Rattle.keep_edit_spec.specs.Runs.{AreApart}
+use Rattle.keep_edit.specs.KnownArrays.{IsKnown}
+use Rattle.keep_edit.specs.declared.known_arrays.KnownArrays.{KnownArrays}
 
 -- ---- of one array
 
@@ -36,6 +38,10 @@ gone_paths (gone ∷ more) = element_paths gone.array gone.numbers ++ gone_paths
 -- none of their arrays is at another, or below it
 abbrev pub AreArraysApart : List GoneNumbers → Type 0
 AreArraysApart all = AllPairs AreApart (map (λ gone. gone.array) all)
+
+-- each of their arrays is among these
+abbrev pub AreKnown : KnownArrays → List GoneNumbers → Type 0
+AreKnown known all = All (λ gone. IsKnown known gone.array) all
 
 -- ---- one more
 

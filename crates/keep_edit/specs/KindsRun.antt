@@ -10,14 +10,20 @@ use Rattle.keep_edit_plan.specs.TextEdits.{change_of}
 use Rattle.keep_edit_plan.specs.declared.edit.Edit.{Edit}
 use Rattle.keep_edit_plan.specs.declared.text_edit.TextEdit.{TextEdit}
 use Rattle.keep_edit.specs.Again.{AllowAgain, IsAgainHere, IsPutAgain, outlines_of}
-use Rattle.keep_edit.specs.GoneBetween.{AreElsewhere, TakesElement}
+use Rattle.keep_edit.specs.GoneBetween.{AreElsewhere, HasArray, RemovesElementHere, TakesElement}
 use Rattle.keep_edit.specs.Reading.{ProfiledText}
+use Rattle.keep_path.specs.Path.{Part}
 use Rattle.keep_edit.specs.Runs.{IsLineKept, LeavesAlone, MakesInRunHere, outlined}
-use Rattle.keep_edit.specs.SeenPaths.{IsSeen}
+use Rattle.keep_edit.specs.SeenPaths.{IsArraySeen, IsSeen}
 use Rattle.keep_edit.specs.declared.again.Again.{Again}
+use Rattle.keep_edit.specs.declared.gone_between.GoneBetween.{GoneBetween}
 use Rattle.keep_edit.specs.declared.kinds_run.KindsRun.{KindsRun}
 use Rattle.keep_edit.specs.declared.outline.Outline.{Outline}
 use Rattle.keep_edit.specs.declared.seen_paths.SeenPaths.{SeenPaths}
+
+-- the paths of its edits are known, and those of the arrays
+abbrev pub AreSeen : KindsRun → Type 0
+AreSeen run = All (IsSeen run.paths) run.so_far.outlines.items × All (IsArraySeen run.paths) run.gone.arrays.items
 
 -- no edits yet of the document of this text
 pub record StartsAt (now : ProfiledText) (run : KindsRun) : Type 0 where
@@ -31,7 +37,7 @@ pub record StartsAt (now : ProfiledText) (run : KindsRun) : Type 0 where
 -- Its edits are of the document of this text, and their paths are known. If the text, or what they write, is known to
 -- have no carriage return, it has none.
 pub record IsRunOn (now : ProfiledText) (run : KindsRun) : Type 0 where
-  pub seen : All (IsSeen run.paths) run.so_far.outlines.items
+  pub seen : AreSeen run
   pub text : run.is_text_plain ≡ true → IsPlain now.text
   pub plain : run.so_far.are_plain ≡ true → All (λ c. IsPlain c.new) run.so_far.changes
   pub planner : run.planner ≡ now
@@ -44,12 +50,26 @@ with_text run plain = record run { is_text_plain = plain }
 abbrev pub with_paths : KindsRun → SeenPaths → ℕ → KindsRun
 with_paths run paths left = record run { paths = paths; left = left }
 
+-- and with these elements gone
+abbrev pub with_gone : KindsRun → SeenPaths → GoneBetween → KindsRun
+with_gone run paths gone = record run { paths = paths; gone = gone }
+
 -- The edits leave alone this one, which is elsewhere than in the arrays. Its paths are known then, as all before are.
 pub record IsLeftAlone (old : KindsRun) (o : Outline) (new : KindsRun) : Type 0 where
   pub alone : All (λ y. LeavesAlone y o) old.so_far.outlines.items
   pub elsewhere : All (λ array. IsElsewhere array (outlined o)) old.gone.arrays.items
   pub seen : IsSeen new.paths o
   pub others : (y : Outline) → IsSeen old.paths y → IsSeen new.paths y
+
+-- The array is one of those, as all before are, and the edits are elsewhere than in each. All paths are known still,
+-- and all else is as it was.
+pub record KeepsArray (old : KindsRun) (array : List Part) (new : KindsRun) : Type 0 where
+  pub own : HasArray new.gone.arrays.items array
+  pub arrays : (a : List Part) → HasArray old.gone.arrays.items a → HasArray new.gone.arrays.items a
+  pub elsewhere : AreElsewhere new.gone.arrays.items old.so_far.outlines.items
+  pub seen : AreSeen new
+  pub elements : new.gone.elements ≡ old.gone.elements
+  pub rest : new ≡ with_gone old new.paths new.gone
 
 -- If an edit writes a line or a header, each newline is alike, and none takes the byte before its place, but for one in
 -- whose place a line comes; nor, before a line, writes a header there.
@@ -91,6 +111,16 @@ pub record PutsOne (now : ProfiledText) (old : KindsRun) (edit : Edit) (new : Ki
   pub is : IsAgainHere now edit old.so_far.outlines.items old.so_far.changes again
   pub none : old.gone.arrays.items ≡ []
   pub does : DoesAgain old again new
+
+-- An edit is found to take this from the text after those of the run, as it removes an element: its array is one of
+-- those then. All paths are known still, and all else is as it was.
+pub record FindsElement (now : ProfiledText) (old : KindsRun) (edit : Edit) (t : TextEdit) (new : KindsRun)
+    : Type 0 where
+  pub removes : RemovesElementHere now old.gone new.gone old.so_far.outlines.items edit t
+  pub arrays : (a : List Part) → HasArray old.gone.arrays.items a → HasArray new.gone.arrays.items a
+  pub elsewhere : AreElsewhere new.gone.arrays.items old.so_far.outlines.items
+  pub seen : AreSeen new
+  pub rest : new ≡ with_gone old new.paths new.gone
 
 -- It removes an element.
 pub record TakesOne (now : ProfiledText) (old : KindsRun) (edit : Edit) (new : KindsRun) : Type 0 where

@@ -4,6 +4,7 @@ pub mod Places
 pub mod Patches
 pub mod Lists
 pub mod Runs
+pub mod KnownArrays
 pub mod Gone
 pub mod Headers
 pub mod Children

@@ -75,6 +75,10 @@ IsSeen seen (Rename path name) = HasPath seen path × HasNew seen path name.now
 IsSeen seen (Table keys) = HasPath seen (path_to keys) × (seen.has_header ≡ true)
 IsSeen seen (Element keys) = HasPath seen (path_to keys) × (seen.has_header ≡ true)
 
+-- the path of an array is, as if it were removed
+abbrev pub IsArraySeen : SeenPaths → List Part → Type 0
+IsArraySeen seen array = IsSeen seen (Remove array)
+
 -- the new ones have all of the old ones
 pub record GoesOn (old new : SeenPaths) : Type 0 where
   pub ends : (path : List Part) → HasEnd old path → HasEnd new path

@@ -225,7 +225,7 @@ pub fn is_elsewhere(path: &Steps, outline: &Outline) -> bool
     }
 }
 
-/// Whether each of these edits is.
+/// Whether each of these edits is elsewhere than at a path and below it, and not on the way there.
 pub fn are_elsewhere(path: &Steps, outlines: &[Outline]) -> bool
     ensures { IsTrue result → All (λ o. IsElsewhere path.now (outlined o)) outlines.now }
 {

@@ -11,18 +11,15 @@ ghost use Rattle.keep_path.specs.Path.{index, last_part, strip};
 ghost use Rattle.keep_edit_spec.specs.AddedItems.{item_path};
 ghost use Rattle.keep_edit_spec.specs.ElementRuns.{changed_path};
 ghost use Rattle.keep_edit_spec.specs.RemovedHeaders.{first_path};
-ghost use Rattle.keep_edit_spec.specs.Runs.{AreApart};
-ghost use Rattle.keep_edit.specs.Gone.{IsGoneWith, element_paths, first_number};
+ghost use Rattle.keep_edit.specs.Gone.{AreKnown, IsGoneWith, element_paths, first_number};
 
-use crate::alike::{are_apart, is_same, is_within};
+use crate::alike::{is_same, is_within};
+use crate::known_arrays::KnownArrays;
 use crate::outline::{Steps, index_at};
 use keep_edit_plan::{first_steps, push_step};
 use keep_rules::Path;
 use std::alloc::Global;
 use std::marker::Model;
-
-/// Elements of no more arrays go in one run, since each path is compared with that of each array.
-pub const MOST_ARRAYS: usize = 512;
 
 /// An array of tables, and the numbers that elements of it had when they went, one after another.
 #[derive(Drop)]
@@ -64,13 +61,6 @@ impl GoneArray {
         is_same(path, &Steps::of(&self.array))
     }
 
-    /// Whether neither of a path and the array's is at the other or below it.
-    fn is_apart(&self, path: &Steps) -> bool
-        ensures { Decides result (AreApart self.now.array path.now) }
-    {
-        are_apart(&Steps::of(&self.array), path)
-    }
-
     /// Adds the number of an element, which goes after them. Returns whether it was added: it is not where memory was
     /// refused.
     fn add(&mut self, number: usize) -> bool
@@ -97,18 +87,19 @@ impl GoneArray {
 #[derive(Drop)]
 pub struct GoneElements {
     arrays: Vec<GoneArray>,
+    known: KnownArrays,
 }
 
 impl Model for GoneElements {
     ghost use Rattle.std.specs.Prelude.{List};
     ghost use Rattle.keep_path.specs.Path.{Part};
-    ghost use Rattle.keep_edit.specs.Gone.{AreArraysApart, gone_paths};
+    ghost use Rattle.keep_edit.specs.Gone.{AreArraysApart, AreKnown, gone_paths};
 
     ghost Value = { List (List Part) };
 
     ghost view = { λ g. gone_paths g.arrays.items };
 
-    ghost invariant = { λ g. AreArraysApart g.arrays.items };
+    ghost invariant = { λ g. AreArraysApart g.arrays.items × AreKnown g.known g.arrays.items };
 }
 
 impl GoneElements {
@@ -118,14 +109,20 @@ impl GoneElements {
     {
         GoneElements {
             arrays: Vec::new(alloc),
+            known: KnownArrays::new(alloc),
         }
+    }
+
+    /// Where among the arrays this one may be; None where it is not.
+    pub fn place_of(&self, array: &Steps) -> Option<usize> {
+        self.known.at(array)
     }
 
     /// Whether a path is elsewhere than at one of their arrays or below it: so it was the same before they went.
     pub fn leave(&self, path: &Path) -> bool
         ensures { IsTrue result → first_path self.now path.now ≡ path.now }
     {
-        array_above(self.arrays.as_slice(), &Steps::of(path)).is_none()
+        array_above(self.arrays.as_slice(), &self.known, &Steps::of(path)).is_none()
     }
 
     /// The path that an element of one of their arrays, or what is below one, had before they went. None for any other
@@ -133,13 +130,12 @@ impl GoneElements {
     pub fn first_path(&self, alloc: Global, path: &Path) -> Option<Path>
         ensures { IfSome result (λ first. first ≡ first_path self.now path.now) }
     {
-        let at = array_above(self.arrays.as_slice(), &Steps::of(path))?;
+        let at = array_above(self.arrays.as_slice(), &self.known, &Steps::of(path))?;
         self.arrays[at].first_path(alloc, path)
     }
 
-    /// Adds the node of a path, which goes after them. Returns whether it was added: an element of one array more than
-    /// there may be is not, nor one whose array is not apart from theirs and none of them, and none where memory was
-    /// refused.
+    /// Adds the node of a path, which goes after them. Returns whether it was added: an element whose array is not
+    /// apart from theirs and none of them is not, and none where memory was refused.
     pub fn add(&mut self, alloc: Global, path: &Path) -> bool
         ensures { IsTrue result → IsGoneWith self.old path.now self.new }
     {
@@ -147,7 +143,7 @@ impl GoneElements {
             return true;
         };
         let array = Steps::before_last(path);
-        match array_above(self.arrays.as_slice(), &array) {
+        match array_above(self.arrays.as_slice(), &self.known, &array) {
             Some(at) => self.arrays[at].is_at(&array) && self.arrays[at].add(number),
             None => self.add_array(alloc, &array, number),
         }
@@ -157,10 +153,13 @@ impl GoneElements {
     fn add_array(&mut self, alloc: Global, array: &Steps, number: usize) -> bool
         ensures { IsTrue result → IsGoneWith self.old (item_path array.now number) self.new }
     {
-        if self.arrays.len() >= MOST_ARRAYS || !are_all_apart(self.arrays.as_slice(), array) {
+        if !self.known.are_apart(array) {
             return false;
         }
         let Some(gone) = GoneArray::of_one(alloc, array, number) else {
+            return false;
+        };
+        let Ok(()) = self.known.add(array, self.arrays.len()) else {
             return false;
         };
         let Ok(()) = self.arrays.push(gone) else {
@@ -171,7 +170,21 @@ impl GoneElements {
 }
 
 /// The number of the array at which a path is, or below which; None where there is none.
-fn array_above(arrays: &[GoneArray], path: &Steps) -> Option<usize>
+fn array_above(arrays: &[GoneArray], known: &KnownArrays, path: &Steps) -> Option<usize>
+    requires { AreKnown known.now arrays.now }
+    ensures found { IfSome result (λ n. n < length arrays.now) }
+    ensures above { IfSome result (HoldsAt (λ gone. strip gone.array path.now ≢ None) arrays.now) }
+    ensures none { IsNone result → All (λ gone. strip gone.array path.now ≡ None) arrays.now }
+{
+    let number = known.above(path)?;
+    if number < arrays.len() && arrays[number].is_above(path) {
+        return Some(number);
+    }
+    first_above(arrays, path)
+}
+
+/// The same, where each array is looked at.
+fn first_above(arrays: &[GoneArray], path: &Steps) -> Option<usize>
     ensures found { IfSome result (λ n. n < length arrays.now) }
     ensures above { IfSome result (HoldsAt (λ gone. strip gone.array path.now ≢ None) arrays.now) }
     ensures none { IsNone result → All (λ gone. strip gone.array path.now ≡ None) arrays.now }
@@ -182,18 +195,6 @@ fn array_above(arrays: &[GoneArray], path: &Steps) -> Option<usize>
         }
     }
     None
-}
-
-/// Whether a path is apart from each of these arrays.
-fn are_all_apart(arrays: &[GoneArray], path: &Steps) -> bool
-    ensures { IsTrue result → All (λ gone. AreApart gone.array path.now) arrays.now }
-{
-    for gone in arrays {
-        if !gone.is_apart(path) {
-            return false;
-        }
-    }
-    true
 }
 
 /// The number that an element had before those with these numbers went, one after another. None where it is too great.

@@ -1,13 +1,12 @@
 //! Elements of arrays of tables that are removed between edits of all kinds, which are elsewhere than in the arrays.
-ghost use Rattle.std.specs.Prelude.{◌≡◌, [], All, IsTrue, List};
+ghost use Rattle.std.specs.Prelude.{◌≡◌, [], All, IsTrue};
 ghost use Rattle.std.specs.Bool.{Decides};
 ghost use Rattle.keep_edit_spec.specs.ElementRuns.{IsElsewhere};
-ghost use Rattle.keep_edit.specs.GoneBetween.{AreElsewhere, HasArray};
+ghost use Rattle.keep_edit.specs.GoneBetween.{HasArray};
 ghost use Rattle.keep_edit.specs.Runs.{outlined};
-ghost use Rattle.keep_path.specs.Path.{Part};
 
-use crate::alike::{are_elsewhere, is_elsewhere, is_same};
-use crate::gone::{GoneElements, MOST_ARRAYS};
+use crate::alike::{is_elsewhere, is_same};
+use crate::gone::GoneElements;
 use crate::outline::{Outline, Steps};
 use std::alloc::Global;
 
@@ -48,33 +47,13 @@ impl<'a> GoneBetween<'a> {
         true
     }
 
-    /// Adds an array, unless it is there, if the edits with these outlines are elsewhere than in it. Returns whether it
-    /// is there then: one more than there may be is not added, nor is any where memory was refused.
-    pub fn keep_array(&mut self, outlines: &[Outline], array: Steps<'a>) -> bool
-        requires { AreElsewhere self.old.arrays.items outlines.now }
-        ensures kept { AreElsewhere self.new.arrays.items outlines.now }
-        ensures own { IsTrue result → HasArray self.new.arrays.items array.entry }
-        ensures others { (a : List Part) → HasArray self.old.arrays.items a → HasArray self.new.arrays.items a }
-        ensures elements { self.new.elements ≡ self.old.elements }
+    /// Whether an array is found to be one of these.
+    pub fn has_array(&self, array: &Steps) -> bool
+        ensures { IsTrue result → HasArray self.now.arrays.items array.now }
     {
-        if self.has_array(&array) {
-            return true;
+        match self.elements.place_of(array) {
+            Some(place) if place < self.arrays.len() => is_same(&self.arrays[place], array),
+            _ => false,
         }
-        if self.arrays.len() >= MOST_ARRAYS || !are_elsewhere(&array, outlines) {
-            return false;
-        }
-        self.arrays.push(array).is_ok()
-    }
-
-    /// Whether an array is one of these.
-    fn has_array(&self, array: &Steps) -> bool
-        ensures { Decides result (HasArray self.now.arrays.items array.now) }
-    {
-        for other in self.arrays.iter() {
-            if is_same(other, array) {
-                return true;
-            }
-        }
-        false
     }
 }

@@ -53,6 +53,7 @@ mod gone_between;
 mod index_change;
 mod inserted;
 mod kinds_run;
+mod known_arrays;
 mod lines;
 mod opened;
 mod outline;

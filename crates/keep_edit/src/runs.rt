@@ -6,8 +6,9 @@ ghost use Rattle.std.specs.Bool.{Decides};
 ghost use Rattle.keep_syntax.specs.Tree as tree;
 ghost use Rattle.keep_edit.specs.Lists.{AreMade, StopsAt};
 ghost use Rattle.keep_edit.specs.Answers.{IsSpanOf};
-ghost use Rattle.keep_edit.specs.GoneBetween.{AreElsewhere, HasArray, RemovesElementHere, TakesElement};
-ghost use Rattle.keep_edit.specs.KindsRun.{AddsOne, GoesOn, IsPlacedAmong, IsRunOn, with_text};
+ghost use Rattle.keep_edit.specs.GoneBetween.{AreElsewhere};
+ghost use Rattle.keep_edit.specs.KindsRun.{AddsOne, AreSeen, FindsElement, GoesOn, IsPlacedAmong, IsRunOn, TakesOne};
+ghost use Rattle.keep_edit.specs.KindsRun.{with_text};
 ghost use Rattle.keep_edit.specs.Reading.{IsTextOfTree, ProfiledText, limit};
 ghost use Rattle.keep_edit.specs.Runs.{AddsItemHere, IsPlaceKept, IsSeenAs, MakeChanges, MakesInRunHere};
 ghost use Rattle.keep_edit.specs.Runs.{MakesItselfHere};
@@ -25,7 +26,6 @@ use crate::alike::{agree, is_same};
 use crate::at_once::{AtOnce, Run, RunEdit, is_plain};
 use crate::document::Document;
 use crate::gone::{GoneElements, array_of};
-use crate::gone_between::GoneBetween;
 use crate::kinds_run::KindsRun;
 use crate::opened::OpenValues;
 use crate::outline::{Outline, SeenAs, Steps, index_at};
@@ -316,7 +316,7 @@ impl Document {
         let edit = &edits[number];
         let seen = self.seen_as(edit);
         if is_of_element(edit, seen) {
-            return self.take_element(&mut run.so_far, &mut run.gone, edit);
+            return self.take_element(run, edit);
         }
         if run.gone.is_empty() {
             let again = self.again(&run.so_far, &mut run.opened, &mut run.planner, edits, edit);
@@ -694,48 +694,36 @@ impl Document {
         Some(section)
     }
 
-    /// Adds what an edit takes from the text after those elements and edits, if it is the remove of an element, and the
-    /// edits are elsewhere than in its array. Then that is gone too. Returns whether it is; if not, no change was
-    /// added.
-    fn take_element<'a>(
-        &self,
-        so_far: &mut AtOnce<'a>,
-        gone: &mut GoneBetween<'a>,
-        edit: &'a Edit,
-    ) -> bool
-        requires { AreElsewhere gone.old.arrays.items so_far.old.outlines.items }
-        ensures taken { IsTrue result → TakesElement self.now gone.old gone.new so_far.old so_far.new edit.now }
-        ensures elsewhere { AreElsewhere gone.new.arrays.items so_far.new.outlines.items }
-        ensures outlines { so_far.new.outlines.items ≡ so_far.old.outlines.items }
-        ensures refused { result ≡ false → so_far.new.changes ≡ so_far.old.changes }
+    /// Adds what an edit takes from the text after those of a run, if it is the remove of an element, and the edits are
+    /// elsewhere than in its array. Then that is gone too. Returns whether it is; if not, no change was added.
+    fn take_element<'a>(&self, run: &mut KindsRun<'a>, edit: &'a Edit) -> bool
+        requires run { IsRunOn self.now run.old }
+        requires elsewhere { AreElsewhere run.old.gone.arrays.items run.old.so_far.outlines.items }
+        ensures taken { IsTrue result → TakesOne self.now run.old edit.now run.new }
+        ensures run { IsTrue result → IsRunOn self.now run.new }
+        ensures refused { result ≡ false → run.new.so_far.changes ≡ run.old.so_far.changes }
     {
-        let Some(change) = self.element_by(gone, so_far.outlines.as_slice(), edit) else {
+        let Some(change) = self.element_by(run, edit) else {
             return false;
         };
-        so_far.add_change(change)
+        run.so_far.add_change(change)
     }
 
-    /// What an edit takes from the text after those elements went, if it is the remove of an element, and the edits
-    /// with these outlines are elsewhere than in its array. Then that is gone too.
-    fn element_by<'a>(
-        &self,
-        gone: &mut GoneBetween<'a>,
-        outlines: &[Outline],
-        edit: &'a Edit,
-    ) -> Option<TextEdit>
-        requires { AreElsewhere gone.old.arrays.items outlines.now }
-        ensures removed { IfSome result (RemovesElementHere self.now gone.old gone.new outlines.now edit.now) }
-        ensures elsewhere { AreElsewhere gone.new.arrays.items outlines.now }
-        ensures arrays { (a : List Part) → HasArray gone.old.arrays.items a → HasArray gone.new.arrays.items a }
+    /// What an edit takes from the text after those of a run, if it is the remove of an element, and the edits are
+    /// elsewhere than in its array. Then that is gone too.
+    fn element_by<'a>(&self, run: &mut KindsRun<'a>, edit: &'a Edit) -> Option<TextEdit>
+        requires seen { AreSeen run.old }
+        requires elsewhere { AreElsewhere run.old.gone.arrays.items run.old.so_far.outlines.items }
+        ensures found { IfSome result (λ change. FindsElement self.now run.old edit.now change run.new) }
+        ensures edits { run.new.so_far ≡ run.old.so_far }
     {
         let Edit::Remove(path) = edit else {
             return None;
         };
-        let array = array_of(path)?;
-        if !gone.keep_array(outlines, array) {
+        if !run.keep_array(array_of(path)?) {
             return None;
         }
-        self.section_by(&mut gone.elements, edit)
+        self.section_by(&mut run.gone.elements, edit)
     }
 
     /// What the remove of a path takes from the text after those elements went, if a table or an element goes with its

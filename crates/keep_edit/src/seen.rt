@@ -15,7 +15,7 @@ use std::collections::HashSet;
 use std::hash::{FoldHasher, Hasher};
 
 /// Gives a hasher the step of a path with that number, after those before it.
-fn write_step(hasher: &mut FoldHasher, path: &Steps, number: usize)
+pub fn write_step(hasher: &mut FoldHasher, path: &Steps, number: usize)
     requires { hasher.old ≡ hashed (take number path.now) }
     ensures { hasher.new ≡ hashed (take (number + 1) path.now) }
 {

@@ -2,10 +2,11 @@
 ghost use Rattle.std.specs.Prelude.{◌≡◌, ◌+◌, ℕ, IfOk, IsTrue, List, OnOk, map, take};
 ghost use Rattle.keep_edit.specs.declared.outline.Outline.{Outline};
 ghost use Rattle.keep_edit_plan.specs.Headers.{key_texts};
-ghost use Rattle.keep_edit.specs.Runs.{Allows, LeavesAlone};
+ghost use Rattle.keep_edit.specs.Runs.{Allows, LeavesAlone, outlined};
 ghost use Rattle.keep_edit.specs.SeenPaths.{BeginsInKey, GoesOn, HasBeginning, HasEnd, HasKey, HasKeys, HasName};
-ghost use Rattle.keep_edit.specs.SeenPaths.{HasNew, HasPath, IsSeen, LacksAbove};
+ghost use Rattle.keep_edit.specs.SeenPaths.{HasNew, HasPath, IsArraySeen, IsSeen, LacksAbove};
 ghost use Rattle.keep_edit.specs.SeenPaths.{MissesNames, MissesPath, keys_hashed, keys_number};
+ghost use Rattle.keep_edit_spec.specs.ElementRuns.{IsElsewhere};
 ghost use Rattle.keep_path.specs.Path.{Part, beside, key};
 
 use crate::outline::{Outline, Steps};
@@ -245,9 +246,12 @@ impl<'a> SeenPaths<'a> {
         self.has_header
     }
 
-    /// Whether an edit is known by its paths to be left alone by each one whose paths were added.
+    /// Whether an edit is known by its paths to be left alone by each one whose paths were added, and to be elsewhere
+    /// than in each array that was.
     pub fn leave_alone(&self, outline: &Outline) -> bool
-        ensures { IsTrue result → (other : Outline) → IsSeen self.now other → LeavesAlone other outline.now }
+        ensures alone { IsTrue result → (other : Outline) → IsSeen self.now other → LeavesAlone other outline.now }
+        ensures elsewhere { IsTrue result
+            → (array : List Part) → IsArraySeen self.now array → IsElsewhere array (outlined outline.now) }
     {
         match outline {
             Outline::Insert(path) | Outline::Remove(path) | Outline::Set(path) => {
@@ -256,6 +260,14 @@ impl<'a> SeenPaths<'a> {
             Outline::Rename(path, key) => self.misses_path(path) && self.misses_new(path, key),
             Outline::Table(keys) | Outline::Element(keys) => self.misses_keys(keys),
         }
+    }
+
+    /// Whether each edit whose paths were added is known by these to be elsewhere than in an array.
+    pub fn are_elsewhere(&self, array: &Steps) -> bool
+        ensures { IsTrue result
+            → (other : Outline) → IsSeen self.now other → IsElsewhere array.now (outlined other) }
+    {
+        self.misses_path(array) && self.misses_names(array)
     }
 
     /// Whether each edit whose paths were added is known by these to allow the new key of a rename, the path of which

@@ -9,12 +9,14 @@ use Rattle.keep_edit_spec.proofs.Shared.{all_with}
 use Rattle.keep_edit_plan.specs.TextEdits.{change_of}
 use Rattle.keep_edit.specs.KindsRun.{IsPlacedAmong}
 use Rattle.keep_edit.specs.Runs.{IsLineKept, MakesInRunHere}
-use Rattle.keep_edit.specs.SeenPaths.{IsSeen}
+use Rattle.keep_edit.specs.SeenPaths.{IsArraySeen, IsSeen}
 use Rattle.keep_edit.specs.declared.added_lines.AddedLines.{AddedLines}
 use Rattle.keep_edit.specs.declared.at_once.AtOnce.{AtOnce}
+use Rattle.keep_edit.specs.declared.gone_between.GoneBetween.{GoneBetween}
 use Rattle.keep_edit.specs.declared.kinds_run.KindsRun.{KindsRun}
 use Rattle.keep_edit.specs.declared.seen_paths.SeenPaths.{SeenPaths}
 use Rattle.keep_edit.proofs.SeenLaws.{more_seen}
+use Rattle.keep_edit.proofs.SeenPathLaws.{arrays_still}
 use Rattle.keep_edit.proofs.document.Document.add_to.Goals as goal
 
 pub keeps_place_in-requires-clause-run : goal.keeps_place_in-requires-clause-run
@@ -25,9 +27,14 @@ keeps_place_in-requires-clause-run c =
     let left = c.leave_alone.ensures.added c.if-not-leave_alone.false in
     let rest = c.leave_alone.ensures.rest in
     let same : c.leave_alone.new.self.so_far ≡ old.so_far = ap (λ (r : KindsRun). r.so_far) rest in
-    let still = All-weaker (IsSeen old.paths) seen_now left.others old.so_far.outlines.items run.seen in
+    let still = All-weaker (IsSeen old.paths) seen_now left.others old.so_far.outlines.items run.seen.0 in
     record {
-      seen = subst (λ (s : AtOnce). All seen_now s.outlines.items) (sym same) still;
+      seen = (
+        subst (λ (s : AtOnce). All seen_now s.outlines.items) (sym same) still,
+        subst (λ (g : GoneBetween). All (IsArraySeen c.leave_alone.new.self.paths) g.arrays.items)
+            (sym (ap (λ (r : KindsRun). r.gone) rest))
+            (arrays_still old.paths c.leave_alone.new.self.paths left.others old.gone.arrays.items run.seen.1),
+      );
       text = λ yes. run.text (sym (ap (λ (r : KindsRun). r.is_text_plain) rest) ∙ yes);
       plain = subst (λ (s : AtOnce). s.are_plain ≡ true → All (λ (d : TextChange). IsPlain d.new) s.changes) (sym same)
           run.plain;
@@ -86,10 +93,16 @@ returns-clause-run c = λ added.
     let with_it : new.changes ≡ with_change old.so_far.changes t =
     (c.add.ensures.changes added).1 ∙ ap (λ (s : AtOnce). with_change s.changes t) same in
     record {
-      seen = subst (λ (paths : SeenPaths). All (IsSeen paths) new.outlines.items)
-          (sym (ap (λ (r : KindsRun). r.paths) rest_then))
-          (subst (All seen_now) (sym pushed)
-          (more_seen (IsSeen old.paths) seen_now old.so_far.outlines.items o left.others left.seen run.seen));
+      seen = (
+        subst (λ (paths : SeenPaths). All (IsSeen paths) new.outlines.items)
+            (sym (ap (λ (r : KindsRun). r.paths) rest_then))
+            (subst (All seen_now) (sym pushed)
+            (more_seen (IsSeen old.paths) seen_now old.so_far.outlines.items o left.others left.seen run.seen.0)),
+        subst₂ (λ (paths : SeenPaths) (g : GoneBetween). All (IsArraySeen paths) g.arrays.items)
+            (sym (ap (λ (r : KindsRun). r.paths) rest_then))
+            (sym (ap (λ (r : KindsRun). r.gone) rest_then ∙ ap (λ (r : KindsRun). r.gone) rest))
+            (arrays_still old.paths c.leave_alone.new.self.paths left.others old.gone.arrays.items run.seen.1),
+      );
       text = c.keeps_place_in.ensures.text;
       plain = λ yes.
           let (before, its) = c.add.ensures.plain added yes in

@@ -1,10 +1,26 @@
+use Rattle.std.proofs.Common.{ap}
+use Rattle.std.proofs.lemmas.Option.{IfSome_then}
+use Rattle.keep_edit.specs.KindsRun.{with_gone}
+use Rattle.keep_edit.specs.declared.gone_between.GoneBetween.{GoneBetween}
+use Rattle.keep_edit.specs.declared.kinds_run.KindsRun.{KindsRun}
 use Rattle.keep_edit.proofs.ElementArrays.{element_here}
 use Rattle.keep_edit.proofs.document.Document.element_by.Goals as goal
 
-pub returns-clause-removed : goal.returns-clause-removed
-returns-clause-removed c =
-    element_here c.args.self.now c.args.gone.now
-    (record { elements = c.section_by.new.gone; arrays = c.keep_array.new.self.arrays }) c.keep_array.new.self.elements
-    c.args.outlines.now c.args.edit.now c.in-Remove.path c.in_ok-array.array c.section_by.result
-    c.keep_array.ensures.elements c.in-Remove.is c.in_ok-array.ensures
-    (c.keep_array.ensures.own c.if-not-keep_array.false) c.keep_array.ensures.kept c.section_by.ensures
+pub returns-clause-found : goal.returns-clause-found
+returns-clause-found c =
+    let now = c.args.self.now in
+    let old = c.args.run.now in
+    let x = c.args.edit.now in
+    let kept = c.keep_array.ensures.kept c.if-not-keep_array.false in
+    let gone : GoneBetween = record { elements = c.section_by.new.gone; arrays = c.keep_array.new.self.gone.arrays } in
+    let outlines = old.so_far.outlines.items in
+    IfSome_then c.section_by.result
+    (element_here now old.gone gone c.keep_array.new.self.gone.elements outlines x c.in-Remove.path
+    c.in_ok-array_of.field-0 c.section_by.result kept.elements c.in-Remove.is c.in_ok-array_of.ensures kept.own
+    kept.elsewhere c.section_by.ensures) (λ t removes. record {
+      removes = removes;
+      arrays = kept.arrays;
+      elsewhere = kept.elsewhere;
+      seen = kept.seen;
+      rest = ap (λ (r : KindsRun). with_gone r c.keep_array.new.self.paths gone) kept.rest;
+    })

@@ -1,29 +1,16 @@
-use Rattle.std.proofs.Common.{◌∙◌, All, inl, inr, subst, sym}
-use Rattle.keep_edit_spec.specs.Runs.{IsPlain}
-use Rattle.keep_edit_spec.specs.TextChanges.{TextChange}
-use Rattle.keep_edit_spec.proofs.Shared.{all_with}
-use Rattle.keep_edit_plan.specs.TextEdits.{change_of}
-use Rattle.keep_edit.specs.SeenPaths.{IsSeen}
-use Rattle.keep_edit.specs.KindsRun.{AddsOne}
+use Rattle.std.proofs.Common.{◌∙◌, inl, inr, subst, sym}
+use Rattle.keep_edit.specs.KindsRun.{AddsOne, IsRunOn}
 use Rattle.keep_edit.specs.declared.kinds_run.KindsRun.{KindsRun}
 use Rattle.keep_edit.proofs.KindsRunSteps.{added_too}
 use Rattle.keep_edit.proofs.document.Document.goes_on.Goals as goal
 use Rattle.keep_edit.proofs.document.Document.goes_on.Goals.{else-is_empty, then-is_empty+in_default}
 
-pub returns-then-is_of_element-clause-run : goal.returns-then-is_of_element-clause-run
-returns-then-is_of_element-clause-run c = λ taken.
-    let run = c.requires.run in
-    let takes = c.take_element.ensures.taken taken in
-    record {
-      seen = subst (All (IsSeen c.args.run.now.paths)) (sym c.take_element.ensures.outlines) run.seen;
-      text = run.text;
-      plain = λ yes.
-          let (before, its) = takes.plain yes in
-          subst (All (λ (d : TextChange). IsPlain d.new)) (sym takes.changes)
-          (all_with (λ (d : TextChange). IsPlain d.new) c.args.run.now.so_far.changes (change_of takes.change)
-          (run.plain before) its);
-      planner = run.planner;
-    }
+pub returns-then-is_of_element-clause-done : goal.returns-then-is_of_element-clause-done
+returns-then-is_of_element-clause-done c = λ taken. record {
+  edit = c.index-edits-number.result;
+  here = sym c.index-edits-number.is;
+  by = inr (inr (c.take_element.ensures.taken taken));
+}
 
 pub returns-in-Some-clause-done : goal.returns-in-Some-clause-done
 returns-in-Some-clause-done c = λ done.
@@ -55,6 +42,20 @@ returns-in-Some-clause-run c = λ done.
       plain = run.plain;
       planner = c.again-again.ensures.planner ∙ run.planner;
     }) done
+
+pub add_to-requires-clause-run : goal.add_to-requires-clause-run
+add_to-requires-clause-run c =
+    let run = c.requires.run in
+    elim c.if-is_empty.branch [
+      | then-is_empty+in_default w ↦
+          subst (IsRunOn c.args.self.now) (sym w.run-is) (record {
+            seen = run.seen;
+            text = run.text;
+            plain = run.plain;
+            planner = w.again-again.ensures.planner ∙ run.planner;
+          })
+      | else-is_empty w ↦ subst (IsRunOn c.args.self.now) (sym w.run-is) run
+    ]
 
 pub returns-clause-done : goal.returns-clause-done
 returns-clause-done c = λ added.

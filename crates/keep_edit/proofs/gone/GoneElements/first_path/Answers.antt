@@ -12,7 +12,7 @@ returns c =
     let at = c.in_ok-at.at in
     let gone = c.index.result.now in
     subst (λ (p : List Part). IfSome c.first_path.result (λ first. first ≡ p))
-    (sym (one_above all at gone c.args.path.now c.self.invariant
+    (sym (one_above all at gone c.args.path.now c.self.invariant.0
     (omega (arith, c.in_ok-at.ensures.found, c.as_slice.ensures.len)) c.index.ensures
     (above_here all c.as_slice.result.now at gone c.of.result c.args.path.now c.as_slice.ensures.value c.of.ensures
     c.index.ensures c.in_ok-at.ensures.above))

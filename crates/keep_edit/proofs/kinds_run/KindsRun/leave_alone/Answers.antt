@@ -1,7 +1,8 @@
-use Rattle.std.proofs.Common.{◌≡◌, ◌∙◌, All, ap, subst, sym}
+use Rattle.std.proofs.Common.{◌≡◌, ◌∙◌, ap, subst, sym}
 use Rattle.std.proofs.lemmas.List.Elements.{All-weaker}
-use Rattle.keep_edit.specs.Runs.{LeavesAlone}
-use Rattle.keep_edit.specs.SeenPaths.{IsSeen}
+use Rattle.keep_edit_spec.specs.ElementRuns.{IsElsewhere}
+use Rattle.keep_edit.specs.Runs.{LeavesAlone, outlined}
+use Rattle.keep_edit.specs.SeenPaths.{IsArraySeen, IsSeen}
 use Rattle.keep_edit.specs.declared.kinds_run.KindsRun.{KindsRun}
 use Rattle.keep_edit.specs.declared.seen_paths.SeenPaths.{SeenPaths}
 use Rattle.keep_edit.proofs.SeenLaws.{was_added}
@@ -14,19 +15,25 @@ returns-clause-added c = λ added.
     let old = c.args.self.now in
     let outlines = old.so_far.outlines.items in
     let same : c.if-leave_alone.self.paths ≡ old.paths = elim c.if-leave_alone.branch [
+      | else-leave_alone w ↦
+          ap (λ (r : KindsRun). r.paths) (w.self-is ∙ w.are_alone_by_all.ensures.rest)
       | then-leave_alone w ↦ ap (λ (r : KindsRun). r.paths) w.self-is
-      | else-leave_alone w ↦ ap (λ (r : KindsRun). r.paths) w.self-is
     ] in
     record {
       alone = elim c.if-leave_alone.branch [
+        | else-leave_alone w ↦
+            w.are_alone_by_all.ensures.alone (sym w.value-is ∙ c.if-not-are_alone_by_all.false)
         | then-leave_alone w ↦
             All-weaker (IsSeen old.paths) (λ y. LeavesAlone y o)
-            (c.leave_alone-else-not-leave_alone.ensures w.if-leave_alone.true) outlines c.requires
-        | else-leave_alone w ↦
-            subst (All (λ y. LeavesAlone y o)) w.as_slice.ensures.value
-            (w.leave_alone_within.ensures (sym w.value-is ∙ c.if-not-leave_alone_within.false))
+            (c.leave_alone.ensures.alone w.if-leave_alone.true) outlines c.requires.0
       ];
-      elsewhere = c.leave_alone.ensures c.if-not-leave_alone.false;
+      elsewhere = elim c.if-leave_alone.branch [
+        | else-leave_alone w ↦
+            w.are_alone_by_all.ensures.elsewhere (sym w.value-is ∙ c.if-not-are_alone_by_all.false)
+        | then-leave_alone w ↦
+            All-weaker (IsArraySeen old.paths) (λ a. IsElsewhere a (outlined o))
+            (c.leave_alone.ensures.elsewhere w.if-leave_alone.true) old.gone.arrays.items c.requires.1
+      ];
       seen = was_added (IsSeen c.add.new.self o) c.add.result c.add.ensures.seen (sym c.unwrap_or.ensures ∙ added);
       others = λ y is. c.add.ensures.others y (subst (λ (paths : SeenPaths). IsSeen paths y) (sym same) is);
     }

@@ -5,6 +5,7 @@ use Rattle.keep_edit_spec.specs.TextChanges.{TextChange}
 use Rattle.keep_edit.specs.Again.{outlines_of}
 use Rattle.keep_edit.specs.SeenPaths.{IsSeen}
 use Rattle.keep_edit.proofs.AgainSteps.{each_put}
+use Rattle.keep_edit.proofs.SeenPathLaws.{arrays_still}
 use Rattle.keep_edit.proofs.kinds_run.KindsRun.put_again.Goals as goal
 
 pub returns-then-allow_again-clause-run : goal.returns-then-allow_again-clause-run
@@ -15,10 +16,14 @@ returns-then-allow_again-clause-run c = λ now run done.
     let seen_then = IsSeen c.args.self.now.paths in
     let seen_now = IsSeen c.allow_again.new.self in
     record {
-      seen = subst (All seen_now) (sym (c.put_again.ensures.outlines done))
-          (All-append seen_now old.outlines.items (outlines_of a)
-          (All-weaker seen_then seen_now c.allow_again.ensures.others old.outlines.items run.seen)
-          (c.allow_again.ensures.seen c.if-allow_again.true));
+      seen = (
+        subst (All seen_now) (sym (c.put_again.ensures.outlines done))
+            (All-append seen_now old.outlines.items (outlines_of a)
+            (All-weaker seen_then seen_now c.allow_again.ensures.others old.outlines.items run.seen.0)
+            (c.allow_again.ensures.seen c.if-allow_again.true)),
+        arrays_still c.args.self.now.paths c.allow_again.new.self c.allow_again.ensures.others
+            c.args.self.now.gone.arrays.items run.seen.1,
+      );
       text = run.text;
       plain = λ yes.
           let (before, its) = c.put_again.ensures.plain done yes in

@@ -2,7 +2,7 @@
 use Rattle.std.proofs.Common.{◌≡◌, None}
 use Rattle.std.specs.List.{AllWithin}
 use Rattle.keep_path.specs.Path.{strip}
-use Rattle.keep_edit.proofs.gone.array_above.Given as goal
+use Rattle.keep_edit.proofs.gone.first_above.Given as goal
 
 abbrev pub invariant-loop-number : goal.invariant-loop-number
 invariant-loop-number l = AllWithin (λ gone. strip gone.array l.path ≡ None) l.arrays 0 l.number
