@@ -239,7 +239,8 @@ def again_failure(ask, wanted, cells):
         return why
     refusals = [it for it, answered in found.items() if answered == rebuilt]
     if AGAIN + wanted not in found.values() and refusals:
-        found = question.refused_beside(refusals[0])
+        # (that of the last growth before they are made one by one: after an earlier one another run may be tried)
+        found = question.refused_beside(refusals[-1])
         if why := other(found, is_well):
             return why
     return None if AGAIN + wanted in found.values() else "no growth of the call itself is refused"

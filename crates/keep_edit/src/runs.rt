@@ -78,6 +78,16 @@ fn is_of_element(edit: &Edit, seen: SeenAs) -> bool {
     }
 }
 
+/// Whether each of these edits is a remove.
+fn are_removes(edits: &[Edit]) -> bool {
+    for edit in edits {
+        if !matches!(edit, Edit::Remove(_)) {
+            return false;
+        }
+    }
+    true
+}
+
 /// Whether a path is that of the item so many numbers after the one of another path, in the same array.
 fn is_item_after(path: &Path, item: &Path, before: usize) -> bool
     ensures { (array : List Part) (n : ℕ) → item.now ≡ item_path array n
@@ -206,8 +216,7 @@ impl Document {
     }
 
     /// The same beyond the edit with number `end`, which ends those of one kind: as far as they are of several kinds,
-    /// or remove tables and elements with their headers, if that one removes an element or none comes before it. None
-    /// where neither is tried.
+    /// or remove tables and elements with their headers. None where neither is tried.
     fn others_by(&self, edits: &[Edit], first: usize, end: usize) -> Option<Run>
         requires { first < length edits.now }
         ensures few { IfSome result (λ run. (first ≤ run.end) × (run.end ≤ length edits.now)) }
@@ -221,20 +230,41 @@ impl Document {
             }
             return Some(self.changes_of_kinds(edits, first));
         }
-        let changes = self.sections_by(edits, first);
-        let count = changes.len();
-        let sections = Run {
-            end: first + count,
-            changes,
-        };
-        if count == 0 || count == MOST_AT_ONCE || sections.end == edits.len() {
-            return Some(sections);
+        Some(self.changes_with_elements(edits, first))
+    }
+
+    /// What the edits from number `first` on change in the text, as far as they are of several kinds, or as far as they
+    /// remove tables and elements with their headers, whichever is further. Where all of them are removes, the latter
+    /// is tried first, and else the former; the other one is not where the first goes as far as a run may.
+    fn changes_with_elements(&self, edits: &[Edit], first: usize) -> Run
+        requires { first < length edits.now }
+        ensures few { (first ≤ result.end) × (result.end ≤ length edits.now) }
+        ensures made { MakeChanges edits.now first result.end self.now result.changes }
+        ensures within { All (IsChangeIn self.now.text) result.changes }
+    {
+        let last = edits.len().min(first.saturating_add(MOST_AT_ONCE));
+        if !are_removes(&edits[first..last]) {
+            let kinds = self.changes_of_kinds(edits, first);
+            if kinds.end == last {
+                return kinds;
+            }
+            let sections = self.sections_run(edits, first);
+            return if sections.end > kinds.end {
+                sections
+            } else {
+                kinds
+            };
+        }
+        let sections = self.sections_run(edits, first);
+        if sections.end == first || sections.end == last {
+            return sections;
         }
         let kinds = self.changes_of_kinds(edits, first);
         if kinds.end > sections.end {
-            return Some(kinds);
+            kinds
+        } else {
+            sections
         }
-        Some(sections)
     }
 
     /// What the edits from number `first` on change in the text, as far as all are of one kind and each makes its
@@ -655,6 +685,21 @@ impl Document {
             return None;
         }
         self.as_ref().added_item(self.alloc(), path, before, value)
+    }
+
+    /// What the edits from number `first` on take from the text, as far as they are removes of tables and of elements
+    /// of arrays of tables with their headers, with the number of the next.
+    fn sections_run(&self, edits: &[Edit], first: usize) -> Run
+        requires { first < length edits.now }
+        ensures few { (first ≤ result.end) × (result.end ≤ length edits.now) }
+        ensures made { MakeChanges edits.now first result.end self.now result.changes }
+        ensures within { All (IsChangeIn self.now.text) result.changes }
+    {
+        let changes = self.sections_by(edits, first);
+        Run {
+            end: first + changes.len(),
+            changes,
+        }
     }
 
     /// What the edits from number `first` on take from the text, as far as they are removes of tables and of elements
