@@ -11,11 +11,12 @@ use Rattle.std.proofs.Common.{get_or, map, take, drop, sym, ap, ◌∙◌, subst
 use Rattle.std.specs.List.{AllByRecursion}
 use Rattle.std.proofs.Math.Seq.{take-append-add}
 use Rattle.std.proofs.lemmas.List.{length-append, length-drop, length-take-le, take-append-drop, take-map, take-take}
+use Rattle.std.proofs.lemmas.List.{take_all}
 use Rattle.std.proofs.lemmas.List.Sums.{sum_by-append}
 use Rattle.keep_syntax_store.specs.declared.starts.TheConstants.{FAR}
 use Rattle.keep_syntax_store.specs.declared.starts.Milestone.{Milestone}
 use Rattle.keep_syntax_store.specs.Starts.{places_at, last_of, Ascend, fars, StepsAreStored, IsMilestone, AreStarts}
-use Rattle.keep_syntax_store.specs.Starts.{CanGoTo, IsFurther, IsWithin, CanMoveOn, moved_on}
+use Rattle.keep_syntax_store.specs.Starts.{CanGoOn, CanGoTo, IsFurther, IsWithin, CanMoveOn, moved_on}
 use Rattle.keep_syntax_store.specs.declared.starts.Places.{Places}
 use Rattle.keep_syntax_store.specs.Left.{AreBetween, places_left}
 use Rattle.keep_syntax_store.specs.Lifted.{moved}
@@ -56,6 +57,48 @@ all_range P xs n m all =
     (subst (AllByRecursion P) (sym (take-append-drop m (drop n xs))) rest)
 
 -- ---- from one milestone to another
+
+-- so many steps on from a milestone, with the far ones among them counted, is another
+pub gone_on : (steps far : List ℕ) (a : Milestone) (n count place : ℕ) → IsMilestone steps far a → CanGoOn steps far a
+    → a.steps + n ≤ length steps → count ≡ fars (take n (drop a.steps steps))
+    → place ≡ last_of a.place (take n (places_at a.place (drop a.steps steps) (drop a.far far)))
+    → IsMilestone steps far (record { steps = a.steps + n; far = a.far + count; place = place })
+gone_on steps far a n count place is can within counted leads =
+    let before : List ℕ = take a.steps steps in
+    let run : List ℕ = take n (drop a.steps steps) in
+    let before_far : List ℕ = take a.far far in
+    let run_far : List ℕ = take count (drop a.far far) in
+    let there : List ℕ = places_at 0 before before_far in
+    let whole : take (a.steps + n) steps ≡ before ++ run = take_sum steps a.steps n in
+    let whole_far : take (a.far + count) far ≡ before_far ++ run_far = take_sum far a.far count in
+    let even : length before_far ≡ fars before = length-take-le a.far far can.far_within ∙ is.counted in
+    record {
+      within = within;
+      counted = omega (arith, counted, is.counted, ap fars whole, fars_append before run);
+      leads =
+          leads
+          ∙ ap (last_of a.place) (take_places a.place (drop a.steps steps) (drop a.far far) n
+          ∙ ap (λ (k : ℕ). places_at a.place run (take k (drop a.far far))) (sym counted))
+          ∙ ap (λ (at : ℕ). last_of at (places_at at run run_far)) is.leads
+          ∙ sym (last_after 0 there (places_at (last_of 0 there) run run_far))
+          ∙ ap (last_of 0) (sym (places_join 0 before before_far run run_far even))
+          ∙ ap (λ (g : List ℕ). last_of 0 (places_at 0 (before ++ run) g)) (sym whole_far)
+          ∙ ap (λ (s : List ℕ). last_of 0 (places_at 0 s (take (a.far + count) far))) (sym whole);
+    }
+
+-- all steps lead to the last place
+pub end_is : (steps far : List ℕ) (last : ℕ) → StepsAreStored steps far last
+    → IsMilestone steps far (record { steps = length steps; far = length far; place = last })
+end_is steps far last stored =
+    let all : take (length steps) steps ≡ steps = take_all (length steps) steps (omega arith) in
+    let all_far : take (length far) far ≡ far = take_all (length far) far (omega arith) in
+    record {
+      within = omega arith;
+      counted = stored.matched ∙ ap fars (sym all);
+      leads = stored.last_is
+          ∙ ap (λ (s : List ℕ). last_of 0 (places_at 0 s far)) (sym all)
+          ∙ ap (λ (g : List ℕ). last_of 0 (places_at 0 (take (length steps) steps) g)) (sym all_far);
+    }
 
 pub record AreOn (steps far : List ℕ) (a b : Milestone) : Type 0 where
   pub ordered : a.far ≤ b.far

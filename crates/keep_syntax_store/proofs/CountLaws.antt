@@ -3,14 +3,15 @@
 --
 -- Theorems: `run_counted`: a place and the near places after it count all at once; `before_within`: no more places are
 -- before a place than there are; `places_within`: steps lead to no more places than there are steps.
-use Rattle.std.proofs.Common.{◌≡◌, ℕ, suc, ◌+◌, ◌<◌, ◌≤◌, List, [], ◌∷◌, ◌++◌, length, ap, ◌∙◌, inl, inr, arith}
+use Rattle.std.proofs.Common.{◌≡◌, ℕ, suc, ◌+◌, ◌<◌, ◌≤◌, List, [], ◌∷◌, ◌++◌, length, refl, ap, ◌∙◌, inl, inr, arith}
 use Rattle.std.specs.Prelude.{sum}
 use Rattle.std.proofs.lemmas.List.{length-append}
 use Rattle.std.proofs.lemmas.Bool.{lt-ltb}
 use Rattle.std.proofs.lemmas.Bool.Decides.{eqb_tells, leb_tells}
 use Rattle.keep_syntax_store.specs.declared.starts.TheConstants.{FAR}
-use Rattle.keep_syntax_store.specs.Starts.{places_at, fars}
+use Rattle.keep_syntax_store.specs.Starts.{places_at, last_of, Ascend, fars}
 use Rattle.keep_syntax_store.specs.Rereading.{places_before}
+use Rattle.keep_syntax_store.proofs.AscendLaws.{ascend_last}
 use Rattle.keep_syntax_store.proofs.StartLaws.{near_step}
 use Rattle.keep_syntax_store.proofs.RunLaws.{IsNear, is_near, near_all}
 
@@ -37,6 +38,14 @@ places_within at (step ∷ steps) (place ∷ far) = elim (eqb_tells step FAR) [
 one_before : (place at : ℕ) (places : List ℕ) → at < place
     → places_before place (at ∷ places) ≡ suc (places_before place places)
 one_before place at places before = rw (lt-ltb at place before)
+
+-- all, if the last is
+pub all_before : (place low : ℕ) (xs : List ℕ) → Ascend low xs → last_of low xs < place
+    → places_before place xs ≡ length xs
+all_before place low [] ascends before = refl
+all_before place low (x ∷ xs) ascends before =
+    one_before place x xs (omega (arith, before, ascend_last x xs ascends.1))
+    ∙ ap suc (all_before place x xs ascends.1 before)
 
 -- Near steps lead forward: where the last of their places is before a place, so are the others.
 pub near_before : (place at : ℕ) (near rest : List ℕ) → fars near ≡ 0 → at + sum near < place

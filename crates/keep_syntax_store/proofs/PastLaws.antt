@@ -7,7 +7,7 @@
 use Rattle.std.proofs.Common.{◌≡◌, ℕ, zero, suc, ◌+◌, ◌-◌, ◌<◌, ◌≤◌, List, [], ◌∷◌, ◌++◌, length, map, take, drop, refl}
 use Rattle.std.proofs.Common.{sym, ap, ◌∙◌, subst, arith, append_assoc}
 use Rattle.std.specs.Prelude.{slice_range}
-use Rattle.std.proofs.lemmas.List.{drop-drop, map-append, take_all}
+use Rattle.std.proofs.lemmas.List.{drop-drop, length-drop, map-append, take_all}
 use Rattle.keep_syntax_store.specs.declared.starts.Places.{Places}
 use Rattle.keep_syntax_store.specs.Starts.{last_of, Ascend, Before, last_to}
 use Rattle.keep_syntax_store.specs.Left.{places_left, IsPast}
@@ -61,6 +61,28 @@ range_further xs from n m begun order =
     ∙ ap (λ (ys : List ℕ). slice_range xs from n ++ take (m - n) ys)
     (drop-drop (n - from) from xs
     ∙ ap (λ (k : ℕ). drop k xs) (let e : from + (n - from) ≡ n = omega (arith, begun) in e))
+
+-- a range is its first place, which is the last up to it, and the others
+pub range_first : (xs : List ℕ) (from to : ℕ) → from < to → to ≤ length xs
+    → slice_range xs from to ≡ last_of 0 (take (from + 1) xs) ∷ slice_range xs (from + 1) to
+range_first xs from to order within =
+    ap (λ (k : ℕ). take k (drop from xs)) (let e : to - from ≡ suc (to - (from + 1)) = omega (arith, order) in e)
+    ∙ by 0 xs from (to - (from + 1)) (omega (arith, order, within))
+    ∙ ap (λ (n : ℕ). last_of 0 (take n xs) ∷ take (to - (from + 1)) (drop n xs))
+    (let e : suc from ≡ from + 1 = omega arith in e)
+  where
+    by : (low : ℕ) (ys : List ℕ) (n k : ℕ) → n < length ys
+        → take (suc k) (drop n ys) ≡ last_of low (take (suc n) ys) ∷ take k (drop (suc n) ys)
+    by low [] n k within = absurd (omega (arith, within))
+    by low (y ∷ ys) zero k within = refl
+    by low (y ∷ ys) (suc n) k within = by y ys n k (omega (arith, within))
+
+-- no list goes on past its end
+pub range_clamped : (xs : List ℕ) (from to : ℕ) → length xs ≤ to
+    → slice_range xs from (length xs) ≡ slice_range xs from to
+range_clamped xs from to past =
+    take_all (length xs - from) (drop from xs) (omega (arith, length-drop from xs))
+    ∙ sym (take_all (to - from) (drop from xs) (omega (arith, length-drop from xs, past)))
 
 pub stored_further : (f : ℕ → ℕ) (before so_far more xs left : List ℕ) (from n m : ℕ) → from ≤ n → n ≤ m
     → left ≡ drop n xs → so_far ≡ before ++ map f (slice_range xs from n) → more ≡ so_far ++ map f (take (m - n) left)

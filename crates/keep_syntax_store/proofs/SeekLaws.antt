@@ -3,11 +3,12 @@
 --
 -- Theorems: `run_to`: the last place up to another is sought after a place and the near places after it, from the last
 -- of these; `run_from`: the first place from another on is sought after them.
-use Rattle.std.proofs.Common.{◌≡◌, ℕ, ◌+◌, ◌<◌, ◌≤◌, List, [], ◌∷◌, ◌++◌, refl, sym, ap, ◌∙◌, arith}
+use Rattle.std.proofs.Common.{◌≡◌, ℕ, ◌+◌, ◌<◌, ◌≤◌, List, [], ◌∷◌, ◌++◌, length, refl, sym, ap, ◌∙◌, arith}
 use Rattle.std.specs.Prelude.{sum, leb}
 use Rattle.std.proofs.lemmas.Bool.{le-leb, lt-leb}
-use Rattle.keep_syntax_store.specs.Starts.{places_at, fars, first_from, last_to}
+use Rattle.keep_syntax_store.specs.Starts.{places_at, fars, first_from, last_of, last_to, Ascend}
 use Rattle.keep_syntax_store.proofs.TestLaws.{if_true, if_false}
+use Rattle.keep_syntax_store.proofs.AscendLaws.{ascend_last}
 use Rattle.keep_syntax_store.proofs.StartLaws.{near_step}
 use Rattle.keep_syntax_store.proofs.RunLaws.{IsNear, is_near}
 
@@ -16,6 +17,15 @@ use Rattle.keep_syntax_store.proofs.RunLaws.{IsNear, is_near}
 one_to : (place low at : ℕ) (places : List ℕ) → at ≤ place
     → last_to place low (at ∷ places) ≡ last_to place at places
 one_to place low at places le = if_true (leb at place) _ _ (le-leb at place le)
+
+-- all, if the last of them is
+pub all_to : (place low start : ℕ) (xs : List ℕ) → Ascend start xs → last_of start xs ≤ place → 0 < length xs
+    → last_to place low xs ≡ last_of start xs
+all_to place low start [] ascends within some = absurd (omega (arith, some))
+all_to place low start (x ∷ []) ascends within some = one_to place low x [] within
+all_to place low start (x ∷ y ∷ ys) ascends within some =
+    one_to place low x (y ∷ ys) (omega (arith, within, ascend_last x (y ∷ ys) ascends.1))
+    ∙ all_to place x x (y ∷ ys) ascends.1 within (omega arith)
 
 near_to : (place at : ℕ) (near rest : List ℕ) → fars near ≡ 0 → at + sum near ≤ place
     → last_to place at (places_at at near [] ++ rest) ≡ last_to place (at + sum near) rest
@@ -63,3 +73,11 @@ run_from place high at there last left after near rest first split none is befor
     ∙ one_from place high at after before
     ∙ ap (first_from place high) split
     ∙ near_from place high there near rest none (omega (arith, is, order))
+
+-- none of them, if the last is before the place
+pub none_from : (place high low : ℕ) (xs : List ℕ) → Ascend low xs → last_of low xs < place
+    → first_from place high xs ≡ high
+none_from place high low [] ascends before = refl
+none_from place high low (x ∷ xs) ascends before =
+    if_false (leb place x) _ _ (lt-leb place x (omega (arith, before, ascend_last x xs ascends.1)))
+    ∙ none_from place high x xs ascends.1 before

@@ -45,8 +45,53 @@ fn swap_runs_in<T>(items: &mut Vec<T>, from: usize, gone: usize, before: usize)
     swap_runs(items.as_mut_slice(), from, gone, before);
 }
 
-/// The elements `from..to` of a vector and all of another change places. It takes no memory.
-pub fn exchange<T: Copy>(items: &mut Vec<T>, from: usize, to: usize, other: &mut Vec<T>)
+// Appends elements for which there is memory.
+fn push_all<T: Copy>(items: &mut Vec<T>, more: &[T])
+    requires { vec_len items.old + length more.now ≤ vec_capacity items.old }
+    ensures items { items.new.items ≡ items.old.items ++ more.now }
+    ensures len { vec_len items.new ≡ vec_len items.old + length more.now }
+    ensures capacity { vec_capacity items.old ≤ vec_capacity items.new }
+{
+    let Ok(()) = items.extend_from_slice(more) else {
+        unreachable!()
+    };
+}
+
+// The first so many elements of a vector go to its end.
+fn rotate<T>(items: &mut Vec<T>, count: usize)
+    requires { count ≤ vec_len items.old }
+    ensures items { items.new.items ≡ drop count items.old.items ++ take count items.old.items }
+    ensures len { vec_len items.new ≡ vec_len items.old }
+    ensures capacity { vec_capacity items.new ≡ vec_capacity items.old }
+{
+    items.as_mut_slice().rotate_left(count);
+}
+
+// The elements `from..to` of a vector and all of another change places. Those from `from` on wait in the other.
+fn exchange_through<T: Copy>(items: &mut Vec<T>, from: usize, to: usize, other: &mut Vec<T>)
+    requires range { (from ≤ to) × (to ≤ vec_len items.old) }
+    requires room { (vec_len items.old + vec_len other.old ≤ vec_capacity items.old)
+        × (vec_len other.old + (vec_len items.old - from) ≤ vec_capacity other.old) }
+    ensures items { items.new.items ≡ take from items.old.items ++ (other.old.items ++ drop to items.old.items) }
+    ensures gone { other.new.items ≡ slice_range items.old.items from to }
+    ensures len { (vec_len items.new + (to - from) ≡ vec_len items.old + vec_len other.old)
+        × (vec_len other.new ≡ to - from) }
+    ensures capacity { (vec_capacity items.old ≤ vec_capacity items.new)
+        × (vec_capacity other.old ≤ vec_capacity other.new) }
+{
+    let added = other.len();
+    let gone = to - from;
+    push_all(other, &items[from..]);
+    items.truncate(from);
+    push_all(items, &other[..added]);
+    push_all(items, &other[added + gone..]);
+    other.truncate(added + gone);
+    rotate(other, added);
+    other.truncate(gone);
+}
+
+// They change places by two rotations of all from `from` on.
+fn exchange_in_place<T: Copy>(items: &mut Vec<T>, from: usize, to: usize, other: &mut Vec<T>)
     requires range { (from ≤ to) × (to ≤ vec_len items.old) }
     requires room { (vec_len items.old + vec_len other.old ≤ vec_capacity items.old)
         × (to - from ≤ vec_capacity other.old) }
@@ -68,4 +113,25 @@ pub fn exchange<T: Copy>(items: &mut Vec<T>, from: usize, to: usize, other: &mut
         unreachable!()
     };
     items.truncate(len);
+}
+
+/// The elements `from..to` of a vector and all of another change places. It takes no memory. Those after them wait in
+/// the other if there is room for them.
+pub fn exchange<T: Copy>(items: &mut Vec<T>, from: usize, to: usize, other: &mut Vec<T>)
+    requires range { (from ≤ to) × (to ≤ vec_len items.old) }
+    requires room { (vec_len items.old + vec_len other.old ≤ vec_capacity items.old)
+        × (to - from ≤ vec_capacity other.old) }
+    ensures items { items.new.items ≡ take from items.old.items ++ (other.old.items ++ drop to items.old.items) }
+    ensures gone { other.new.items ≡ slice_range items.old.items from to }
+    ensures len { (vec_len items.new + (to - from) ≡ vec_len items.old + vec_len other.old)
+        × (vec_len other.new ≡ to - from) }
+    ensures capacity { (vec_capacity items.old ≤ vec_capacity items.new)
+        × (vec_capacity other.old ≤ vec_capacity other.new) }
+{
+    let room = other.capacity().saturating_sub(other.len());
+    if items.len() - from <= room {
+        exchange_through(items, from, to, other);
+    } else {
+        exchange_in_place(items, from, to, other);
+    }
 }

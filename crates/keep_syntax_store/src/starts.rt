@@ -4,7 +4,8 @@ ghost use Rattle.std.specs.Prelude.{slice_range, IfSome, IsNone, IfOk, OnOk, OnE
 ghost use Rattle.std.specs.List.{AllByRecursion};
 ghost use Rattle.keep_syntax_store.specs.declared.starts.TheConstants.{FAR};
 ghost use Rattle.keep_syntax_store.specs.Lifted as lifted;
-ghost use Rattle.keep_syntax_store.specs.Starts.{AllSmall, Ascend, Before, CanGoOn, CanGoTo, IsMilestone, fars};
+ghost use Rattle.keep_syntax_store.specs.Starts.{AllSmall, AreStarts, Ascend, Before, CanGoOn, CanGoTo, IsMilestone};
+ghost use Rattle.keep_syntax_store.specs.Starts.{fars};
 ghost use Rattle.keep_syntax_store.specs.Starts.{last_of, places_at, CanMoveOn, moved_on};
 
 use crate::moves::moved;
@@ -202,8 +203,9 @@ fn moved_milestones(
 
 // the milestone with a number, counted from 1, or else the beginning
 fn milestone_at(milestones: &[Milestone], number: usize) -> Milestone
-    ensures { (steps far : List ℕ) → AllByRecursion (IsMilestone steps far) milestones.now
+    ensures is { (steps far : List ℕ) → AllByRecursion (IsMilestone steps far) milestones.now
         → IsMilestone steps far result }
+    ensures first { number ≡ 0 → result.steps ≡ 0 }
 {
     if number > 0 && number <= milestones.len() {
         milestones[number - 1]
@@ -213,6 +215,52 @@ fn milestone_at(milestones: &[Milestone], number: usize) -> Milestone
             far: 0,
             place: 0,
         }
+    }
+}
+
+// the milestone so many steps after another
+fn milestone_after(steps: &[u8], far: &[usize], known: Milestone, count: usize) -> Milestone
+    requires known { IsMilestone steps.now far.now known }
+    requires can { CanGoOn steps.now far.now known }
+    requires within { known.steps + count ≤ length steps.now }
+    ensures is { IsMilestone steps.now far.now result }
+    ensures steps { result.steps ≡ known.steps + count }
+{
+    let number = known.steps + count;
+    let left = Places::after(steps, far, known).without(count);
+    Milestone {
+        steps: number,
+        far: known.far + count_far(&steps[known.steps..number]),
+        place: left.at,
+    }
+}
+
+// what is known of the place with a number: from the last milestone up to it, or from the end
+fn milestone_to(
+    steps: &[u8],
+    far: &[usize],
+    last: usize,
+    milestones: &[Milestone],
+    number: usize,
+) -> Milestone
+    requires stored { AreStarts steps.now far.now last milestones.now }
+    requires within { number ≤ length steps.now }
+    ensures is { IsMilestone steps.now far.now result }
+    ensures steps { result.steps ≡ number }
+{
+    if number == steps.len() {
+        return Milestone {
+            steps: number,
+            far: far.len(),
+            place: last,
+        };
+    }
+    let passed = milestones.partition_point(|milestone| milestone.steps <= number);
+    let known = milestone_at(milestones, passed);
+    if known.steps <= number {
+        milestone_after(steps, far, known, number - known.steps)
+    } else {
+        milestone_after(steps, far, milestone_at(&[], 0), number)
     }
 }
 
@@ -364,6 +412,9 @@ impl Starts {
     pub fn last_to(&self, place: usize, low: usize) -> usize
         ensures { result ≡ last_to place low self.now }
     {
+        if self.len() > 0 && self.last <= place {
+            return self.last;
+        }
         let (number, mut left) = self.near_place(place);
         let mut last = if number == 0 { low } else { left.at };
         'runs: while let Some(at) = left.advance() {
@@ -386,6 +437,9 @@ impl Starts {
     pub fn first_from(&self, place: usize, high: usize) -> usize
         ensures { result ≡ first_from place high self.now }
     {
+        if self.last < place {
+            return high;
+        }
         let (_, mut left) = self.near_place(place);
         'runs: while let Some(at) = left.advance() {
             if place <= at {
@@ -414,6 +468,9 @@ impl Starts {
         ensures { result ≡ places_before place self.now }
     {
         let count = self.len();
+        if self.last < place {
+            return count;
+        }
         let (mut number, mut left) = self.near_place(place);
         'runs: while let Some(at) = left.advance() {
             if place <= at {
@@ -423,7 +480,7 @@ impl Starts {
             let after = left;
             let near = left.take_near(count);
             if place - at <= near.distance {
-                // among these: each is looked at
+                // among these: by groups
                 return number + after.count_before(place);
             }
             number += near.steps.len();
@@ -545,30 +602,26 @@ impl Starts {
         Ok(())
     }
 
-    /// The places from number `from` to the last milestone up to number `to`, if `from` places lead to a milestone.
-    fn between(&self, from: usize, to: usize) -> Option<Between<'_>>
-        ensures from { IfSome result (λ between. from ≤ between.high.steps) }
-        ensures to { IfSome result (λ between. between.high.steps ≤ to) }
-        ensures are { IfSome result (λ between. AreBetween between.low between.high between.places
-            between.milestones.now) }
-        ensures places { IfSome result (λ between. places_left between.places
-            ≡ slice_range self.now from between.high.steps) }
+    /// The places from number `from` up to number `to`, with what is known at both, and the milestones between them.
+    fn between(&self, from: usize, to: usize) -> Between<'_>
+        requires { (from ≤ to) × (to ≤ length self.now) }
+        ensures are { AreBetween result.low result.high result.places result.milestones.now }
+        ensures low { result.low.place ≡ last_of 0 (take from self.now) }
+        ensures places { places_left result.places ≡ slice_range self.now from to }
     {
+        let steps = self.steps.as_slice();
+        let far = self.far.as_slice();
         let milestones = self.milestones.as_slice();
-        let passed = milestones.partition_point(|milestone| milestone.steps < from);
-        let reached = milestones.partition_point(|milestone| milestone.steps <= to);
-        let low = milestone_at(milestones, passed + 1);
-        let high = milestone_at(milestones, reached);
-        if reached <= passed || low.steps != from || high.steps < from || to < high.steps {
-            return None;
-        }
-        let places = Places::between(self.steps.as_slice(), self.far.as_slice(), low, high);
-        Some(Between {
+        let low = milestone_to(steps, far, self.last, milestones, from);
+        let high = milestone_to(steps, far, self.last, milestones, to);
+        let first = milestones.partition_point(|milestone| milestone.steps <= from);
+        let end = milestones.partition_point(|milestone| milestone.steps <= to);
+        Between {
             low,
             high,
-            places,
-            milestones: &milestones[passed + 1..reached],
-        })
+            places: Places::between(steps, far, low, high),
+            milestones: &milestones[first..end.max(first)],
+        }
     }
 
     /// How many places lead to the first milestone after number `from`, at most `to`.
@@ -583,38 +636,22 @@ impl Starts {
         if from < next && next < to { next } else { to }
     }
 
-    /// Stores also the places of another list from number `from` to its last milestone up to number `to`, moved from
-    /// after `old` to after `new`, and returns the number up to which they are stored. It stores none if there is no
-    /// milestone at `from`, or the last place that is stored is not that milestone's, moved.
-    fn append_between(
-        &mut self,
-        other: &Starts,
-        from: usize,
-        to: usize,
-        old: usize,
-        new: usize,
-    ) -> Result<usize, AllocError>
+    /// Up to which number no milestone comes after number `from`, at most `to`, if that is far; else `from`.
+    fn end_of_gap(&self, from: usize, to: usize) -> usize
         requires { from ≤ to }
-        ensures from { IfOk result (λ next. from ≤ next) }
-        ensures to { IfOk result (λ next. next ≤ to) }
-        ensures stored { IfOk result (λ next. self.new
-            ≡ self.old ++ map (lifted.moved old new) (slice_range other.now from next)) }
+        ensures from { from ≤ result }
+        ensures to { result ≤ to }
     {
-        let Some(between) = other.between(from, to) else {
-            return Ok(from);
-        };
-        let Some(place) = moved(between.low.place, old, new) else {
-            return Ok(from);
-        };
-        if place != self.last {
-            return Ok(from);
+        let end = self.next_milestone(from, to);
+        if end - from > BLOCK + BLOCK / 2 {
+            end
+        } else {
+            from
         }
-        self.push_between(&between, old, new)?;
-        Ok(between.high.steps)
     }
 
     /// Stores also the places of another list from number `from` up to number `to`, moved from after `old` to after
-    /// `new`. Those between two of its milestones are copied at once.
+    /// `new`. They are copied at once, but where there are no milestones for long: there these are made.
     pub(crate) fn append_moved(
         &mut self,
         other: &Starts,
@@ -625,13 +662,36 @@ impl Starts {
     ) -> Result<(), AllocError>
         ensures { OnOk result (self.new ≡ self.old ++ map (lifted.moved old new) (slice_range other.now from to)) }
     {
+        let to = to.min(other.len());
         if to <= from {
             return Ok(());
         }
-        let low = other.next_milestone(from, to);
-        self.append_blocks(other, from, low, old, new)?;
-        let high = self.append_between(other, low, to, old, new)?;
-        self.append_blocks(other, high, to, old, new)?;
+        let gap = other.end_of_gap(from, to);
+        self.append_blocks(other, from, gap, old, new)?;
+        self.append_run(other, gap, to, old, new)?;
+        Ok(())
+    }
+
+    /// Stores also the places of another list from number `from` up to number `to`, moved from after `old` to after
+    /// `new`: the first alone, since it is not so far after the last one as it was, and the others by one copy.
+    fn append_run(
+        &mut self,
+        other: &Starts,
+        from: usize,
+        to: usize,
+        old: usize,
+        new: usize,
+    ) -> Result<(), AllocError>
+        requires { to ≤ length other.now }
+        ensures { OnOk result (self.new ≡ self.old ++ map (lifted.moved old new) (slice_range other.now from to)) }
+    {
+        if to <= from {
+            return Ok(());
+        }
+        let others = other.between(from + 1, to);
+        self.push_moved(others.low.place, old, new)?;
+        self.push_between(&others, old, new)?;
+        self.push_milestone()?;
         Ok(())
     }
 
@@ -780,8 +840,38 @@ impl<'a> Places<'a> {
         high
     }
 
-    /// How many of ascending places are before `place`, one place after another.
+    /// How many steps are left.
+    fn step_count(&self) -> usize
+        ensures { result ≡ length self.now.steps.now }
+    {
+        self.steps.len()
+    }
+
+    /// How many of ascending places are before `place`, a group of near ones after another.
     fn count_before(&self, place: usize) -> usize
+        ensures { result ≡ places_before place (places_left self.now) }
+    {
+        let count = self.step_count();
+        let mut left = *self;
+        let mut number = 0;
+        'runs: while let Some(at) = left.advance() {
+            if place <= at {
+                return number;
+            }
+            number += 1;
+            let after = left;
+            let group = left.take_near(GROUP);
+            if place - at <= group.distance {
+                // among these: each is looked at
+                return number + after.count_each_before(place);
+            }
+            number += group.steps.len();
+        }
+        number
+    }
+
+    /// How many of ascending places are before `place`, one place after another.
+    fn count_each_before(&self, place: usize) -> usize
         ensures { result ≡ places_before place (places_left self.now) }
     {
         let count = self.steps.len();

@@ -1,5 +1,5 @@
 //! What is stored of some lines changes places with what is stored of others, in place.
-ghost use Rattle.std.specs.Prelude.{◌≡◌, ◌+◌, ◌≤◌, length, OnOk, IfOk, vec_len, vec_capacity};
+ghost use Rattle.std.specs.Prelude.{◌≡◌, ◌+◌, ◌-◌, ◌≤◌, length, OnOk, IfOk, vec_len, vec_capacity};
 ghost use Rattle.std.specs.Bool.{Decides};
 ghost use Rattle.keep_syntax_store.specs.Flat.{flat};
 ghost use Rattle.keep_syntax_store.specs.InPlace as spec;
@@ -38,17 +38,33 @@ fn is_range(from: usize, to: usize, len: usize) -> bool
     from <= to && to <= len
 }
 
-/// Takes memory for the elements of a run, and in the run for so many.
-fn reserve_run<T>(items: &mut Vec<T>, run: &mut Vec<T>, count: usize) -> Result<(), AllocError>
+/// No more elements wait in a run while it changes place with others: where more come after, they are turned where they
+/// are.
+const MOST_WAITING: usize = 4096;
+
+/// Takes memory for the elements of a run, and in the run for those from a number up to another; and, where they are
+/// few, for all from there on.
+fn reserve_run<T>(
+    items: &mut Vec<T>,
+    run: &mut Vec<T>,
+    from: usize,
+    to: usize,
+) -> Result<(), AllocError>
+    requires { spec.IsRange from to (vec_len items.old) }
     ensures items { items.new.items ≡ items.old.items }
     ensures run { run.new.items ≡ run.old.items }
     ensures len { vec_len items.new ≡ vec_len items.old }
     ensures run_len { vec_len run.new ≡ vec_len run.old }
     ensures room { OnOk result (vec_len items.new + vec_len run.new ≤ vec_capacity items.new) }
-    ensures room_for_run { OnOk result (count ≤ vec_capacity run.new) }
+    ensures room_for_run { OnOk result (to - from ≤ vec_capacity run.new) }
 {
     items.reserve(run.len())?;
-    run.reserve(count)
+    let rest = items.len() - from;
+    run.reserve(if rest <= MOST_WAITING {
+        rest
+    } else {
+        to - from
+    })
 }
 
 impl Parts {
@@ -128,21 +144,24 @@ impl Parts {
         ensures run { spec.IsAsBefore run.old run.new }
         ensures room { OnOk result (spec.CanExchange from.now to.now self.new run.new) }
     {
-        reserve_run(&mut self.kinds, &mut run.kinds, to.tokens - from.tokens)?;
+        reserve_run(&mut self.kinds, &mut run.kinds, from.tokens, to.tokens)?;
         reserve_run(
             &mut self.statements.packed,
             &mut run.statements.packed,
-            to.statements - from.statements,
+            from.statements,
+            to.statements,
         )?;
         reserve_run(
             &mut self.keys.packed,
             &mut run.keys.packed,
-            to.keys - from.keys,
+            from.keys,
+            to.keys,
         )?;
         reserve_run(
             &mut self.values.packed,
             &mut run.values.packed,
-            to.values - from.values,
+            from.values,
+            to.values,
         )
     }
 

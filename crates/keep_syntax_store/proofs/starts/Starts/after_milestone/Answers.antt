@@ -19,7 +19,7 @@ after-left-requires c =
     let m = c.milestone_at-milestone.result in
     let is =
     cut s.steps.items s.far.items s.last s.milestones.items c.as_slice.result.now m c.self.invariant
-    c.as_slice.ensures.value c.milestone_at-milestone.ensures in
+    c.as_slice.ensures.value c.milestone_at-milestone.ensures.is in
     subst (λ (steps : List ℕ). CanGoOn steps c.as_slice-3.result.now m) (sym c.as_slice-2.ensures.value)
     (subst (λ (far : List ℕ). CanGoOn s.steps.items far m) (sym c.as_slice-3.ensures.value) is.can)
 
@@ -29,7 +29,7 @@ returns-clause-past c =
     let m = c.milestone_at-milestone.result in
     let is =
     cut s.steps.items s.far.items s.last s.milestones.items c.as_slice.result.now m c.self.invariant
-    c.as_slice.ensures.value c.milestone_at-milestone.ensures in
+    c.as_slice.ensures.value c.milestone_at-milestone.ensures.is in
     record {
       left = c.after-left.ensures.left
           ∙ ap (λ (steps : List ℕ). places_at m.place (drop m.steps steps) (drop m.far c.as_slice-3.result.now))
@@ -45,7 +45,7 @@ returns-clause-within c =
     let m = c.milestone_at-milestone.result in
     let is =
     cut s.steps.items s.far.items s.last s.milestones.items c.as_slice.result.now m c.self.invariant
-    c.as_slice.ensures.value c.milestone_at-milestone.ensures in
+    c.as_slice.ensures.value c.milestone_at-milestone.ensures.is in
     omega (
       arith,
       is.can.within,

@@ -1,9 +1,10 @@
-use Rattle.std.proofs.Common.{length, ap, arith}
+use Rattle.std.proofs.Common.{length, sym, subst, ap, ◌∙◌, arith}
+use Rattle.keep_syntax_store.specs.Starts.{Ascend, last_of}
 use Rattle.keep_syntax_store.specs.Left.{places_left}
 use Rattle.std.proofs.lemmas.List.{length-drop}
 use Rattle.keep_syntax_store.specs.Rereading.{places_before}
 use Rattle.keep_syntax_store.proofs.AscendLaws.{count_after}
-use Rattle.keep_syntax_store.proofs.CountLaws.{before_within, run_counted, run_within}
+use Rattle.keep_syntax_store.proofs.CountLaws.{all_before, before_within, run_counted, run_within}
 use Rattle.keep_syntax_store.proofs.starts.Starts.count_before.Goals as goal
 
 pub runs-init : goal.runs-init
@@ -73,3 +74,10 @@ runs-preserved c =
             near.near,
       );
     }
+
+pub returns-then-self-place : goal.returns-then-self-place
+returns-then-self-place c =
+    let stored = c.self.invariant.stored in
+    c.len-count.ensures
+    ∙ sym (all_before c.args.place 0 c.args.self.now (subst (Ascend 0) c.self.view_is stored.ascends)
+    (omega (arith, c.if-self-place.true, stored.last_is, ap (last_of 0) c.self.view_is)))

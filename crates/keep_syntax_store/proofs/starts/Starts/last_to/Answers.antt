@@ -1,7 +1,8 @@
-use Rattle.std.proofs.Common.{◌∙◌}
+use Rattle.std.proofs.Common.{sym, subst, ap, ◌∙◌, arith}
 use Rattle.keep_syntax_store.specs.Left.{places_left}
+use Rattle.keep_syntax_store.specs.Starts.{Ascend, last_of}
 use Rattle.keep_syntax_store.proofs.PastLaws.{last_from}
-use Rattle.keep_syntax_store.proofs.SeekLaws.{run_to}
+use Rattle.keep_syntax_store.proofs.SeekLaws.{all_to, run_to}
 use Rattle.keep_syntax_store.proofs.starts.Starts.last_to.Goals.{then-number-eq0, else-number-eq0}
 use Rattle.keep_syntax_store.proofs.starts.Starts.last_to.Goals as goal
 
@@ -23,3 +24,11 @@ runs-preserved c =
     (places_left c.runs.left) (places_left c.advance.new.self) c.take_near.result.steps.now
     (places_left c.take_near.new.self) c.in-Some.ensures.first c.in-Some.ensures.at c.take_near.ensures.left
     c.take_near.result.near c.take_near.ensures.at c.if-place-at.false c.if-place-left.false
+
+pub returns-then-self-place : goal.returns-then-self-place
+returns-then-self-place c =
+    let stored = c.self.invariant.stored in
+    let last_is = stored.last_is ∙ ap (last_of 0) c.self.view_is in
+    last_is
+    ∙ sym (all_to c.args.place c.args.low 0 c.args.self.now (subst (Ascend 0) c.self.view_is stored.ascends)
+    (omega (arith, c.if-self-place.true, last_is)) (omega (arith, c.if-len-gt0.true, c.len.ensures)))

@@ -2,7 +2,7 @@ use Rattle.std.proofs.Common.{◌≡◌, ◌-◌, ◌++◌, length, take, drop, 
 use Rattle.std.proofs.Common.{append_assoc}
 use Rattle.std.proofs.lemmas.List.{length-append, length-drop, take_rest}
 use Rattle.keep_syntax_store.proofs.ExchangeLaws.{three, take_prefix, drop_prefix, take_length, range_length}
-use Rattle.keep_syntax_store.proofs.exchange.exchange.Goals as goal
+use Rattle.keep_syntax_store.proofs.exchange.exchange_in_place.Goals as goal
 
 -- all four runs, the one that leaves at the end
 swapped : (g : _) (c : goal.After-truncate g)
