@@ -5,18 +5,22 @@
 --
 -- Theorems: `goes_on`: one more; `place_added`: one number more; `if_none`, `none_of`, `when_none`,
 -- `lacks_one`: what a look-up tells; `none_at`: a path in none of the arrays;
--- `known_apart`: one that is apart from each; `all_still`, `one_more`, `with_another`: arrays that are known.
+-- `known_apart`: one that is apart from each; `all_still`, `one_more`, `with_another`: arrays that are known;
+-- `none_of_array`: an array that has no number is not that of any element.
 use Rattle.std.proofs.Common.{◌≡◌, ◌≤◌, ◌==◌, ℕ, Bool, FoldHasher, IsTrue, List, None, Option, Some, cond, not}
-use Rattle.std.proofs.Common.{[], ◌∷◌, ◌++◌, ◌<◌, false, get_or, length, refl, subst, sym, take, true}
+use Rattle.std.proofs.Common.{[], ◌∷◌, ◌++◌, ◌<◌, ◌≢◌, ◌∙◌, All, ap, false, get_or, length, refl, subst, sym, take}
+use Rattle.std.proofs.Common.{true}
 use Rattle.std.proofs.Math.ListN.{set}
-use Rattle.std.proofs.lemmas.List.Elements.{All-push, All-set, All-weaker}
+use Rattle.std.proofs.lemmas.List.Elements.{All-append, All-head, All-map, All-nil, All-push, All-set, All-tail}
+use Rattle.std.proofs.lemmas.List.Elements.{All-weaker}
 use Rattle.std.proofs.Common.{BuildHasherDefault, FoldHasher, None, Some, cond}
 use Rattle.std.specs.HashMap.{HashMap, Updates, get_by}
 use Rattle.std.specs.Option.{is_some}
 use Rattle.std.specs.Prelude.{IfNone}
-use Rattle.keep_path.specs.Path.{Part, strip}
+use Rattle.keep_path.specs.Path.{Part, index, strip, without_last}
+use Rattle.keep_edit_spec.specs.AddedItems.{item_path}
 use Rattle.keep_edit_spec.specs.Runs.{AreApart}
-use Rattle.keep_edit.specs.Gone.{AreKnown, GoneNumbers}
+use Rattle.keep_edit.specs.Gone.{AreKnown, GoneNumbers, element_paths, gone_paths}
 use Rattle.keep_edit.specs.KnownArrays.{GoesOn, HasBeginning, HasPath, IsKnown}
 use Rattle.keep_edit.specs.declared.known_arrays.KnownArrays.{KnownArrays}
 use Rattle.keep_edit.proofs.SeenLaws.{none_above}
@@ -109,3 +113,21 @@ with_another known all k own more lt here same are =
     All-set (λ g. IsKnown known g.array) all k more
     (subst (IsKnown known) (sym same)
     (subst (λ (g : GoneNumbers). IsKnown known g.array) (sym here) (are k own lt))) are
+
+-- ---- an array that is none of them
+
+without_pushed : (array : List Part) (part : Part) → without_last (array ++ part ∷ []) ≡ array
+without_pushed [] part = refl
+without_pushed (p ∷ []) part = refl
+without_pushed (p ∷ q ∷ ps) part = ap (λ (l : List Part). p ∷ l) (without_pushed (q ∷ ps) part)
+
+pub none_of_array : (known : KnownArrays) (array : List Part) → ¬ HasPath known array → (all : List GoneNumbers)
+    → AreKnown known all → (n : ℕ) → All (λ path. path ≢ item_path array n) (gone_paths all)
+none_of_array known array lacks [] are n = All-nil _
+none_of_array known array lacks (gone ∷ more) are n =
+    All-append (λ path. path ≢ item_path array n) (element_paths gone.array gone.numbers) (gone_paths more)
+    (All-map (λ path. path ≢ item_path array n) (item_path gone.array) gone.numbers (λ k d lt same.
+    lacks (subst (HasPath known)
+    (sym (without_pushed gone.array _) ∙ ap without_last same ∙ without_pushed array (index n))
+    (All-head (λ g. IsKnown known g.array) gone more are).whole)))
+    (none_of_array known array lacks more (All-tail (λ g. IsKnown known g.array) gone more are) n)

@@ -50,7 +50,7 @@ with_text run plain = record run { is_text_plain = plain }
 abbrev pub with_paths : KindsRun → SeenPaths → ℕ → KindsRun
 with_paths run paths left = record run { paths = paths; left = left }
 
--- and with these elements gone
+-- and with these paths and these elements gone
 abbrev pub with_gone : KindsRun → SeenPaths → GoneBetween → KindsRun
 with_gone run paths gone = record run { paths = paths; gone = gone }
 

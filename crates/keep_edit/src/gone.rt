@@ -3,7 +3,7 @@
 //! Each array has the numbers of its own. An element of one leads back no path but those in its array, and no array is
 //! at another or below it: so each path is led back by the numbers of one array at most, and the order in which
 //! elements of two arrays went does not matter.
-ghost use Rattle.std.specs.Prelude.{◌≡◌, ◌≢◌, ◌↔◌, ◌<◌, ◌++◌, ◌∷◌, [], ℕ, IfSome, IsNone, IsTrue, None, Some};
+ghost use Rattle.std.specs.Prelude.{◌≡◌, ◌≢◌, ◌↔◌, ◌<◌, ◌++◌, ◌∷◌, [], ℕ, IfNone, IfSome, IsNone, IsTrue, None, Some};
 ghost use Rattle.std.specs.Prelude.{◌+◌, All, drop, length, slice_get, take};
 ghost use Rattle.std.specs.Bool.{Decides};
 ghost use Rattle.std.specs.List.{HoldsAt};
@@ -113,8 +113,10 @@ impl GoneElements {
         }
     }
 
-    /// Where among the arrays this one may be; None where it is not.
-    pub fn place_of(&self, array: &Steps) -> Option<usize> {
+    /// Where among the arrays this one may be; None where none of these is an element of it.
+    pub fn place_of(&self, array: &Steps) -> Option<usize>
+        ensures { IfNone result ((n : ℕ) → All (λ path. path ≢ item_path array.now n) self.now) }
+    {
         self.known.at(array)
     }
 

@@ -23,7 +23,9 @@ pub struct KnownArrays {
 
 impl KnownArrays {
     /// None yet. It takes no memory.
-    pub fn new(alloc: Global) -> KnownArrays {
+    pub fn new(alloc: Global) -> KnownArrays
+        ensures { (path : List Part) → (¬ HasPath result path) × (¬ HasBeginning result path) }
+    {
         KnownArrays {
             places: HashMap::new(alloc),
             beginnings: HashSet::new(alloc),
@@ -75,7 +77,9 @@ impl KnownArrays {
     }
 
     /// Where in the list an array may be whose path this is. None where none is.
-    pub fn at(&self, path: &Steps) -> Option<usize> {
+    pub fn at(&self, path: &Steps) -> Option<usize>
+        ensures { IfNone result (¬ HasPath self.now path.now) }
+    {
         self.place_of(number_of(path))
     }
 
