@@ -2,7 +2,9 @@
 //! at once, and no answer.
 ghost use Rattle.std.specs.Prelude.{◌<◌, ◌≤◌, IfSome, length};
 
+use crate::alike::{agree, is_same};
 use crate::document::Document;
+use crate::outline::{SeenAs, Steps};
 use keep_edit_plan::Edit;
 use keep_rules::{Origin, Path, Step};
 use keep_syntax::{Owner, STANDARD_DEPTH, Span};
@@ -38,29 +40,67 @@ fn is_of_header(edit: &Edit, keys: &[String]) -> bool {
     }
 }
 
-/// How many of these edits come before one that is of what the last header before it makes, which one of them appends,
-/// or all if there is none. None where these are many.
-fn up_to_own_header(edits: &[Edit]) -> Option<usize>
-    requires { 0 < length edits.now }
-    ensures { IfSome result (λ count. (0 < count) × (count ≤ length edits.now)) }
-{
-    let mut keys: &[String] = &[];
-    for number in 0..edits.len().min(FEW) {
-        let edit = &edits[number];
-        if number > 0 && !keys.is_empty() && is_of_header(edit, keys) {
-            return Some(number);
-        }
-        if let Edit::Table(own) | Edit::Element(own) = edit {
-            keys = own.as_slice();
-        }
+/// Whether an edit comes back to what the one before it inserted, set, renamed or removed, and does another thing to
+/// it.
+fn comes_back(before: &Edit, edit: &Edit) -> bool {
+    match (before, edit) {
+        (Edit::Insert(path, _) | Edit::Set(path, _), Edit::Rename(other, _) | Edit::Remove(other))
+        | (Edit::Remove(path), Edit::Insert(other, _)) => is_same(
+            &Steps::of(path),
+            &Steps::of(other),
+        ),
+        (Edit::Rename(path, name), Edit::Set(other, _) | Edit::Remove(other)) => is_renamed(
+            path, name, other,
+        ),
+        _ => false,
     }
-    if edits.len() > FEW {
-        return None;
+}
+
+/// Whether a path is another one with this key as the last.
+fn is_renamed(path: &Path, name: &String, other: &Path) -> bool {
+    let len = path.len();
+    if len == 0 || other.len() != len {
+        return false;
     }
-    Some(edits.len())
+    let Some(Step::Key(key)) = other.step(len - 1) else {
+        return false;
+    };
+    key.as_str() == name.as_str() && agree(&Steps::of(path), &Steps::of(other), len - 1)
 }
 
 impl Document {
+    /// How many of these edits come before one that ends their row in any case, or all if there is none: one of what
+    /// the last header before it makes, which one of them appends, or one that comes back to what the one before it
+    /// did. None where these are many.
+    fn up_to_end(&self, edits: &[Edit]) -> Option<usize>
+        requires { 0 < length edits.now }
+        ensures { IfSome result (λ count. (0 < count) × (count ≤ length edits.now)) }
+    {
+        let mut keys: &[String] = &[];
+        for number in 0..edits.len().min(FEW) {
+            let edit = &edits[number];
+            if number > 0 && self.ends_row(&edits[number - 1], edit, keys) {
+                return Some(number);
+            }
+            if let Edit::Table(own) | Edit::Element(own) = edit {
+                keys = own.as_slice();
+            }
+        }
+        if edits.len() > FEW {
+            return None;
+        }
+        Some(edits.len())
+    }
+
+    /// Whether an edit is of what a header of these keys makes, or comes back to what the one before it did. Edits of
+    /// entries of a value go on.
+    fn ends_row(&self, before: &Edit, edit: &Edit, keys: &[String]) -> bool {
+        if !keys.is_empty() && is_of_header(edit, keys) {
+            return true;
+        }
+        comes_back(before, edit) && !matches!(self.seen_as(before), SeenAs::Entry)
+    }
+
     /// How many of these edits are made one by one in any case: none of them can be made at once with the one after
     /// them, or there is none, and they take less one by one than to read the text anew. None where more may be made at
     /// once.
@@ -68,7 +108,7 @@ impl Document {
         requires { 0 < length edits.now }
         ensures { IfSome result (λ few. (0 < few) × (few ≤ length edits.now)) }
     {
-        let few = up_to_own_header(edits)?;
+        let few = self.up_to_end(edits)?;
         if self.is_worth_reading(&edits[..few]) {
             return None;
         }
@@ -88,61 +128,57 @@ impl Document {
         false
     }
 
-    /// What it takes to make an edit alone, in parts of what it takes to read the text anew.
+    /// What it takes to make an edit alone, in parts of what it takes to read the text anew, if the lines that it
+    /// changes are short: new headers are so cheap that they are worth it in small texts alone, and of sets of a list
+    /// 23 take as long, of renames or sets of a scalar 27 at 10 KB, 88 at 100 KB and some 190 from 256 KB on. What a
+    /// long line takes comes beside that.
     fn part_of_reading(&self, edit: &Edit) -> usize {
-        let of_line = match edit {
-            Edit::Insert(path, _)
-            | Edit::Remove(path)
-            | Edit::Set(path, _)
-            | Edit::Rename(path, _) => self.part_of_line(path),
-            Edit::Table(_) | Edit::Element(_) => 0,
-        };
-        of_line.saturating_add(READING / self.edits_per_reading(edit).max(1))
-    }
-
-    /// How many edits like this one take as long alone as to read the text anew, if the lines that they change are
-    /// short: two for which the index is built anew, removes of tables, elements and lines with several keys, and
-    /// inserts with several keys or into tables that no header defines; 12 to 24 other inserts and removes, or sets of
-    /// a list; and of renames or sets of a scalar 27 at 10 KB, 88 at 100 KB and some 190 from 256 KB on. New headers
-    /// are so cheap that they are worth it in small texts alone.
-    fn edits_per_reading(&self, edit: &Edit) -> usize {
         let len = self.text.len();
         match edit {
-            Edit::Set(_, value) if value.depth() > 0 => 23,
-            Edit::Set(_, _) | Edit::Rename(_, _) => 20 + (len / 1500).min(170),
-            Edit::Table(_) | Edit::Element(_) => 25 + len / 600,
-            Edit::Insert(path, _) if !self.has_parent(path) || self.lacks_header(path) => 2,
-            Edit::Remove(path) if self.has_header(path) || self.has_several_keys(path) => 2,
-            Edit::Insert(_, _) | Edit::Remove(_) => 23,
+            Edit::Table(_) | Edit::Element(_) => READING / (25 + len / 600),
+            Edit::Insert(path, _) => self.part_of_insert(path),
+            Edit::Remove(path) => self.part_of_remove(path),
+            Edit::Set(path, value) if value.depth() > 0 => self
+                .part_of_value(path)
+                .saturating_add(READING / 23),
+            Edit::Set(path, _) | Edit::Rename(path, _) => self
+                .part_of_value(path)
+                .saturating_add(READING / (20 + (len / 1500).min(170))),
         }
     }
 
-    /// Whether all steps of a path but the last lead to a node.
-    fn has_parent(&self, path: &Path) -> bool {
-        self.index
-            .find_first(path, path.len().saturating_sub(1))
-            .is_some()
-    }
-
-    /// Whether the steps of a path that are there lead to a table that no header defines: dotted keys make it, or
-    /// headers go through it.
-    fn lacks_header(&self, path: &Path) -> bool {
-        let steps = self.as_ref().reach(path).steps;
-        match self.index.find_first(path, steps) {
-            Some(id) => matches!(
-                self.index.node(id).origin,
-                Origin::Dotted(_) | Origin::Through(_)
-            ),
-            None => false,
+    /// The same of an insert: two take as long with several keys, or into tables that no header defines, since the
+    /// index is built anew for them; else 23.
+    fn part_of_insert(&self, path: &Path) -> usize {
+        let Some(parent) = self.index.find_first(path, path.len().saturating_sub(1)) else {
+            return READING / 2;
+        };
+        match self.index.node(parent).origin {
+            Origin::Dotted(_) | Origin::Through(_) => READING / 2,
+            Origin::Value(number) => self.part_of_line(number).saturating_add(READING / 23),
+            _ => READING / 23,
         }
     }
 
-    /// Whether a header defines the table at a path, or begins the element there.
-    fn has_header(&self, path: &Path) -> bool {
-        matches!(
-            self.origin_of(path),
-            Some(Origin::Header(_) | Origin::Element(_))
-        )
+    /// The same of a remove: two take as long of tables, elements and lines with several keys; else 23.
+    fn part_of_remove(&self, path: &Path) -> usize {
+        match self.origin_of(path) {
+            Some(Origin::Header(_) | Origin::Element(_)) => READING / 2,
+            Some(Origin::Value(number)) if self.has_several_keys(number) => self
+                .part_of_line(number)
+                .saturating_add(READING / 2),
+            Some(Origin::Value(number)) => self.part_of_line(number).saturating_add(READING / 23),
+            _ => READING / 23,
+        }
+    }
+
+    /// What it takes to read the line again in which the value at a path is, in parts of what it takes to read the
+    /// text.
+    fn part_of_value(&self, path: &Path) -> usize {
+        match self.origin_of(path) {
+            Some(Origin::Value(number)) => self.part_of_line(number),
+            _ => 0,
+        }
     }
 
     /// What makes the node at a path; None if there is none.
@@ -151,27 +187,14 @@ impl Document {
         Some(self.index.node(id).origin)
     }
 
-    /// Whether the value at a path has a line of its own, with several keys.
-    fn has_several_keys(&self, path: &Path) -> bool {
-        let Some(Origin::Value(number)) = self.origin_of(path) else {
-            return false;
-        };
+    /// Whether a value has a line of its own, with several keys.
+    fn has_several_keys(&self, number: usize) -> bool {
         number < self.syntax.value_count() && self.syntax.value(number).keys > 1
     }
 
-    /// What it takes to read the line again in which the value at a path is, or comes, in parts of what it takes to
-    /// read the text.
-    fn part_of_line(&self, path: &Path) -> usize {
-        let id = match self.index.find(path) {
-            Some(id) => Some(id),
-            None => self.index.find_first(path, path.len().saturating_sub(1)),
-        };
-        let Some(id) = id else {
-            return 0;
-        };
-        let Origin::Value(number) = self.index.node(id).origin else {
-            return 0;
-        };
+    /// What it takes to read the line again in which a value is, by its number, in parts of what it takes to read the
+    /// text.
+    fn part_of_line(&self, number: usize) -> usize {
         let Some(line) = self.line_of(number) else {
             return 0;
         };
