@@ -208,3 +208,9 @@ pub mod BroughtValue
 pub mod GivenTexts
 pub mod ElsewherePaths
 pub mod ElementRunLaws
+pub mod FilledTables
+pub mod HeaderOpens
+pub mod NextElement
+pub mod TableOpened
+pub mod ElementOpened
+pub mod FilledRunLaws

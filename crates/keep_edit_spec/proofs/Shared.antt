@@ -101,6 +101,8 @@ pub use Rattle.keep_edit_spec.proofs.Lists.EntryEdits.{still_makes_set}
 pub use Rattle.keep_edit_spec.proofs.Lists.EntryChanges.{entry_change_is_set}
 pub use Rattle.keep_edit_spec.proofs.Lists.SetBytes.{set_bytes}
 pub use Rattle.keep_edit_spec.proofs.Lists.SetTwice.{sets_again}
+pub use Rattle.keep_edit_spec.proofs.Lists.FilledRunLaws.{filled_run_goes_on_element, filled_run_goes_on_key}
+pub use Rattle.keep_edit_spec.proofs.Lists.FilledRunLaws.{filled_run_goes_on_table, none_is_filled_run}
 pub use Rattle.keep_edit_spec.proofs.Lists.HeaderTaken.{element_ends}
 pub use Rattle.keep_edit_spec.proofs.Lists.HeaderRunLaws.{first_with, header_run_goes_on, none_is_header_run}
 pub use Rattle.keep_edit_spec.proofs.Insert.KeysAtEnd.{first_is}

@@ -35,3 +35,4 @@ pub mod DottedLines
 pub mod BroughtHeaders
 pub mod InsertKinds
 pub mod ElementRuns
+pub mod FilledTables

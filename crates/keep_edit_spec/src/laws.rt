@@ -8,6 +8,7 @@ ghost use Rattle.keep_edit_spec.specs.DottedLines as dotted;
 ghost use Rattle.keep_edit_spec.specs.ElementRuns as elements;
 ghost use Rattle.keep_edit_spec.specs.EntryChanges as parts;
 ghost use Rattle.keep_edit_spec.specs.EntryEdits as entries;
+ghost use Rattle.keep_edit_spec.specs.FilledTables as filled;
 ghost use Rattle.keep_edit_spec.specs.InsertLists as inserts;
 ghost use Rattle.keep_edit_spec.specs.KeyvalLines as keyvals;
 ghost use Rattle.keep_edit_spec.specs.Laws as spec;
@@ -178,6 +179,15 @@ pub fn removes_take_headers()
     ensures still { taken.StillRemovesHeader }
     ensures none { taken.NoneIsHeaderRun }
     ensures run { taken.HeaderRunGoesOn }
+{}
+
+/// New tables and elements that are appended, and keys that are inserted into the last of them, are known by the
+/// document before all of them: each comes at the end of the text.
+pub fn new_tables_are_filled()
+    ensures none { filled.NoneIsFilledRun }
+    ensures table { filled.FilledRunGoesOnTable }
+    ensures element { filled.FilledRunGoesOnElement }
+    ensures key { filled.FilledRunGoesOnKey }
 {}
 
 /// A `remove` of an element of an array of tables, or of a table, with its header makes the same change after any edit

@@ -1,13 +1,14 @@
 -- A header that an append writes at the end of a text that ends in a newline, of a table or of an element.
 --
--- All that another edit asks of it is in `HeaderComes`: what it says is said after the rest, and has paths that its
--- keys lead to (HeaderSays), so it states nothing of another (`states_nothing`) and does not go through it
--- (`not_through`); it states nothing of a table that is made in the document (HeaderNew), so it begins no body of that
--- table (`begins_none`, `not_begun`); it comes before the last line (HeaderLines), where the change is stated to be, at
--- the end of the text (`comes_at`); and it has no value, nor a key part that leads to a path that its keys pass by.
+-- All that another edit asks of it is in `HeaderComes`: what it says is said after the rest, with which it obeys the
+-- rules, and has paths that its keys lead to (HeaderSays), so it states nothing of another (`states_nothing`) and does
+-- not go through it (`not_through`); it states nothing of a table that is made in the document (HeaderNew), so it
+-- begins no body of that table (`begins_none`, `not_begun`); it comes before the last line (HeaderLines), where the
+-- change is stated to be, at the end of the text (`comes_at`); and it has no value, nor a key part that leads to a path
+-- that its keys pass by.
 --
--- Theorems: `table_comes`, `element_comes`; `after_header`, `comes_at`, `states_nothing`, `begins_none`, `not_begun`,
--- `not_through`; `values_pass`.
+-- Theorems: `table_comes`, `element_comes`; `after_header`, `comes_at`, `states_nothing`, `end_tables`, `begins_none`,
+-- `not_begun`, `not_through`; `values_pass`.
 use Rattle.std.proofs.Common.{◌≡◌, ℕ, Bool, true, false, ◌&&◌, List, [], ◌∷◌, ◌++◌, length, map, refl, sym, ap, subst}
 use Rattle.std.proofs.Common.{◌∙◌, Option, Some, None}
 use Rattle.std.specs.Prelude.{position}
@@ -54,6 +55,7 @@ pub record HeaderComes (s : Document) (keys : List (List ℕ)) (c : TextChange) 
   pub empty : s.last.content ≡ blank
   pub own : List Mention
   pub says : mentions_in (headed s content).to ≡ mentions_in s ++ own
+  pub rules : Rules (mentions_in s ++ own)
   pub stated : (r : Reading) → r.tables ≡ tables_in (mentions_in s) → line_mentions r (plain_line content) ≡ own
   pub of_header : AllOf (IsOfHeader keys) own
   pub new : (a : List Part) → IsMadeIn a (mentions_in s) → AllOf (StatesNothing a) own
@@ -84,8 +86,9 @@ module _ (s : Document) (keys : List (List ℕ)) (c : TextChange) (content : Con
     abbrev at_end : Reading
     at_end = reading_after_lines start (map line_of s.ended)
 
-    tables : at_end.tables ≡ tables_in (mentions_in s)
-    tables =
+    -- All arrays of tables are known before it.
+    pub end_tables : at_end.tables ≡ tables_in (mentions_in s)
+    end_tables =
         ap (λ (r : Reading). r.tables)
         (sym (reading_append start (map line_of s.ended) (s.last ∷ [])
         ∙ ap (λ (x : Content). reading_after_lines at_end (plain_line x ∷ [])) h.empty))
@@ -100,7 +103,7 @@ module _ (s : Document) (keys : List (List ℕ)) (c : TextChange) (content : Con
         by true e =
             let (m, stated, other) =
             meet (IsStated a) (StatesNothing a) h.own
-            (subst (SomeOf (IsStated a)) (h.stated at_end tables) (begins_stated a at_end (plain_line content) e))
+            (subst (SomeOf (IsStated a)) (h.stated at_end end_tables) (begins_stated a at_end (plain_line content) e))
             nothing in
             absurd (not_stated a m stated other)
 
@@ -112,7 +115,7 @@ module _ (s : Document) (keys : List (List ℕ)) (c : TextChange) (content : Con
     pub not_through : (a : List Part) → PassesBy keys a → leads_through a at_end (plain_line content) ≡ false
     not_through a clear =
         ap (λ (b : Bool). is_header content && b)
-        (ap (has is_through a) (h.stated at_end tables)
+        (ap (has is_through a) (h.stated at_end end_tables)
         ∙ ap (list_any is_through) (nothing_there keys a h.own clear h.of_header))
         ∙ and-false (is_header content)
 
@@ -157,6 +160,7 @@ comes profile limit s k ks c content st fine closed free is states of_header new
       empty = last_blank profile s fine.valid closed;
       own = statement_mentions (end_reading (mentions_in s)) st;
       says = says;
+      rules = rules;
       stated = λ r e. states r
           ∙ ap (λ (tables : List (List Part)). statement_mentions (record { tables = tables; body = [] }) st) e;
       of_header = of_header;

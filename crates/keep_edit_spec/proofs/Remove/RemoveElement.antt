@@ -7,7 +7,8 @@
 -- rules allow only what belongs to the array (`array_before`, `array_after`, one case for each kind), so nothing else
 -- is under the path.
 --
--- Theorem: `element_dropped`: after the element is dropped the rules hold, and the tree has changed as it should.
+-- Theorems: `element_dropped`: after the element is dropped the rules hold, and the tree has changed as it should;
+-- `all_before`: before an element's header only what belongs to the array is said at the array's path; `start_shift`.
 use Rattle.std.proofs.Common.{◌≡◌, ℕ, suc, ◌+◌, Bool, true, false, cond, List, [], ◌∷◌, ◌++◌, map, take, drop, refl}
 use Rattle.std.proofs.Common.{sym, ap, subst, ◌∙◌, append_assoc, arith, Option, Some, None, inl, inr}
 use Rattle.std.proofs.lemmas.List.{map-append, append-nil, take-append-drop}
@@ -61,10 +62,10 @@ array_after begun e = refl
 array_after passed e = refl
 array_after other e = absurd cc
 
-abbrev IsOfArray : List Part → Mention → Type 0
+abbrev pub IsOfArray : List Part → Mention → Type 0
 IsOfArray p m = m.path ≡ p → array_mentions m.kind ≡ true
 
-all_before : (p : List Part) (xs ys : List Mention) → Rules (xs ++ record { path = p; kind = kinds_element } ∷ ys)
+pub all_before : (p : List Part) (xs ys : List Mention) → Rules (xs ++ record { path = p; kind = kinds_element } ∷ ys)
     → AllOf (IsOfArray p) xs
 all_before p [] ys rules = tt
 all_before p (x ∷ xs) ys rules =
@@ -78,7 +79,7 @@ all_after p (y ∷ ys) h = ((λ e. array_after y.kind (h.0 (sym e))), all_after 
 
 -- ---- what the reading is, before the lines and after the element
 
-start_shift : (prefix : List Part) → EndsInKey prefix → (n : ℕ) → AreShifted prefix n start start
+pub start_shift : (prefix : List Part) → EndsInKey prefix → (n : ℕ) → AreShifted prefix n start start
 start_shift prefix ends n = record {
   tables = record { others = λ q hq other. refl; side = inl (refl, omega arith) };
   body = sym (shifted_root prefix n ends);
