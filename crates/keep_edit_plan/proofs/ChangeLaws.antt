@@ -79,7 +79,8 @@ ok_there {A} {E} P (Ok found) a is h = let same : found ≡ a = cc in subst (λ 
 ok_there {A} {E} P (Err f) a is h = absurd cc
 
 -- what is written is the change that is known of it
-place_is : (p : Place) (t : TextEdit) → IsMadeAt p t → t.place.start ≤ t.place.end → p ≡ place_of_change (change_of t)
+pub place_is : (p : Place) (t : TextEdit) → IsMadeAt p t → t.place.start ≤ t.place.end
+    → p ≡ place_of_change (change_of t)
 place_is p t made ordered =
     let start : p.start ≡ t.place.start = ap (λ (x : Span). x.start) (sym made.0) in
     let end : p.end ≡ t.place.end = ap (λ (x : Span). x.end) (sym made.0) in
@@ -97,7 +98,7 @@ size_some : (p : Place) (t : TextEdit) → IsMadeAt p t → p.start < p.end → 
 size_some p t made some =
     omega (arith, some, ap (λ (x : Span). x.start) made.0, ap (λ (x : Span). x.end) made.0)
 
-size_none : (p : Place) (t : TextEdit) → IsMadeAt p t → p.start ≡ p.end → t.place.end - t.place.start ≡ 0
+pub size_none : (p : Place) (t : TextEdit) → IsMadeAt p t → p.start ≡ p.end → t.place.end - t.place.start ≡ 0
 size_none p t made none =
     omega (arith, none, ap (λ (x : Span). x.start) made.0, ap (λ (x : Span). x.end) made.0)
 

@@ -136,23 +136,24 @@ module _ (s : Document) (t : NodeInfos) (h : IsIndexOf s t) where
   nested : AreNested (mentions_in s) (tables_in (mentions_in s))
   nested = subst (AreNested (mentions_in s)) (tables_are s) h.nested
 
-  number_there : (path : List Part) (o : Option ℕ) → o ≡ node_number t.paths path
+  pub number_there : (path : List Part) (o : Option ℕ) → o ≡ node_number t.paths path
       → node_number (node_paths (mentions_in s)) path ≡ o
   number_there path o e = ap (λ (ps : List (List Part)). node_number ps path) (sym paths_are) ∙ sym e
 
   -- no node is there, nor below
-  none_below : (path more : List Part) → node_number t.paths path ≡ None → node_number t.paths (path ++ more) ≡ None
+  pub none_below : (path more : List Part) → node_number t.paths path ≡ None → node_number t.paths (path ++ more) ≡ None
   none_below path more none =
       ap (λ (ps : List (List Part)). node_number ps (path ++ more)) paths_are
       ∙ nested.closed path more (number_there path None (sym none))
 
-  none_mentioned : (path : List Part) → node_number t.paths path ≡ None → list_any (is_at path) (mentions_in s) ≡ false
+  pub none_mentioned : (path : List Part) → node_number t.paths path ≡ None
+      → list_any (is_at path) (mentions_in s) ≡ false
   none_mentioned path none =
       or_right (is_root path) (list_any (is_at path) (mentions_in s))
       (no_node path (mentions_in s) (number_there path None (sym none)))
 
-  stated_there : (path : List Part) (i : ℕ) (info : NodeInfo) → node_number (node_paths (mentions_in s)) path ≡ Some i
-      → slice_get t.infos i ≡ Some info → IsStated path s info
+  pub stated_there : (path : List Part) (i : ℕ) (info : NodeInfo)
+      → node_number (node_paths (mentions_in s)) path ≡ Some i → slice_get t.infos i ≡ Some info → IsStated path s info
   stated_there path i info number there =
       let same : Some info ≡ Some _ =
       sym there ∙ ap (λ (x : NodeInfos). slice_get x.infos i) h.facts ∙ info_of_number path s i number in
@@ -262,7 +263,7 @@ module _ (s : Document) (t : NodeInfos) (h : IsIndexOf s t) where
         (none_of (at ++ key k ∷ []) s h.obeys is_through statement_number f.4)) in
         absurd (omega (arith, some, no_element f.1))
 
-    is_open : ((n : ℕ) → info.origin ≡ origin.Value n → ⊥) → (info.origin ≡ origin.Tables → ⊥) → IsOpenAt
+    pub is_open : ((n : ℕ) → info.origin ≡ origin.Value n → ⊥) → (info.origin ≡ origin.Tables → ⊥) → IsOpenAt
     is_open v g = open_there info.origin refl tells v g
 
     -- the last key is refused exactly where it may not follow

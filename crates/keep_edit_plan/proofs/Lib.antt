@@ -51,6 +51,9 @@ pub mod GivenLaws
 pub mod TextEditLaws
 pub mod SaidLaws
 pub mod ChangeLaws
+pub mod NewTableLaws
+pub mod NewElementLaws
+pub mod KeyLineLaws
 pub mod HolderSetLaws
 pub mod CommaGaps
 pub mod TakenEntries

@@ -21,3 +21,4 @@ pub mod TakenEntries
 pub mod OpenPlaces
 pub mod OpenKeyvals
 pub mod KeyNumbers
+pub mod NewTables
