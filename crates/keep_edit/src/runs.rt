@@ -80,12 +80,7 @@ fn is_of_element(edit: &Edit, seen: SeenAs) -> bool {
 
 /// Whether each of these edits is a remove.
 fn are_removes(edits: &[Edit]) -> bool {
-    for edit in edits {
-        if !matches!(edit, Edit::Remove(_)) {
-            return false;
-        }
-    }
-    true
+    edits.iter().all(|edit| matches!(edit, Edit::Remove(_)))
 }
 
 /// Whether a path is that of the item so many numbers after the one of another path, in the same array.

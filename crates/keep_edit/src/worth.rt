@@ -50,14 +50,16 @@ fn comes_back(before: &Edit, edit: &Edit) -> bool {
             &Steps::of(other),
         ),
         (Edit::Rename(path, name), Edit::Set(other, _) | Edit::Remove(other)) => is_renamed(
-            path, name, other,
+            path,
+            name.as_str(),
+            other,
         ),
         _ => false,
     }
 }
 
 /// Whether a path is another one with this key as the last.
-fn is_renamed(path: &Path, name: &String, other: &Path) -> bool {
+fn is_renamed(path: &Path, name: &str, other: &Path) -> bool {
     let len = path.len();
     if len == 0 || other.len() != len {
         return false;
@@ -65,7 +67,7 @@ fn is_renamed(path: &Path, name: &String, other: &Path) -> bool {
     let Some(Step::Key(key)) = other.step(len - 1) else {
         return false;
     };
-    key.as_str() == name.as_str() && agree(&Steps::of(path), &Steps::of(other), len - 1)
+    key.as_str() == name && agree(&Steps::of(path), &Steps::of(other), len - 1)
 }
 
 impl Document {
