@@ -9,18 +9,19 @@
 -- Theorems: `same_takes`, `same_steps`: what is compared; `agree_before`: one step more; `begins_with`, `within`: of a
 -- path at another or below it; `none_unless`: of one that is not; `before_last`, `renamed_parts`, `renamed_alike`: of
 -- paths with new keys; `take_parent`, `take_before`, `own_beside`, `own_or_apart`: of paths and what is above them;
--- `read_key`: a key that is compared; `same_or_apart`: of as many keys; `paths_apart`, `keys_apart`,
--- `apart_unless_agree`: of others.
-use Rattle.std.proofs.Common.{◌≡◌, ◌≢◌, ◌≤◌, ◌<◌, ◌-◌, ◌∷◌, ◌++◌, [], ℕ, zero, suc, List, length, take, drop, slice_get}
+-- `read_key`: a key that is compared; `keys_before_last`, `keys_before_index`: a path of some keys and one step or two
+-- more; `same_or_apart`: of as many keys; `paths_apart`, `keys_apart`, `apart_unless_agree`: of others.
+use Rattle.std.proofs.Common.{◌≡◌, ◌≢◌, ◌≤◌, ◌<◌, ◌-◌, ◌+◌, ◌∷◌, ◌++◌, [], ℕ, zero, suc, List, length, take, drop}
 use Rattle.std.proofs.Common.{◌↔◌, Bool, true, false, Option, Some, None, refl, sym, subst, ap, ap₂, ◌∙◌, arith}
 use Rattle.std.proofs.Common.{inl, inr}
-use Rattle.std.proofs.Common.{Global, String, get_or, map, min, option_map, string_bytes}
+use Rattle.std.proofs.Common.{Global, String, get_or, map, min, option_map, slice_get, string_bytes}
 use Rattle.std.specs.Prelude.{◌⊎◌}
 use Rattle.std.specs.Bool.{Decides}
 use Rattle.std.proofs.lemmas.Bool.{cases_lt}
 use Rattle.std.proofs.lemmas.List.{length-map, length-take-le, take-append-drop, take-map, take_all}
-use Rattle.std.proofs.lemmas.Option.{slice_get-map, slice_get_read}
-use Rattle.keep_path.specs.Path.{Part, beside, key, last_part, same_part, same_path, strip, without_last}
+use Rattle.std.proofs.lemmas.Option.{get_or_from_slice_get, slice_get-map, slice_get_read}
+use Rattle.std.proofs.Math.Seq.{take-suc}
+use Rattle.keep_path.specs.Path.{Part, beside, index, key, last_part, same_part, same_path, strip, without_last}
 use Rattle.keep_path.proofs.Shared.{last_pushed, path_decides, strip_append}
 use Rattle.keep_edit_spec.specs.AppendedHeaders.{AreSameOrApart}
 use Rattle.keep_edit_spec.specs.Runs.{AreApart}
@@ -182,6 +183,34 @@ read_key keys n own lt is =
     slice_get-map string_bytes keys n
     ∙ ap (λ (o : Option (String Global)). option_map string_bytes o)
     (slice_get_read keys (length keys) n own refl lt is)
+
+-- the steps but the last, if each is compared with a key
+pub keys_before_last : (path : List Part) (keys : List (String Global)) (n : ℕ) → length path ≡ length keys + 1
+    → length keys ≤ n → ((k : ℕ) → k < n → slice_get path k ≡ slice_get (map key (key_texts keys)) k)
+    → without_last path ≡ map key (key_texts keys)
+keys_before_last path keys n long many each =
+    let steps : List Part = map key (key_texts keys) in
+    let few : length steps ≤ length keys =
+    omega (arith, length-map (key_texts keys) key, length-map keys string_bytes) in
+    before_last path ∙ ap (λ (k : ℕ). take k path) (let e : length path - 1 ≡ length keys = omega (arith, long) in e)
+    ∙ same_takes (length keys) path steps (λ k low lt. each k (omega (arith, lt, many)))
+    ∙ take_all (length keys) steps few
+
+-- and those but the last of one step more, if that one is a number
+pub keys_before_index : (path : List Part) (keys : List (String Global)) (n : ℕ) → length path ≡ length keys + 2
+    → ((k : ℕ) → k < length keys → slice_get path k ≡ slice_get (map key (key_texts keys)) k)
+    → slice_get path (length keys) ≡ Some (index n)
+    → without_last path ≡ map key (key_texts keys) ++ index n ∷ []
+keys_before_index path keys n long each there =
+    let steps : List Part = map key (key_texts keys) in
+    let few : length steps ≤ length keys =
+    omega (arith, length-map (key_texts keys) key, length-map keys string_bytes) in
+    before_last path
+    ∙ ap (λ (k : ℕ). take k path) (let e : length path - 1 ≡ suc (length keys) = omega (arith, long) in e)
+    ∙ take-suc path (length keys) (index n) (omega (arith, long))
+    ∙ ap₂ (λ (a : List Part) (b : Part). a ++ b ∷ [])
+    (same_takes (length keys) path steps (λ k low lt. each k (omega (arith, lt))) ∙ take_all (length keys) steps few)
+    (get_or_from_slice_get path (length keys) (index n) (index n) there)
 
 same_keys : (keys more : List (List ℕ)) → map key keys ≡ map key more → keys ≡ more
 same_keys [] [] e = refl

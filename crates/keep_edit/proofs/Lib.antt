@@ -29,6 +29,7 @@ mod ItemSteps
 mod GoneLaws
 mod GoneFound
 mod SectionSteps
+mod FilledSteps
 mod ElementArrays
 mod ElementsGone
 mod ElementSteps

@@ -16,3 +16,4 @@ pub mod SeenHeaders
 pub mod AddedLines
 pub mod GoneBetween
 pub mod KindsRun
+pub mod FilledTables

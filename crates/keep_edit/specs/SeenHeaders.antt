@@ -43,3 +43,12 @@ pub record IsHeaderBrought (old : SeenHeaders) (table : List Part) (new : SeenHe
   pub passes : ¬ HasAppended old table
   pub here : HasTableOf new table
   pub more : HasMore old new
+
+-- An array of tables is one more of which an element's header is appended: no header before it begins with the first of
+-- its keys, and they begin with those of no table whose header comes with a line.
+pub record IsArrayAppended (old : SeenHeaders) (keys : List Part) (new : SeenHeaders) : Type 0 where
+  pub apart : (n : ℕ) → n < length keys → ¬ HasAppended old (take (n + 1) keys)
+  pub passes : (n : ℕ) → n < length keys → ¬ HasBrought old (take (n + 1) keys)
+  pub here : HasHeader new keys
+  pub brought : HasBrought new keys
+  pub more : HasMore old new

@@ -103,7 +103,7 @@ fn keys_agree(keys: &[String], more: &[String]) -> bool
 }
 
 /// Whether these are the same keys.
-fn are_same_keys(keys: &[String], more: &[String]) -> bool
+pub fn are_same_keys(keys: &[String], more: &[String]) -> bool
     ensures { Decides result (key_texts keys.now ≡ key_texts more.now) }
 {
     keys.len() == more.len() && keys_agree(keys, more)

@@ -48,6 +48,8 @@ mod at_once;
 mod changes;
 mod document;
 mod edits;
+mod filled;
+mod filled_tables;
 mod gone;
 mod gone_between;
 mod index_change;

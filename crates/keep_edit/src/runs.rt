@@ -25,6 +25,7 @@ use crate::added_lines::AddedLines;
 use crate::alike::{agree, is_same};
 use crate::at_once::{AtOnce, Run, RunEdit, is_plain};
 use crate::document::Document;
+use crate::filled_tables::is_filled;
 use crate::gone::{GoneElements, array_of};
 use crate::kinds_run::KindsRun;
 use crate::opened::OpenValues;
@@ -39,7 +40,7 @@ use memchr::memchr;
 use std::alloc::Global;
 
 /// No more edits than these are made at once.
-const MOST_AT_ONCE: usize = 1000;
+pub(crate) const MOST_AT_ONCE: usize = 1000;
 /// So many pairs of edits are compared in a run, and one more for each byte of the text: to compare more takes longer
 /// than to read the text anew.
 const PAIRS: usize = 5000;
@@ -182,8 +183,8 @@ impl Document {
     }
 
     /// What the edits from number `first` on change in the text, as far as they can be made at once: inserts of the
-    /// next items of one array, or edits of one kind, or of several where those are few or end at an element that is
-    /// removed.
+    /// next items of one array, or new tables and elements with keys in them, or edits of one kind, or of several where
+    /// those are few or end at an element that is removed.
     fn changes_at_once(&self, edits: &[Edit], first: usize) -> Run
         requires { first < length edits.now }
         ensures few { (first ≤ result.end) × (result.end ≤ length edits.now) }
@@ -196,6 +197,9 @@ impl Document {
                 end: first + items.len(),
                 changes: items,
             };
+        }
+        if let Some(filled) = self.filled_run(edits, first) {
+            return filled;
         }
         let run = self.changes_by(edits, first);
         if run.end > first
@@ -328,7 +332,8 @@ impl Document {
     }
 
     /// Whether a run goes on with the edit that has this number: its change is made with the others then. If it does
-    /// not, they have not changed.
+    /// not, they have not changed. It does not with a header below which a key comes next: from that on, new tables and
+    /// elements with their keys are made at once, and no run of another kind could go on past that key.
     fn goes_on<'a>(&self, run: &mut KindsRun<'a>, edits: &'a [Edit], number: usize) -> bool
         requires few { number < length edits.now }
         requires run { IsRunOn self.now run.old }
@@ -339,6 +344,9 @@ impl Document {
         ensures refused { result ≡ false → run.new.so_far.changes ≡ run.old.so_far.changes }
     {
         let edit = &edits[number];
+        if is_filled(edit, edits.get(number + 1)) {
+            return false;
+        }
         let seen = self.seen_as(edit);
         if is_of_element(edit, seen) {
             return self.take_element(run, edit);

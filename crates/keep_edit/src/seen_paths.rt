@@ -43,6 +43,17 @@ pub fn number_of_keys(path: &Steps) -> u64
     keys_hashed(path, path.len()).finish()
 }
 
+/// That of the keys of a header.
+pub fn number_of_header(keys: &[String]) -> u64
+    ensures { result ≡ keys_number (map key (key_texts keys.now)) }
+{
+    let mut hasher = FoldHasher::default();
+    for key in keys {
+        hasher.write(key.as_bytes());
+    }
+    hasher.finish()
+}
+
 /// That of the path with another key in place of its last step.
 fn number_beside(path: &Steps, key: &str) -> u64
     ensures { result ≡ keys_number (beside path.now key.now) }

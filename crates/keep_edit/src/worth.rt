@@ -4,13 +4,15 @@ ghost use Rattle.std.specs.Prelude.{◌<◌, ◌≤◌, IfSome, length};
 
 use crate::alike::{agree, is_same};
 use crate::document::Document;
+use crate::filled::key_after_headers;
+use crate::filled_tables::{is_filled, is_key_below};
 use crate::outline::{SeenAs, Steps};
 use keep_edit_plan::Edit;
 use keep_rules::{Origin, Path, Step};
 use keep_syntax::{Owner, STANDARD_DEPTH, Span};
 
 /// What it takes to read a text anew, in parts of it.
-const READING: usize = 1000;
+const READING: usize = 100_000;
 /// Of no more edits it is looked up whether they are too few to be made at once, before that is tried.
 const FEW: usize = 32;
 
@@ -38,6 +40,25 @@ fn is_of_header(edit: &Edit, keys: &[String]) -> bool {
             begins_with(path, keys),
         Edit::Table(_) | Edit::Element(_) => false,
     }
+}
+
+/// How many of these edits come before the first that neither appends a header nor inserts a key into what the last one
+/// makes, or all if there is none. None where these are many.
+fn up_to_other(edits: &[Edit]) -> Option<usize>
+    requires { 0 < length edits.now }
+    ensures { IfSome result (λ count. (0 < count) × (count ≤ length edits.now)) }
+{
+    let mut header: Option<&Edit> = None;
+    for number in 0..edits.len().min(FEW) {
+        let edit = &edits[number];
+        match (edit, header) {
+            (Edit::Table(_) | Edit::Element(_), _) => header = Some(edit),
+            (_, Some(last)) if is_key_below(edit, last) => {}
+            _ => return Some(number.max(1)),
+        }
+    }
+    let count = edits.len();
+    if count > FEW { None } else { Some(count) }
 }
 
 /// Whether an edit comes back to what the one before it inserted, set, renamed or removed, and does another thing to
@@ -71,17 +92,25 @@ fn is_renamed(path: &Path, name: &str, other: &Path) -> bool {
 }
 
 impl Document {
-    /// How many of these edits come before one that ends their row in any case, or all if there is none: one of what
-    /// the last header before it makes, which one of them appends, or one that comes back to what the one before it
-    /// did. None where these are many.
+    /// How many of these edits come before one that ends their row in any case, or all if there is none. Where they
+    /// begin with headers and a key of what the last one makes, that is one which neither appends a header nor inserts
+    /// such a key. Else it is a header below which a key comes next, with which another row begins; one of what the
+    /// last header before it makes, which one of them appends; or one that comes back to what the one before it did.
+    /// None where these are many.
     fn up_to_end(&self, edits: &[Edit]) -> Option<usize>
         requires { 0 < length edits.now }
         ensures { IfSome result (λ count. (0 < count) × (count ≤ length edits.now)) }
     {
+        if key_after_headers(edits, 0).is_some() {
+            return up_to_other(edits);
+        }
         let mut keys: &[String] = &[];
         for number in 0..edits.len().min(FEW) {
             let edit = &edits[number];
-            if number > 0 && self.ends_row(&edits[number - 1], edit, keys) {
+            if number > 0
+                && (is_filled(edit, edits.get(number + 1))
+                    || self.ends_row(&edits[number - 1], edit, keys))
+            {
                 return Some(number);
             }
             if let Edit::Table(own) | Edit::Element(own) = edit {
@@ -121,23 +150,30 @@ impl Document {
     /// than that takes.
     pub(crate) fn is_worth_reading(&self, edits: &[Edit]) -> bool {
         let mut taken = 0usize;
+        let mut header: Option<&Edit> = None;
         for edit in edits {
-            taken = taken.saturating_add(self.part_of_reading(edit));
+            taken = taken.saturating_add(self.part_of_reading(edit, header));
             if taken > READING {
                 return true;
+            }
+            if let Edit::Table(_) | Edit::Element(_) = edit {
+                header = Some(edit);
             }
         }
         false
     }
 
     /// What it takes to make an edit alone, in parts of what it takes to read the text anew, if the lines that it
-    /// changes are short: new headers are so cheap that they are worth it in small texts alone, and of sets of a list
-    /// 23 take as long, of renames or sets of a scalar 27 at 10 KB, 88 at 100 KB and some 190 from 256 KB on. What a
-    /// long line takes comes beside that.
-    fn part_of_reading(&self, edit: &Edit) -> usize {
+    /// changes are short: of sets of a list 23 take as long, of renames or sets of a scalar 27 at 10 KB, 88 at 100 KB
+    /// and some 190 from 256 KB on. What a long line takes comes beside that. Of headers at the end of the text, and of
+    /// keys below the last one, which this is if one of the edits before appends it, there have to be more.
+    fn part_of_reading(&self, edit: &Edit, header: Option<&Edit>) -> usize {
         let len = self.text.len();
         match edit {
-            Edit::Table(_) | Edit::Element(_) => READING / (25 + len / 600),
+            Edit::Table(_) | Edit::Element(_) => self.part_at_end(),
+            Edit::Insert(_, _) if header.is_some_and(|header| is_key_below(edit, header)) => {
+                self.part_at_end()
+            }
             Edit::Insert(path, _) => self.part_of_insert(path),
             Edit::Remove(path) => self.part_of_remove(path),
             Edit::Set(path, value) if value.depth() > 0 => self
@@ -147,6 +183,13 @@ impl Document {
                 .part_of_value(path)
                 .saturating_add(READING / (20 + (len / 1500).min(170))),
         }
+    }
+
+    /// The same of a line or a header at the end of the text: it moves nothing, so some 100 take as long at 10 KB, 600
+    /// at 100 KB, and 1,200 at 300 KB.
+    fn part_at_end(&self) -> usize {
+        let len = self.text.len();
+        READING / (20 + len / 120).min(300 + len / 340)
     }
 
     /// The same of an insert: two take as long with several keys, or into tables that no header defines, since the
