@@ -1,17 +1,18 @@
 #!/usr/bin/env python3
 """Makes long lists of edits on documents of many shapes, and compares with the same edits one by one.
 
-    tests/properties/edit_runs.py KEEP_TOML [RUNS [SEED]]
+    tests/properties/edit_runs.py KEEP_TOML [RUNS [SEED [KIND]]]
 
 Edits that come in a row are made at once, from some 20 of them on, or from three of those that take long by themselves, and up
-to 1,000, by the document before all of them. So each list (of 80 edits, one in twenty of 1,100; RUNS of them, 100 if not given)
-is given to the program as one script, and then each edit as a script of its own, on what the one before gave: so it is made by
-itself. Texts, faults and the number of the refused edit have to be the same.
+to 1,000, by the document before all of them. So each list (of 80 edits, one in twenty of 1,100; RUNS of them, 100 if not given) is
+given to the program as one script, and then each edit as a script of its own, on what the one before gave: so it is made by
+itself. Texts, faults and the number of the refused edit have to be the same. KIND is the name of the method that makes the lists
+here, if all are to be of that kind.
 Most lists are of edits of one kind, a fifth of them of edits of all kinds in turn, among them removes of tables and of elements, and
-inserts into tables that dotted keys make. A fifth of the lines that are changed have a comment. Values are set and keys renamed again, values
-are set that were inserted, and edits of entries come back to a value, which goes on in the row. Among the edits are some that end
-it: one that is refused, any other of a path that was there before, one that is in another's, one that adds a line at the place of
-a line of another table.
+inserts into tables that dotted keys make. Some are of new tables and elements, each with keys of its own. A fifth of the lines that
+are changed have a comment. Values are set and keys renamed again, values are set that were inserted, and edits of entries come back
+to a value, which goes on in the row. Among the edits are some that end it: one that is refused, any other of a path that was there
+before, one that is in another's, one that adds a line at the place of a line of another table.
 """
 import sys
 from pathlib import Path
@@ -40,15 +41,15 @@ def value_of(random):
 class Run:
     """A document, and a list of edits that mostly can be made at once."""
 
-    def __init__(self, program, seed):
+    def __init__(self, program, seed, kind=None):
         self.program, self.random = program, Random(seed)
         self.many = MANY if seed % 20 == 19 else EDITS
         self.text = document_of(self.random, lambda it: not self.ran([b"check"], it).returncode)
         self.entries = [tuple(it.rsplit(b"\t", 1)) for it in self.ran([b"list"], self.text).stdout.split(b"\n")[:-1]]
         kinds = (self.inserts, self.items, self.removes, self.sections, self.sets, self.renames, self.tables, self.elements)
-        kinds += (self.gone_elements, self.gone_below, self.dotted, self.brought)
+        kinds += (self.gone_elements, self.gone_below, self.dotted, self.brought, self.filled)
         kinds += (self.parts,) + 3 * (self.all_kinds,)
-        self.edits = self.random.choice(kinds)()
+        self.edits = (getattr(self, kind) if kind else self.random.choice(kinds))()
 
     def ran(self, words, given):
         return answer(self.program, words, given)
@@ -365,6 +366,47 @@ class Run:
         arrays = self.random.choice(([b"els"], [b"els", b"more.els"], [b"els", b"els.in"], [b"a_1.b.c", b"a_1.b.d", b"a_1"]))
         return self.headers(b"element", lambda number: self.random.choice(arrays[: 1 if number == 0 else None]))
 
+    def new_holder(self, holders, number):
+        """The path of a new table or of the array of a new element, and its operation: below one of these now and then; rarely
+        one that is there."""
+        random = self.random
+        below = random.choice(holders) + b"." if holders and random.random() < 0.2 else b""
+        there = [path for path, _ in self.entries if b"[" not in path]
+        name = b"new_%d" % number if random.random() < 0.995 or not there else random.choice(there)
+        return random.choice((b"table", b"table", b"element")) if self.of_elements else b"table", below + name
+
+    def filled(self):
+        """New tables at the end of the text, in half of the lists elements among them, some of arrays that are there, each with
+        some keys; now and then what is there, a table below an inserted key, a second key of one path, or one of an earlier
+        table."""
+        random, edits, given, counts, earlier = self.random, [], [], {}, []
+        for path in self.of_kind(b"tables"):
+            if b"[" not in path:
+                counts[path] = sum(it.startswith(path + b"[") and it.count(b"[") == 1 and it.endswith(b"]") for it, _ in self.entries)
+        holders = [it for it in self.of_kind(b"table", b"value") if b"[" not in it][:5]
+        self.of_elements, few = random.random() < 0.5, random.choice((1, 3, 9))
+        while len(edits) < self.many:
+            inserted = [it for it in given if b"[" not in it] if random.random() < 0.05 else []
+            op, path = self.new_holder(holders + inserted[-1:], len(edits))
+            if op == b"element" and counts and random.random() < 0.7:
+                path = random.choice(list(counts))
+            edits.append(edit_of(op, path))
+            at = path
+            if op == b"element":
+                counts[path] = counts.get(path, 0) + 1
+                at = b"%s[%d]" % (path, counts[path] - 1)
+            elif random.random() < 0.1:
+                holders.append(path)
+            for number in range(random.randrange(few + 1)):
+                key = random.choice(KEYS) + b"_%d" % (number if random.random() < 0.99 else 0)
+                holder = at if random.random() < 0.998 or not earlier else random.choice(earlier)
+                given.append(holder + b"." + key)
+                edits.append(edit_of(b"insert", given[-1], value_of(random)))
+            earlier.append(at)
+            if random.random() < 0.02 and given:
+                edits.append(edit_of(b"set", random.choice(given), value_of(random)))
+        return edits[: self.many]
+
     def with_holders(self):
         """The paths of new arrays and inline tables, each with how many entries it has; keys are k0, k1 and so on."""
         random, lines, holders = self.random, b"[held]\n", []
@@ -506,10 +548,10 @@ class Run:
         return f"{short(repr(found).encode())}, not {short(repr(wanted).encode())}"
 
 
-def main(keep_toml, runs=str(RUNS), seed="1"):
+def main(keep_toml, runs=str(RUNS), seed="1", kind=None):
     count = Count()
     numbers = [int(seed) * 1000 + number for number in range(int(runs))]
-    for number, why in zip(numbers, in_parallel(lambda it: Run(keep_toml, it).failure(), numbers)):
+    for number, why in zip(numbers, in_parallel(lambda it: Run(keep_toml, it, kind).failure(), numbers)):
         count.add(f"run {number}", why)
     return count.close("edits at once")
 
