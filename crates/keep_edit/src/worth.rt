@@ -43,13 +43,13 @@ fn is_of_header(edit: &Edit, keys: &[String]) -> bool {
 }
 
 /// How many of these edits come before the first that neither appends a header nor inserts a key into what the last one
-/// makes, or all if there is none. None where these are many.
-fn up_to_other(edits: &[Edit]) -> Option<usize>
+/// makes, or all if there is none. None where these are more than `most`.
+fn up_to_other(edits: &[Edit], most: usize) -> Option<usize>
     requires { 0 < length edits.now }
     ensures { IfSome result (λ count. (0 < count) × (count ≤ length edits.now)) }
 {
     let mut header: Option<&Edit> = None;
-    for number in 0..edits.len().min(FEW) {
+    for number in 0..edits.len().min(most) {
         let edit = &edits[number];
         match (edit, header) {
             (Edit::Table(_) | Edit::Element(_), _) => header = Some(edit),
@@ -58,7 +58,7 @@ fn up_to_other(edits: &[Edit]) -> Option<usize>
         }
     }
     let count = edits.len();
-    if count > FEW { None } else { Some(count) }
+    if count > most { None } else { Some(count) }
 }
 
 /// Whether an edit comes back to what the one before it inserted, set, renamed or removed, and does another thing to
@@ -102,7 +102,7 @@ impl Document {
         ensures { IfSome result (λ count. (0 < count) × (count ≤ length edits.now)) }
     {
         if key_after_headers(edits, 0).is_some() {
-            return up_to_other(edits);
+            return up_to_other(edits, self.looked_at(edits.len()));
         }
         let mut keys: &[String] = &[];
         for number in 0..edits.len().min(FEW) {
@@ -121,6 +121,16 @@ impl Document {
             return None;
         }
         Some(edits.len())
+    }
+
+    /// How many of so many edits are looked at, if they begin with headers and a key: all of them where even they are
+    /// not worth a run at the end of the text.
+    fn looked_at(&self, count: usize) -> usize {
+        if count.saturating_mul(self.part_at_end()) > READING {
+            FEW
+        } else {
+            count
+        }
     }
 
     /// Whether an edit is of what a header of these keys makes, or comes back to what the one before it did. Edits of
@@ -165,8 +175,8 @@ impl Document {
 
     /// What it takes to make an edit alone, in parts of what it takes to read the text anew, if the lines that it
     /// changes are short: of sets of a list 23 take as long, of renames or sets of a scalar 27 at 10 KB, 88 at 100 KB
-    /// and some 190 from 256 KB on. What a long line takes comes beside that. Of headers at the end of the text, and of
-    /// keys below the last one, which this is if one of the edits before appends it, there have to be more.
+    /// and some 190 from 256 KB on. What a long line takes comes beside that. What comes at the end of the text takes
+    /// less: a header, or a key of what `header` makes, the last edit of the list before this one that appends one.
     fn part_of_reading(&self, edit: &Edit, header: Option<&Edit>) -> usize {
         let len = self.text.len();
         match edit {
