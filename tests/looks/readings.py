@@ -1,4 +1,5 @@
-"""Which functions of keep_edit, keep_edit_plan and keep_rules read a text: a look at their sources, which `tests/looks/docs` takes.
+"""Which functions of keep_edit, keep_edit_runs, keep_edit_plan and keep_rules read a text: a look at their sources, which
+`tests/looks/docs` takes.
 
 The rule: **after an edit nothing of the text is scanned but the lines that the edit touches.** Half of it is proved. The syntax
 is renewed by `put_lines`, which is handed the new lines and no other text, and its `requires` says that these are the lines that
@@ -8,7 +9,7 @@ these crates where READ_BY says, once in each of these functions, and nowhere el
 document's text for a list of edits, once, and `with_changes` the text after many edits of a list that are made at once; and
 where a value changes the index, its own text is read once more: that of a given value by `nodes_of_value` or `set_value`, that
 of a touched line's value by `set_inside`. For a list of edits `holder_set` reads the text that a value has with an entry more or less, and
-where an edit of the list has set a short value and another one is of an entry of it, `value_after` reads that value, `edit_alone`
+where an edit of the list has set a short value and another one is of an entry of it, `change_in` reads that value, `edit_alone`
 the one that is inserted, and `value_made` the text that the first has then. That is where the places of its entries don't tell it:
 `take` reads such a value with these places, once for all edits of it, and of an inline table the keys are read where they stand.
 
@@ -24,8 +25,10 @@ sys.dont_write_bytecode = True
 sys.path.insert(0, str(Path(__file__).resolve().parents[2] / "tools/gate"))
 from bodies import functions_of, types_in
 
-CRATES = ("keep_edit", "keep_edit_plan", "keep_rules")
+CRATES = ("keep_edit", "keep_edit_runs", "keep_edit_plan", "keep_rules")
 DOCUMENT = "keep_edit document::Document::"
+# Where a value alone is read as a document, for an edit of an entry of it.
+ALONE = "keep_edit_runs value_after::"
 INDEX = "keep_rules index::Index::"
 OPEN_VALUE = "keep_edit_plan open_value::OpenValue::"
 # Where the texts of single values are read, which are no document's.
@@ -38,10 +41,12 @@ READ_BY = {
         "keep_rules index::values::nodes_in_text",
         # a value whose entries are known by their places
         OPEN_VALUE + "read",
-        "keep_edit opened::OpenValues::take",
+        "keep_edit_runs opened::OpenValues::take",
+        # (the syntax)
+        ALONE + "change_in",
     ],
     "replace": ["keep_edit lines::put_lines"],
-    "build": [DOCUMENT + "of_syntax"],
+    "build": [DOCUMENT + "of_syntax", ALONE + "change_in"],
     "text_of": [DOCUMENT + "read_in", DOCUMENT + "read_owned_in"],
     "check_value": [OPEN_VALUE + "read"],
     "scan_gap": [],
@@ -49,22 +54,22 @@ READ_BY = {
     # the keys of an inline table whose entries are known by their places
     "scan_key": ["keep_edit_plan open_value::keys::key_at", "keep_edit_plan open_value::keys::is_own_key"],
     "scan_scalar": [],
+    # what reads a value alone, and for what
+    "change_in": [ALONE + "value_after"],
     # what reads a document
     "of_syntax": [DOCUMENT + "of_text"],
     "of_text": [
         *(DOCUMENT + it for it in ("read_in", "read_owned_in", "copied")),
         # many edits of a list at once
         DOCUMENT + "with_changes",
-        # a value alone, for an edit of an entry of it among those
-        "keep_edit value_after::value_after",
     ],
     "read_in": [
         DOCUMENT + "read",
         # what a value is with an entry more or less, of its own text
         "keep_edit_plan document::DocumentRef::holder_set",
-        DOCUMENT + "value_made",
+        "keep_edit_runs before::Before::value_made",
         # and the value that is inserted there
-        "keep_edit value_after::edit_alone",
+        ALONE + "edit_alone",
     ],
     "read_owned_in": [DOCUMENT + "read_owned"],
     "read_owned": [],

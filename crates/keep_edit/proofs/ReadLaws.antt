@@ -16,11 +16,9 @@ use Rattle.keep_syntax.specs.Contract.{IsSyntaxOf}
 use Rattle.keep_syntax.proofs.Shared.{one_document}
 use Rattle.keep_rules.specs.ReadDocuments.{WasRead, IsIndexOf, IsRefusal}
 use Rattle.keep_path.specs.NodeInfos.{NodeInfos}
+use Rattle.keep_edit_runs.proofs.Shared as shared
+use Rattle.keep_edit_runs.proofs.Shared.{was_read}
 use Rattle.keep_edit.specs.Reading.{limit, text_in, IsRefused, IsSyntaxIn, IsTextOfTree, ReportsNoText, Holds}
-
-pub was_read : {profile : Profile} {bytes : List ℕ} {syntax : Syntax} {d : Document} → Reads profile limit bytes d
-    → IsSyntaxOf syntax d → WasRead bytes syntax d
-was_read {profile} reads is = record { profile = profile; limit = limit; reads = reads; is = is }
 
 -- the syntax is that of the one tree that the text has
 pub read_once : {profile : Profile} {bytes : List ℕ} {syntax : Syntax} {s : Document}
@@ -35,15 +33,7 @@ pub holds : (profile : Profile) (bytes : List ℕ) (syntax : Syntax) (index : No
     → IsSyntaxIn (text_in profile bytes) syntax
     → ((d : Document) → WasRead bytes syntax d → IsIndexOf d index) → Holds (text_in profile bytes) syntax index
 holds profile bytes syntax index utf8 h built =
-    let i = built h.tree (was_read h.reads h.is) in
-    record {
-      tree = h.tree;
-      read = record { utf8 = utf8; reads = h.reads; obeys = i.obeys };
-      is = h.is;
-      of_text = h.of_text;
-      stated = i.facts;
-      nested = i.nested;
-    }
+    shared.holds profile bytes syntax index h.tree utf8 h.reads h.is h.of_text built
 
 -- ---- why not
 

@@ -3,17 +3,5 @@ pub mod Answers
 pub mod Places
 pub mod Patches
 pub mod Lists
-pub mod Runs
-pub mod KnownArrays
-pub mod Gone
 pub mod Headers
 pub mod Children
-pub mod Seen
-pub mod SeenPaths
-pub mod ValueAfter
-pub mod Again
-pub mod SeenHeaders
-pub mod AddedLines
-pub mod GoneBetween
-pub mod KindsRun
-pub mod FilledTables

@@ -41,33 +41,14 @@
 //! own (`Memory`, or `AllocError`), after which nothing that was borrowed has changed.
 #![tactic(auto)]
 
-mod added_lines;
-mod again;
-mod alike;
-mod at_once;
 mod changes;
 mod document;
 mod edits;
-mod filled;
-mod filled_tables;
-mod gone;
-mod gone_between;
 mod index_change;
-mod inserted;
-mod kinds_run;
-mod known_arrays;
 mod lines;
-mod opened;
-mod outline;
+mod lists;
 mod patch;
 mod planned;
-mod renamed;
-mod runs;
-mod seen;
-mod seen_headers;
-mod seen_paths;
-mod value_after;
-mod worth;
 
 pub use document::{Counts, Document, Entry};
 pub use keep_edit_plan::{Edit, TextEdit};

@@ -1,6 +1,6 @@
 use Rattle.std.proofs.Common.{inl}
 use Rattle.std.proofs.lemmas.Result.{err_from_is_err_and}
-use Rattle.keep_edit.proofs.FoldLaws.{none_made}
+use Rattle.keep_edit_runs.proofs.Shared.{none_made}
 use Rattle.keep_edit.proofs.document.Document.after_each.Goals as goal
 
 pub returns-in_err-apply_from-clause-done : goal.returns-in_err-apply_from-clause-done

@@ -2,7 +2,8 @@ use Rattle.std.proofs.Common.{◌-◌, ◌<◌, length, take, refl, sym, arith}
 use Rattle.std.proofs.lemmas.Result.{err_from_is_err_and}
 use Rattle.keep_edit.specs.Answers.{text_after, IsMade}
 use Rattle.keep_edit.specs.Reading.{text_in}
-use Rattle.keep_edit.proofs.FoldLaws.{made_all, made_before, one_made, one_stopped, stopped_before}
+use Rattle.keep_edit.proofs.FoldLaws.{made_all, made_before, one_stopped, stopped_before}
+use Rattle.keep_edit_runs.proofs.Shared.{one_made}
 use Rattle.keep_edit.proofs.document.Document.apply_but_last.Goals as goal
 
 pub returns-in_err-apply_each-clause-done : goal.returns-in_err-apply_each-clause-done

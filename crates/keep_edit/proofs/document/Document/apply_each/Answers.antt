@@ -1,4 +1,4 @@
-use Rattle.keep_edit.proofs.FoldLaws.{none_made}
+use Rattle.keep_edit_runs.proofs.Shared.{none_made}
 use Rattle.keep_edit.proofs.document.Document.apply_each.Goals as goal
 
 pub returns-clause-done : goal.returns-clause-done

@@ -1,7 +1,8 @@
 use Rattle.std.proofs.Common.{ℕ, ◌≡◌, ◌<◌, ◌-◌, suc, sym, subst, take, length, arith}
 use Rattle.keep_edit.specs.Answers.{IsEdited}
 use Rattle.keep_edit.specs.Lists.{AreMade}
-use Rattle.keep_edit.proofs.FoldLaws.{made_all, none_made, one_made, one_stopped}
+use Rattle.keep_edit.proofs.FoldLaws.{made_all, one_stopped}
+use Rattle.keep_edit_runs.proofs.Shared.{none_made, one_made}
 use Rattle.keep_edit.proofs.document.Document.apply_only.Goals as goal
 
 pub returns-in-Ok-clause-done : goal.returns-in-Ok-clause-done

@@ -1,5 +1,6 @@
 use Rattle.std.proofs.lemmas.Result.{err_from_is_err_and}
-use Rattle.keep_edit.proofs.ReadLaws.{was_read, holds, no_index, read_once}
+use Rattle.keep_edit.proofs.ReadLaws.{holds, no_index, read_once}
+use Rattle.keep_edit_runs.proofs.Shared.{was_read}
 use Rattle.keep_edit.proofs.document.Document.of_syntax.Goals as goal
 
 pub build-requires : goal.build-requires

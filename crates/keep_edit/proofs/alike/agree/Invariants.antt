@@ -1,5 +1,0 @@
-use Rattle.keep_edit.proofs.AlikeLaws.{AgreeFrom}
-use Rattle.keep_edit.proofs.alike.agree.Given as goal
-
-abbrev pub invariant-loop-number : goal.invariant-loop-number
-invariant-loop-number l = AgreeFrom l.path l.other l.number l.count

@@ -1,7 +1,0 @@
-use Rattle.std.proofs.Common.{ℕ, ◌<◌, get_or}
-use Rattle.keep_edit.specs.declared.outline.Outline.{Outline}
-use Rattle.keep_edit.specs.Runs.{LeavesAlone}
-use Rattle.keep_edit.proofs.alike.all_leave_alone.Given as goal
-
-abbrev pub invariant-loop-outline : goal.invariant-loop-outline
-invariant-loop-outline l = (k : ℕ) (d : Outline) → k < l.outline-index → LeavesAlone (get_or l.outlines k d) l.other

@@ -1,6 +1,0 @@
-use Rattle.keep_edit.specs.KindsRun.{IsRunOn}
-use Rattle.keep_edit.proofs.KindsRunSteps.{AreMadeIn}
-use Rattle.keep_edit.proofs.document.Document.changes_of_kinds.Given as goal
-
-abbrev pub invariant-loop-number : goal.invariant-loop-number
-invariant-loop-number l = AreMadeIn l.edits l.first l.number l.fn.self l.run × IsRunOn l.fn.self l.run

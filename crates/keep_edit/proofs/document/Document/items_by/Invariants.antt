@@ -1,5 +1,0 @@
-use Rattle.keep_edit.proofs.ItemSteps.{AreItemsAdded}
-use Rattle.keep_edit.proofs.document.Document.items_by.Given as goal
-
-abbrev pub invariant-loop-number : goal.invariant-loop-number
-invariant-loop-number l = AreItemsAdded l.edits l.first l.number l.fn.self l.path l.items

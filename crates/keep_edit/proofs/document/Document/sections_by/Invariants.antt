@@ -1,5 +1,0 @@
-use Rattle.keep_edit.proofs.SectionSteps.{AreSectionsTaken}
-use Rattle.keep_edit.proofs.document.Document.sections_by.Given as goal
-
-abbrev pub invariant-loop-number : goal.invariant-loop-number
-invariant-loop-number l = AreSectionsTaken l.edits l.first l.number l.fn.self l.gone l.sections

@@ -1,0 +1,98 @@
+-- Where an edit that is made at once with others writes a line or a header: either they are all of its kind, or each
+-- newline is alike and its place is kept, also where elements are removed between them.
+--
+-- Paths are added only for edits of the kind of the first one (`of_kind`).
+--
+-- Theorems: `placed_of_kind`, `placed_plain`.
+use Rattle.std.proofs.Common.{◌≡◌, ◌≢◌, ℕ, Bool, true, false, List, length, All, refl, sym, ◌∙◌, inl, inr}
+use Rattle.std.specs.Prelude.{◌⊎◌}
+use Rattle.std.proofs.lemmas.List.Elements.{All-weaker}
+use Rattle.std.proofs.lemmas.Bool.{or_parts}
+use Rattle.keep_edit_spec.specs.Runs as runs
+use Rattle.keep_edit_spec.specs.Runs.{ArePlain}
+use Rattle.keep_edit_spec.specs.TextChanges.{TextChange}
+use Rattle.keep_edit_runs.specs.declared.outline.Outline.{Outline}
+use Rattle.keep_edit_runs.specs.declared.outline.Outline.TheVariants.{Element, Insert, Remove, Rename, Set, Table}
+use Rattle.keep_edit_runs.specs.KindsRun.{IsPlacedAmong}
+use Rattle.keep_edit_runs.specs.Runs.{IsPlaceKept, outlined, writes_anew}
+use Rattle.keep_edit_runs.specs.Seen.{HasPathsOf, IsSeen}
+use Rattle.keep_edit_runs.specs.declared.seen.SeenKeys.{SeenKeys}
+use Rattle.keep_edit_runs.proofs.RunSteps.{IsPlaced}
+
+-- the two write a line, or a header, alike
+abbrev IsOfKind : Outline → Outline → Type 0
+IsOfKind x f = (runs.is_insert (outlined x) ≡ runs.is_insert (outlined f))
+    × (runs.is_header (outlined x) ≡ runs.is_header (outlined f))
+
+pub of_kind : (seen : SeenKeys) (f x : Outline) → HasPathsOf seen f x → IsOfKind x f
+of_kind seen (Insert f) (Insert p) h = (refl, refl)
+of_kind seen (Insert f) (Remove p) h = absurd h
+of_kind seen (Insert f) (Set p) h = absurd h
+of_kind seen (Insert f) (Rename p w) h = absurd h
+of_kind seen (Insert f) (Table ks) h = absurd h
+of_kind seen (Insert f) (Element ks) h = absurd h
+of_kind seen (Remove f) (Insert p) h = absurd h
+of_kind seen (Remove f) (Remove p) h = (refl, refl)
+of_kind seen (Remove f) (Set p) h = absurd h
+of_kind seen (Remove f) (Rename p w) h = absurd h
+of_kind seen (Remove f) (Table ks) h = absurd h
+of_kind seen (Remove f) (Element ks) h = absurd h
+of_kind seen (Set f) (Insert p) h = absurd h
+of_kind seen (Set f) (Remove p) h = absurd h
+of_kind seen (Set f) (Set p) h = (refl, refl)
+of_kind seen (Set f) (Rename p w) h = absurd h
+of_kind seen (Set f) (Table ks) h = absurd h
+of_kind seen (Set f) (Element ks) h = absurd h
+of_kind seen (Rename f v) (Insert p) h = absurd h
+of_kind seen (Rename f v) (Remove p) h = absurd h
+of_kind seen (Rename f v) (Set p) h = absurd h
+of_kind seen (Rename f v) (Rename p w) h = (refl, refl)
+of_kind seen (Rename f v) (Table ks) h = absurd h
+of_kind seen (Rename f v) (Element ks) h = absurd h
+of_kind seen (Table f) (Insert p) h = absurd h
+of_kind seen (Table f) (Remove p) h = absurd h
+of_kind seen (Table f) (Set p) h = absurd h
+of_kind seen (Table f) (Rename p w) h = absurd h
+of_kind seen (Table f) (Table ks) h = (refl, refl)
+of_kind seen (Table f) (Element ks) h = absurd h
+of_kind seen (Element f) (Insert p) h = absurd h
+of_kind seen (Element f) (Remove p) h = absurd h
+of_kind seen (Element f) (Set p) h = absurd h
+of_kind seen (Element f) (Rename p w) h = absurd h
+of_kind seen (Element f) (Table ks) h = absurd h
+of_kind seen (Element f) (Element ks) h = (refl, refl)
+
+same_kind : (seen : SeenKeys) (x y : Outline) → IsSeen seen x → IsSeen seen y → IsOfKind y x
+same_kind seen x y h k =
+    let one = of_kind seen seen.first x h in
+    let other = of_kind seen seen.first y k in
+    (other.0 ∙ sym one.0, other.1 ∙ sym one.1)
+
+pub placed_of_kind : (seen : SeenKeys) (outlines : List Outline) (bytes : List ℕ) (changes : List TextChange)
+    (x : Outline) (at : ℕ) → All (IsSeen seen) outlines → IsSeen seen x → IsPlaced outlines bytes changes x at
+placed_of_kind seen outlines bytes changes x at all h = record {
+  insert = λ is. inl (All-weaker (IsSeen seen) (λ y. runs.is_insert (outlined y) ≡ true)
+      (λ y k. (same_kind seen x y h k).0 ∙ is) outlines all);
+  header = λ is. inl (All-weaker (IsSeen seen) (λ y. runs.is_header (outlined y) ≡ true)
+      (λ y k. (same_kind seen x y h k).1 ∙ is) outlines all);
+}
+
+-- where it writes none, or all is plain and its place is kept
+pub placed_plain : (outlines : List Outline) (bytes : List ℕ) (changes : List TextChange) (x : Outline) (at : ℕ)
+    (headers writes : Bool) → (headers ≡ false → All (λ y. runs.is_header (outlined y) ≡ false) outlines)
+    → writes ≡ writes_anew x → (writes ≡ true → ArePlain bytes changes × IsPlaceKept bytes changes x at headers)
+    → IsPlacedAmong outlines bytes changes x at
+placed_plain outlines bytes changes x at headers false headless is h =
+    let none = or_parts (runs.is_insert (outlined x)) (runs.is_header (outlined x)) (sym is) in
+    record { insert = λ yes. absurd cc; header = λ yes. absurd cc }
+placed_plain outlines bytes changes x at headers true headless is h =
+    let (plain, kept) = h refl in
+    record {
+      insert = λ yes. (plain, ((kept.line yes).0, ends (kept.line yes).1));
+      header = λ yes. (plain, kept.header yes);
+    }
+  where
+    ends : (headers ≡ false) ⊎ (at ≢ length bytes)
+        → All (λ y. runs.is_header (outlined y) ≡ false) outlines ⊎ (at ≢ length bytes)
+    ends (inl none) = inl (headless none)
+    ends (inr other) = inr other

@@ -1,0 +1,173 @@
+use Rattle.std.proofs.Common.{◌≡◌, ◌+◌, ◌<◌, ℕ, All, List, suc, length, refl, sym, subst}
+use Rattle.std.proofs.Common.{subst₂, ◌∙◌, arith}
+use Rattle.std.proofs.lemmas.List.Elements.{All-append, All-nil, All-weaker}
+use Rattle.keep_edit_spec.specs.TextChanges.{TextChange}
+use Rattle.keep_edit_plan.specs.TextEdits.{change_of}
+use Rattle.keep_edit_runs.specs.Again.{outlines_of}
+use Rattle.keep_edit_runs.specs.Runs.{LeavesAlone, MakesInRunHere}
+use Rattle.keep_edit_runs.specs.Seen.{IsSeen}
+use Rattle.keep_edit_runs.specs.declared.outline.Outline.{Outline}
+use Rattle.keep_edit_runs.proofs.AgainSteps.{made_once_more}
+use Rattle.keep_edit_runs.proofs.KindLaws.{placed_of_kind}
+use Rattle.keep_edit_runs.proofs.RunSteps.{AreMadeTo, all_made, all_within, more_changes, no_changes}
+use Rattle.keep_edit_runs.proofs.SeenLaws.{more_seen}
+use Rattle.keep_edit_runs.proofs.before.Before.changes_by.Goals as goal
+
+pub loop-number-init : goal.loop-number-init
+loop-number-init c =
+    let edits = c.args.edits.now in
+    let first = c.args.first in
+    let now = c.args.self.now in
+    let (no_outlines, none) = c.new-so_far.ensures in (
+      subst₂ (λ os cs. AreMadeTo edits first first now os cs c.new-lines.result) (sym no_outlines) (sym none)
+          (no_changes edits first now c.new-lines.result),
+      subst (All (IsSeen c.new-keys.result)) (sym no_outlines) (All-nil (IsSeen c.new-keys.result)),
+      c.new-planner.ensures ∙ c.as_ref.ensures,
+    )
+
+pub keep_alone-requires : goal.keep_alone-requires
+keep_alone-requires c =
+    subst (All (IsSeen c.loop-number.keys)) (sym c.as_slice.ensures.value) c.loop-number.invariant.1
+
+pub returns-clause-made : goal.returns-clause-made
+returns-clause-made c =
+    all_made c.args.edits.now c.args.first c.args.self.now _ _ _ c.loop-number.invariant.0 c.up_to-2.ensures.0
+    (c.up_to-2.ensures.1 ∙ omega (arith, c.loop-number-test.false, c.loop-number.auto.number-end))
+
+pub returns-then-not-keep_alone-clause-made : goal.returns-then-not-keep_alone-clause-made
+returns-then-not-keep_alone-clause-made c =
+    all_made c.args.edits.now c.args.first c.args.self.now _ _ _ c.loop-number.invariant.0
+    c.up_to-then-not-keep_alone.ensures.0 c.up_to-then-not-keep_alone.ensures.1
+
+pub returns-in_default-change_in_run-clause-made :
+    goal.returns-in_default-change_in_run-clause-made
+returns-in_default-change_in_run-clause-made c =
+    all_made c.args.edits.now c.args.first c.args.self.now _ _ _ c.loop-number.invariant.0
+    c.up_to-in_default-change_in_run.ensures.0 c.up_to-in_default-change_in_run.ensures.1
+
+pub returns-then-not-keep_line-clause-made : goal.returns-then-not-keep_line-clause-made
+returns-then-not-keep_line-clause-made c =
+    all_made c.args.edits.now c.args.first c.args.self.now _ _ _ c.loop-number.invariant.0
+    c.up_to-then-not-keep_line.ensures.0 c.up_to-then-not-keep_line.ensures.1
+
+pub returns-then-not-add-clause-made : goal.returns-then-not-add-clause-made
+returns-then-not-add-clause-made c =
+    all_made c.args.edits.now c.args.first c.args.self.now _ _ _ c.loop-number.invariant.0
+    (c.up_to-then-not-add.ensures.0 ∙ c.if-not-add.ensures.refused refl) c.up_to-then-not-add.ensures.1
+
+pub returns-clause-within : goal.returns-clause-within
+returns-clause-within c =
+    all_within c.args.edits.now c.args.first c.args.self.now _ _ _ c.loop-number.invariant.0
+    c.up_to-2.ensures.0
+
+pub returns-then-not-keep_alone-clause-within : goal.returns-then-not-keep_alone-clause-within
+returns-then-not-keep_alone-clause-within c =
+    all_within c.args.edits.now c.args.first c.args.self.now _ _ _ c.loop-number.invariant.0
+    c.up_to-then-not-keep_alone.ensures.0
+
+pub returns-in_default-change_in_run-clause-within : goal.returns-in_default-change_in_run-clause-within
+returns-in_default-change_in_run-clause-within c =
+    all_within c.args.edits.now c.args.first c.args.self.now _ _ _ c.loop-number.invariant.0
+    c.up_to-in_default-change_in_run.ensures.0
+
+pub returns-then-not-keep_line-clause-within : goal.returns-then-not-keep_line-clause-within
+returns-then-not-keep_line-clause-within c =
+    all_within c.args.edits.now c.args.first c.args.self.now _ _ _ c.loop-number.invariant.0
+    c.up_to-then-not-keep_line.ensures.0
+
+pub returns-then-not-add-clause-within : goal.returns-then-not-add-clause-within
+returns-then-not-add-clause-within c =
+    all_within c.args.edits.now c.args.first c.args.self.now _ _ _ c.loop-number.invariant.0
+    (c.up_to-then-not-add.ensures.0 ∙ c.if-not-add.ensures.refused refl)
+
+pub returns-then-not-allow_again-clause-made : goal.returns-then-not-allow_again-clause-made
+returns-then-not-allow_again-clause-made c =
+    all_made c.args.edits.now c.args.first c.args.self.now _ _ _ c.loop-number.invariant.0 c.up_to.ensures.0
+    c.up_to.ensures.1
+
+pub returns-then-not-allow_again-clause-within : goal.returns-then-not-allow_again-clause-within
+returns-then-not-allow_again-clause-within c =
+    all_within c.args.edits.now c.args.first c.args.self.now _ _ _ c.loop-number.invariant.0 c.up_to.ensures.0
+
+pub returns-then-not-put_again-clause-made : goal.returns-then-not-put_again-clause-made
+returns-then-not-put_again-clause-made c =
+    all_made c.args.edits.now c.args.first c.args.self.now _ _ _ c.loop-number.invariant.0
+    (c.up_to-then-not-put_again.ensures.0 ∙ c.if-not-put_again.ensures.refused refl)
+    c.up_to-then-not-put_again.ensures.1
+
+pub returns-then-not-put_again-clause-within : goal.returns-then-not-put_again-clause-within
+returns-then-not-put_again-clause-within c =
+    all_within c.args.edits.now c.args.first c.args.self.now _ _ _ c.loop-number.invariant.0
+    (c.up_to-then-not-put_again.ensures.0 ∙ c.if-not-put_again.ensures.refused refl)
+
+pub loop-number-preserved-in-Some : goal.loop-number-preserved-in-Some
+loop-number-preserved-in-Some c =
+    let edits = c.args.edits.now in
+    let first = c.args.first in
+    let now = c.args.self.now in
+    let number = c.loop-number.number in
+    let x = c.index-edits-number.result in
+    let a = c.in-Some.again in
+    let outlines = c.loop-number.so_far.outlines.items in
+    let changes = c.loop-number.so_far.changes in
+    let new = c.put_again.new.self.changes in
+    let seen_then = IsSeen c.loop-number.keys in
+    let seen_now = IsSeen c.allow_again.new.self in
+    let (so_far, seen, plans) = c.loop-number.invariant in
+    let low : number < length edits = omega (arith, c.loop-number-test.true, c.min-end.ensures) in
+    let one : suc number ≡ number + 1 = omega arith in
+    let put = c.put_again.ensures.changes c.if-not-put_again.false in
+    let pushed = c.put_again.ensures.outlines c.if-not-put_again.false in (
+      subst₂ (λ (n : ℕ) (os : List Outline). AreMadeTo edits first n now os new c.loop-number.lines) one
+          (sym pushed)
+          (made_once_more edits first number now outlines changes new c.loop-number.lines x x a seen_then so_far
+          low (sym c.index-edits-number.is) c.in-Some.ensures.again
+          (c.allow_again.ensures.allowed c.if-not-allow_again.false) seen put),
+      subst (All seen_now) (sym pushed)
+          (All-append seen_now outlines (outlines_of a)
+          (All-weaker seen_then seen_now c.allow_again.ensures.others outlines seen)
+          (c.allow_again.ensures.seen c.if-not-allow_again.false)),
+      c.again.ensures.planner ∙ plans,
+    )
+
+pub loop-number-preserved : goal.loop-number-preserved
+loop-number-preserved c =
+    let edits = c.args.edits.now in
+    let first = c.args.first in
+    let now = c.args.self.now in
+    let number = c.loop-number.number in
+    let x = c.index-edits-number.result in
+    let o = c.of-outline.result in
+    let outlines = c.loop-number.so_far.outlines.items in
+    let changes = c.loop-number.so_far.changes in
+    let made = c.in-Some-change_in_run.made in
+    let change = made.change in
+    let adds = c.loop-number.lines in
+    let next = c.keep_line.new.self in
+    let (so_far, seen, plans) = c.loop-number.invariant in
+    let low : number < length edits = omega (arith, c.loop-number-test.true, c.min-end.ensures) in
+    let one : suc number ≡ number + 1 = omega arith in
+    let alone : All (λ y. LeavesAlone y o) outlines =
+    subst (All (λ y. LeavesAlone y o)) c.as_slice.ensures.value
+    (c.keep_alone.ensures.alone c.if-not-keep_alone.false) in
+    let here : IsSeen c.keep_alone.new.self o = c.keep_alone.ensures.seen c.if-not-keep_alone.false in
+    let still : All (IsSeen c.keep_alone.new.self) outlines =
+    All-weaker (IsSeen c.loop-number.keys) (IsSeen c.keep_alone.new.self) c.keep_alone.ensures.others outlines seen in
+    let (beside, with_it) = c.add.ensures.changes c.if-not-add.false in
+    let pushed = c.add.ensures.outlines c.if-not-add.false in (
+      subst (λ (n : ℕ). AreMadeTo edits first n now c.add.new.self.outlines.items
+          c.add.new.self.changes next) one
+          (subst₂ (λ (os : List Outline) (cs : List TextChange). AreMadeTo edits first (suc number) now os cs next)
+          (sym pushed) (sym with_it)
+          (more_changes edits first number now outlines changes adds next x x o change made.line so_far low
+          (sym c.index-edits-number.is)
+          (subst (λ a. MakesInRunHere now x a change made.line) (sym c.of-outline.ensures)
+          c.in-Some-change_in_run.ensures.made)
+          alone beside
+          (placed_of_kind c.keep_alone.new.self outlines now.text changes o (change_of change).at still here)
+          (c.keep_line.ensures c.if-not-keep_line.false))),
+      subst (All (IsSeen c.keep_alone.new.self)) (sym pushed)
+          (more_seen (IsSeen c.loop-number.keys) (IsSeen c.keep_alone.new.self) outlines o
+          c.keep_alone.ensures.others here seen),
+      c.change_in_run.ensures.planner ∙ c.again.ensures.planner ∙ plans,
+    )

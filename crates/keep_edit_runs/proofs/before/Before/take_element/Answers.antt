@@ -1,0 +1,58 @@
+-- What the edit takes is put beside the changes of the run; its edits stay as they are.
+use Rattle.std.proofs.Common.{◌∙◌, All, ap, subst, sym}
+use Rattle.keep_edit_spec.specs.Runs.{IsPlain}
+use Rattle.keep_edit_spec.specs.TextChanges.{IsBeside, TextChange, with_change}
+use Rattle.keep_edit_spec.proofs.Shared.{all_with}
+use Rattle.keep_edit_plan.specs.TextEdits.{change_of}
+use Rattle.keep_edit_runs.specs.GoneBetween.{AreElsewhere}
+use Rattle.keep_edit_runs.specs.SeenPaths.{IsSeen}
+use Rattle.keep_edit_runs.specs.declared.at_once.AtOnce.{AtOnce}
+use Rattle.keep_edit_runs.specs.declared.kinds_run.KindsRun.{KindsRun}
+use Rattle.keep_edit_runs.proofs.before.Before.take_element.Goals as goal
+
+pub returns-clause-taken : goal.returns-clause-taken
+returns-clause-taken c = λ added.
+    let old = c.args.run.now in
+    let found = c.in-Some.ensures.found in
+    let t = change_of c.in-Some.change in
+    let same = c.element_by.ensures.edits in
+    let (beside, changes) = c.add_change.ensures.changes added in
+    let outlines = c.add_change.ensures.outlines ∙ ap (λ (s : AtOnce). s.outlines.items) same in
+    record {
+      takes = record {
+        change = c.in-Some.change;
+        removes = found.removes;
+        arrays = found.arrays;
+        beside = subst (λ (s : AtOnce). All (λ d. IsBeside d t) s.changes) same beside;
+        changes = changes ∙ ap (λ (s : AtOnce). with_change s.changes t) same;
+        plain = λ yes.
+            let (before, its) = c.add_change.ensures.plain added yes in
+            (sym (ap (λ (s : AtOnce). s.are_plain) same) ∙ before, its);
+      };
+      elsewhere = subst (AreElsewhere c.element_by.new.run.gone.arrays.items) (sym outlines) found.elsewhere;
+      outlines = outlines;
+      lines = ap (λ (r : KindsRun). r.lines) found.rest;
+    }
+
+pub returns-clause-run : goal.returns-clause-run
+returns-clause-run c = λ added.
+    let old = c.args.run.now in
+    let run = c.requires.run in
+    let found = c.in-Some.ensures.found in
+    let t = change_of c.in-Some.change in
+    let same = c.element_by.ensures.edits in
+    let (beside, changes) = c.add_change.ensures.changes added in
+    record {
+      seen = (
+        subst (All (IsSeen c.element_by.new.run.paths)) (sym c.add_change.ensures.outlines) found.seen.0,
+        found.seen.1,
+      );
+      text = λ yes. run.text (sym (ap (λ (r : KindsRun). r.is_text_plain) found.rest) ∙ yes);
+      plain = λ yes.
+          let (before, its) = c.add_change.ensures.plain added yes in
+          subst (All (λ (d : TextChange). IsPlain d.new))
+          (sym (changes ∙ ap (λ (s : AtOnce). with_change s.changes t) same))
+          (all_with (λ (d : TextChange). IsPlain d.new) old.so_far.changes t
+          (run.plain (sym (ap (λ (s : AtOnce). s.are_plain) same) ∙ before)) its);
+      planner = ap (λ (r : KindsRun). r.planner) found.rest ∙ run.planner;
+    }

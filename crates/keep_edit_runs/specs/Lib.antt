@@ -1,0 +1,14 @@
+pub mod Lists
+pub mod Runs
+pub mod KnownArrays
+pub mod Gone
+pub mod Seen
+pub mod SeenPaths
+pub mod ValueAfter
+pub mod Again
+pub mod SeenHeaders
+pub mod AddedLines
+pub mod GoneBetween
+pub mod KindsRun
+pub mod FilledTables
+pub mod Next

@@ -1,0 +1,103 @@
+//! Edits of those that are made at once that do again what one before them did.
+ghost use Rattle.std.specs.Prelude.{◌≡◌, ◌++◌, All, IfSome, IsTrue, false, string_bytes, true};
+ghost use Rattle.keep_edit_runs.specs.Again.{AllowAgain, IsAgainHere, IsPutAgain, edit_of, outlines_of};
+ghost use Rattle.keep_edit_runs.specs.Seen.{IsSeen};
+ghost use Rattle.keep_edit_runs.specs.SeenPaths as paths;
+ghost use Rattle.keep_edit_runs.specs.declared.outline.Outline.{Outline};
+ghost use Rattle.keep_edit_spec.specs.Runs.{IsPlain};
+
+use crate::at_once::{AtOnce, is_plain};
+use crate::before::Before;
+use crate::opened::OpenValues;
+use crate::outline::Outline;
+use crate::seen::SeenKeys;
+use crate::seen_paths::SeenPaths;
+use keep_edit_plan::{Edit, Planner, TextEdit};
+
+/// What an edit does that an earlier one did, with its change of the text, which comes in the place of that one's.
+#[derive(Drop)]
+pub enum Again<'a> {
+    /// It sets a value that an edit sets, or is of an entry of such a value.
+    Value(TextEdit),
+    /// It renames a key that an edit renames. What stands for it renames the first key to the last one.
+    Key(Outline<'a>, TextEdit),
+    /// It sets a value that an edit inserts, at the path for which a number stands: that edit's change, and its own,
+    /// which inserts this value.
+    Line(u64, TextEdit, TextEdit),
+}
+
+impl Before<'_> {
+    /// What an edit does again that these edits, some of a list, are known to do.
+    pub(crate) fn again<'a>(
+        &self,
+        so_far: &AtOnce<'a>,
+        opened: &mut OpenValues,
+        planner: &mut Planner,
+        edits: &[Edit],
+        edit: &'a Edit,
+    ) -> Option<Again<'a>>
+        requires { planner.old ≡ self.now }
+        ensures again { IfSome result
+            (IsAgainHere self.now edit.now so_far.now.outlines.items so_far.now.changes) }
+        ensures planner { planner.new ≡ planner.old }
+    {
+        if let Some(change) = self.change_again(so_far, opened, edit) {
+            return Some(Again::Value(change));
+        }
+        if let Some((outline, change)) = self.rename_again(so_far, edit) {
+            return Some(Again::Key(outline, change));
+        }
+        let (number, earlier, change) = self.line_again(so_far, planner, edits, edit)?;
+        Some(Again::Line(number, earlier, change))
+    }
+}
+
+impl<'a> AtOnce<'a> {
+    /// Puts the change of an edit, which has this number in the list, in the place of an earlier one. Returns whether
+    /// it did; if not, no change has come in the place of one.
+    pub fn put_again(&mut self, number: usize, again: Again<'a>) -> bool
+        ensures changes { IsTrue result → IsPutAgain again.entry self.old.changes self.new.changes }
+        ensures outlines { IsTrue result
+            → self.new.outlines.items ≡ self.old.outlines.items ++ outlines_of again.entry }
+        ensures plain { IsTrue result → self.new.are_plain ≡ true
+            → (self.old.are_plain ≡ true) × IsPlain (string_bytes (edit_of again.entry).new) }
+        ensures refused { result ≡ false → self.new.changes ≡ self.old.changes }
+    {
+        match again {
+            Again::Value(change) => self.overwrite(change),
+            Again::Key(outline, change) => self.rename(number, outline, change),
+            Again::Line(path, earlier, change) => self.exchange(number, path, &earlier, change),
+        }
+    }
+}
+
+impl<'a> SeenKeys<'a> {
+    /// Whether each edit whose paths were added is known to allow what is done again. Then those of what stands for it
+    /// are added, too.
+    pub fn allow_again(&mut self, again: &Again) -> bool
+        ensures allowed { IsTrue result → AllowAgain (IsSeen self.old) again.now }
+        ensures seen { IsTrue result → All (IsSeen self.new) (outlines_of again.now) }
+        ensures others { (other : Outline) → IsSeen self.old other → IsSeen self.new other }
+    {
+        match again {
+            Again::Value(_) => true,
+            Again::Key(outline, _) => self.allow(outline) && self.add(outline).unwrap_or(false),
+            Again::Line(_, _, change) => self.is_of_inserts() || is_plain(change.new.as_str()),
+        }
+    }
+}
+
+impl<'a> SeenPaths<'a> {
+    /// The same.
+    pub fn allow_again(&mut self, again: &Again<'a>) -> bool
+        ensures allowed { IsTrue result → AllowAgain (paths.IsSeen self.old) again.now }
+        ensures seen { IsTrue result → All (paths.IsSeen self.new) (outlines_of again.now) }
+        ensures others { (other : Outline) → paths.IsSeen self.old other → paths.IsSeen self.new other }
+    {
+        match again {
+            Again::Value(_) => true,
+            Again::Key(outline, _) => self.allow(outline) && self.add(outline).unwrap_or(false),
+            Again::Line(_, _, change) => is_plain(change.new.as_str()),
+        }
+    }
+}

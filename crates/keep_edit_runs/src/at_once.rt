@@ -1,0 +1,244 @@
+//! Edits of a list that are made at once, as far as they are gone through.
+ghost use Rattle.std.specs.Prelude.{◌≡◌, ◌++◌, ◌∷◌, [], All, IfSome, IsTrue, None, false, string_bytes, true};
+ghost use Rattle.std.specs.Bool.{Decides};
+ghost use Rattle.keep_edit_spec.specs.Runs.{IsPlain};
+ghost use Rattle.keep_edit_spec.specs.TextChanges.{IsBeside, with_change};
+ghost use Rattle.keep_edit_plan.specs.TextEdits.{HasChange, HasInstead, IsOrdered, IsReplaced, change_of};
+ghost use Rattle.keep_path.specs.Path.{beside};
+ghost use Rattle.keep_edit_runs.specs.Runs.{IsRenamedBy, IsSetBy};
+
+use crate::alike::{is_new_path, is_same};
+use crate::outline::{Outline, Steps};
+use crate::seen::{number_beside, number_of};
+use keep_edit_plan::{TextEdit, TextEdits};
+use keep_edit_spec::LineKind;
+use memchr::memchr;
+use std::alloc::Global;
+use std::collections::HashMap;
+
+/// Edits in a row that are made at once: what they change in the text, and the number of the first edit after them.
+#[derive(Drop)]
+pub struct Run {
+    pub changes: TextEdits,
+    pub end: usize,
+}
+
+/// What an edit that is made at once with others changes in the text.
+#[derive(Drop)]
+pub struct RunEdit {
+    pub change: TextEdit,
+    /// The kind of the line that it adds, if it adds one.
+    pub line: Option<LineKind>,
+}
+
+impl RunEdit {
+    /// That of an edit which adds no line.
+    pub fn other(change: TextEdit) -> RunEdit
+        ensures { (result.change ≡ change) × (result.line ≡ None) }
+    {
+        RunEdit { change, line: None }
+    }
+}
+
+/// Edits that are made at once: what each does, and what they change in the text. One that sets a value again has no
+/// outline of its own here, and its change comes in the place of the earlier one.
+#[derive(Drop)]
+pub struct AtOnce<'a> {
+    pub outlines: Vec<Outline<'a>>,
+    pub changes: TextEdits,
+    /// Whether what they write has no carriage return, as far as is known.
+    pub are_plain: bool,
+    /// The number of the outline whose change begins at a byte. It only tells where to look.
+    numbers: HashMap<usize, usize>,
+    /// The same of the rename whose new path has a number.
+    renames: HashMap<u64, usize>,
+    /// The number in the list of the edit that gave the value of an added line, by that of the line's path. It only
+    /// tells where to look, too.
+    values: HashMap<u64, usize>,
+}
+
+/// Whether a text has no carriage return.
+pub fn is_plain(text: &str) -> bool
+    ensures { Decides result (IsPlain text.now) }
+{
+    memchr(b'\r', text.as_bytes()).is_none()
+}
+
+impl<'a> AtOnce<'a> {
+    /// No edits yet. It takes no memory.
+    pub fn new(alloc: Global) -> AtOnce<'a>
+        ensures { (result.outlines.items ≡ []) × (result.changes ≡ []) }
+    {
+        AtOnce {
+            outlines: Vec::new(alloc),
+            changes: TextEdits::new(alloc),
+            are_plain: true,
+            numbers: HashMap::new(alloc),
+            renames: HashMap::new(alloc),
+            values: HashMap::new(alloc),
+        }
+    }
+
+    /// What they change, and the number of the first edit after them.
+    pub fn up_to(self, end: usize) -> Run
+        ensures { (result.changes ≡ self.entry.changes) × (result.end ≡ end) }
+    {
+        Run {
+            changes: self.changes,
+            end,
+        }
+    }
+
+    /// What one of these edits changes of the text, if it is known to set the value at a path, which begins at this
+    /// byte.
+    pub fn setting(&self, path: &Steps, start: usize) -> Option<&TextEdit>
+        ensures change { IfSome result (λ edit. HasChange self.now.changes (change_of edit.now)) }
+        ensures set { IfSome result (λ _. IsSetBy self.now.outlines.items path.now) }
+    {
+        let number = *self.numbers.get(&start)?;
+        let Outline::Set(other) = self.outlines.get(number)? else {
+            return None;
+        };
+        if !is_same(other, path) {
+            return None;
+        }
+        self.changes.beginning_at(start)
+    }
+
+    /// The path and the new key of one of these edits, if it is known to be a rename of which a path is the new one.
+    pub fn renaming(&self, path: &Steps) -> Option<(Steps<'a>, &'a str)>
+        ensures by { IfSome result (λ first. IsRenamedBy self.now.outlines.items first.0 first.1.now) }
+        ensures new { IfSome result (λ first. beside first.0 first.1.now ≡ path.now) }
+    {
+        let number = *self.renames.get(&number_of(path))?;
+        let Outline::Rename(first, name) = self.outlines.get(number)? else {
+            return None;
+        };
+        if !is_new_path(path, first, name) {
+            return None;
+        }
+        Some((first.same(), *name))
+    }
+
+    /// The number that stands for a path at which one of these edits adds a line, and the number in the list of the
+    /// edit that gave its value, as far as is known.
+    pub fn giving(&self, path: &Steps) -> Option<(u64, usize)> {
+        if self.values.is_empty() {
+            return None;
+        }
+        let number = number_of(path);
+        Some((number, *self.values.get(&number)?))
+    }
+
+    /// Puts a change in the place of one that replaces the same bytes. Returns whether there is one; if not, nothing
+    /// has changed.
+    pub fn overwrite(&mut self, change: TextEdit) -> bool
+        ensures changes { IsTrue result → IsReplaced self.old.changes (change_of change) self.new.changes }
+        ensures outlines { self.new.outlines.items ≡ self.old.outlines.items }
+        ensures plain { self.new.are_plain ≡ true
+            → (self.old.are_plain ≡ true) × (IsTrue result → IsPlain (string_bytes change.new)) }
+        ensures refused { result ≡ false → self.new.changes ≡ self.old.changes }
+    {
+        let is_plain = is_plain(change.new.as_str());
+        if !self.changes.overwrite(change) {
+            return false;
+        }
+        self.are_plain = self.are_plain && is_plain;
+        true
+    }
+
+    /// Adds an edit that comes in the place of another, with its change in the place of that one's. Returns whether it
+    /// does; if not, no change has come in the place of one.
+    pub fn rename(&mut self, number: usize, outline: Outline<'a>, change: TextEdit) -> bool
+        ensures changes { IsTrue result → IsReplaced self.old.changes (change_of change) self.new.changes }
+        ensures outlines { IsTrue result → self.new.outlines.items ≡ self.old.outlines.items ++ outline.entry ∷ [] }
+        ensures plain { IsTrue result → self.new.are_plain ≡ true
+            → (self.old.are_plain ≡ true) × IsPlain (string_bytes change.new) }
+        ensures refused { result ≡ false → self.new.changes ≡ self.old.changes }
+    {
+        if !self.add_outline(number, outline) {
+            return false;
+        }
+        self.overwrite(change)
+    }
+
+    /// Puts a change in the place of another, by the edit with this number in the list: it gives another value to the
+    /// line at a path, for which a number stands. Returns whether the other is there; if not, no change has come in the
+    /// place of one.
+    pub fn exchange(
+        &mut self,
+        number: usize,
+        path: u64,
+        earlier: &TextEdit,
+        change: TextEdit,
+    ) -> bool
+        ensures changes { IsTrue result
+            → HasInstead self.old.changes (change_of earlier.now) (change_of change) self.new.changes }
+        ensures outlines { self.new.outlines.items ≡ self.old.outlines.items }
+        ensures plain { IsTrue result → self.new.are_plain ≡ true
+            → (self.old.are_plain ≡ true) × IsPlain (string_bytes change.new) }
+        ensures refused { result ≡ false → self.new.changes ≡ self.old.changes }
+    {
+        let is_plain = is_plain(change.new.as_str());
+        if self.values.insert(path, number).is_err() || !self.changes.exchange(earlier, change) {
+            return false;
+        }
+        if !is_plain {
+            self.are_plain = false;
+        }
+        true
+    }
+
+    /// Adds what an edit does, which has this number in the list. Returns whether it was added; it is not where memory
+    /// is refused.
+    fn add_outline(&mut self, number: usize, outline: Outline<'a>) -> bool
+        ensures outlines { IsTrue result → self.new.outlines.items ≡ self.old.outlines.items ++ outline.entry ∷ [] }
+        ensures changes { self.new.changes ≡ self.old.changes }
+        ensures plain { self.new.are_plain ≡ self.old.are_plain }
+    {
+        let own = self.outlines.len();
+        let noted = match &outline {
+            Outline::Rename(path, key) => self
+                .renames
+                .insert(number_beside(path, key), own)
+                .is_ok(),
+            Outline::Insert(path) => self.values.insert(number_of(&path.whole()), number).is_ok(),
+            _ => true,
+        };
+        noted && self.outlines.push(outline).is_ok()
+    }
+
+    /// Adds a change of an edit that has no outline. Returns whether it was added: one that overlaps another is not,
+    /// nor is any where memory is refused. Then no change was added.
+    pub fn add_change(&mut self, change: TextEdit) -> bool
+        requires { IsOrdered change }
+        ensures changes { IsTrue result → All (λ c. IsBeside c (change_of change)) self.old.changes
+            × (self.new.changes ≡ with_change self.old.changes (change_of change)) }
+        ensures outlines { self.new.outlines.items ≡ self.old.outlines.items }
+        ensures plain { IsTrue result → self.new.are_plain ≡ true
+            → (self.old.are_plain ≡ true) × IsPlain (string_bytes change.new) }
+        ensures refused { result ≡ false → self.new.changes ≡ self.old.changes }
+    {
+        self.are_plain = self.are_plain && is_plain(change.new.as_str());
+        self.changes.add(change).unwrap_or(false)
+    }
+
+    /// Adds an edit, which has this number in the list. Returns whether it was added: one whose change overlaps another
+    /// is not, nor is any where memory is refused. Then no change was added.
+    pub fn add(&mut self, number: usize, outline: Outline<'a>, change: TextEdit) -> bool
+        requires { IsOrdered change }
+        ensures changes { IsTrue result → All (λ c. IsBeside c (change_of change)) self.old.changes
+            × (self.new.changes ≡ with_change self.old.changes (change_of change)) }
+        ensures outlines { IsTrue result → self.new.outlines.items ≡ self.old.outlines.items ++ outline.entry ∷ [] }
+        ensures plain { IsTrue result → self.new.are_plain ≡ true
+            → (self.old.are_plain ≡ true) × IsPlain (string_bytes change.new) }
+        ensures refused { result ≡ false → self.new.changes ≡ self.old.changes }
+    {
+        let start = change.place.start;
+        let own = self.outlines.len();
+        if self.numbers.insert(start, own).is_err() || !self.add_outline(number, outline) {
+            return false;
+        }
+        self.add_change(change)
+    }
+}

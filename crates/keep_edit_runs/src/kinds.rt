@@ -1,0 +1,180 @@
+//! Edits of several kinds that are made at once, and elements of arrays of tables that go among them.
+ghost use Rattle.std.specs.Prelude.{◌≡◌, ◌+◌, ◌<◌, ◌≤◌, All, IfSome, IsTrue, None, Some, false, length, true};
+ghost use Rattle.keep_edit_runs.specs.GoneBetween.{AreElsewhere};
+ghost use Rattle.keep_edit_runs.specs.KindsRun.{AddsOne, AreSeen, FindsElement, GoesOn, IsPlacedAmong, IsRunOn};
+ghost use Rattle.keep_edit_runs.specs.KindsRun.{TakesOne, with_text};
+ghost use Rattle.keep_edit_runs.specs.Runs.{IsPlaceKept, IsSeenAs, MakeChanges, outline};
+ghost use Rattle.keep_edit_plan.specs.TextEdits.{IsChangeIn};
+ghost use Rattle.keep_edit_spec.specs.Runs.{IsPlain};
+
+use crate::at_once::{AtOnce, Run, is_plain};
+use crate::before::Before;
+use crate::filled_tables::is_filled;
+use crate::gone::array_of;
+use crate::kinds_run::KindsRun;
+use crate::outline::{Outline, SeenAs};
+use crate::runs::MOST_AT_ONCE;
+use keep_edit_plan::{Edit, TextEdit};
+
+/// Whether an edit that is seen so removes an element of an array of tables, if its path is there.
+fn is_of_element(edit: &Edit, seen: SeenAs) -> bool {
+    match (edit, seen) {
+        (Edit::Remove(path), SeenAs::Itself) => array_of(path).is_some(),
+        _ => false,
+    }
+}
+
+impl Before<'_> {
+    /// What the edits from number `first` on change in the text, as far as they leave one another alone, of whatever
+    /// kinds, and each makes its change beside those before it, or does again what one of them does; or removes an
+    /// element of an array of tables, and all others are elsewhere than in the array. Where memory is refused, there
+    /// are fewer.
+    pub(crate) fn changes_of_kinds(&self, edits: &[Edit], first: usize) -> Run
+        requires { first < length edits.now }
+        ensures few { (first ≤ result.end) × (result.end ≤ length edits.now) }
+        ensures made { MakeChanges edits.now first result.end self.now result.changes }
+        ensures within { All (IsChangeIn self.now.text) result.changes }
+    {
+        let mut run = KindsRun::new(self.alloc(), self.as_ref(), self.most_pairs());
+        let end = edits.len().min(first.saturating_add(MOST_AT_ONCE));
+        for number in first..end {
+            if !self.goes_on(&mut run, edits, number) {
+                return run.up_to(number);
+            }
+        }
+        run.up_to(end)
+    }
+
+    /// Whether a run goes on with the edit that has this number: its change is made with the others then. If it does
+    /// not, they have not changed. It does not with a header below which a key comes next: from that on, new tables and
+    /// elements with their keys are made at once, and no run of another kind could go on past that key.
+    fn goes_on<'a>(&self, run: &mut KindsRun<'a>, edits: &'a [Edit], number: usize) -> bool
+        requires few { number < length edits.now }
+        requires run { IsRunOn self.now run.old }
+        requires elsewhere { AreElsewhere run.old.gone.arrays.items run.old.so_far.outlines.items }
+        requires within { All (IsChangeIn self.now.text) run.old.so_far.changes }
+        ensures done { IsTrue result → GoesOn self.now run.old edits.now number run.new }
+        ensures run { IsTrue result → IsRunOn self.now run.new }
+        ensures refused { result ≡ false → run.new.so_far.changes ≡ run.old.so_far.changes }
+    {
+        let edit = &edits[number];
+        if is_filled(edit, edits.get(number + 1)) {
+            return false;
+        }
+        let seen = self.seen_as(edit);
+        if is_of_element(edit, seen) {
+            return self.take_element(run, edit);
+        }
+        if run.gone.is_empty() {
+            let again = self.again(&run.so_far, &mut run.opened, &mut run.planner, edits, edit);
+            if let Some(again) = again {
+                return run.put_again(number, again);
+            }
+        }
+        self.add_to(run, number, edit, edits.get(number + 1), seen)
+    }
+
+    /// Adds an edit, which has this number in the list, to a run, if the others leave it alone and it makes its own
+    /// change beside theirs. Returns whether it was added; if not, no change was added.
+    fn add_to<'a>(
+        &self,
+        run: &mut KindsRun<'a>,
+        number: usize,
+        edit: &'a Edit,
+        next: Option<&Edit>,
+        seen: SeenAs,
+    ) -> bool
+        requires seen { IsSeenAs self.now edit.now seen }
+        requires run { IsRunOn self.now run.old }
+        requires within { All (IsChangeIn self.now.text) run.old.so_far.changes }
+        ensures added { IsTrue result → AddsOne self.now run.old edit.now run.new }
+        ensures run { IsTrue result → IsRunOn self.now run.new }
+        ensures refused { result ≡ false → run.new.so_far.changes ≡ run.old.so_far.changes }
+    {
+        let outline = Outline::of(edit, seen);
+        if !run.leave_alone(&outline) {
+            return false;
+        }
+        let Some(made) = self.change_in_run(&mut run.planner, &mut run.opened, edit, next, seen)
+        else {
+            return false;
+        };
+        if !run.lines.keep_line(&run.so_far, &outline, &made) {
+            return false;
+        }
+        if !self.keeps_place_in(run, &outline, made.change.place.start) {
+            return false;
+        }
+        run.so_far.add(number, outline, made.change)
+    }
+
+    /// Whether an edit writes no line and no header, or the one that it writes at a byte can come there after a run's
+    /// changes as before them, as the text has no carriage return.
+    fn keeps_place_in(&self, run: &mut KindsRun, outline: &Outline, at: usize) -> bool
+        requires run { IsRunOn self.now run.old }
+        requires within { All (IsChangeIn self.now.text) run.old.so_far.changes }
+        ensures placed { IsTrue result
+            → IsPlacedAmong run.old.so_far.outlines.items self.now.text run.old.so_far.changes outline.now at }
+        ensures text { run.new.is_text_plain ≡ true → IsPlain self.now.text }
+        ensures rest { run.new ≡ with_text run.old run.new.is_text_plain }
+    {
+        if !outline.writes_anew() {
+            return true;
+        }
+        run.is_text_plain = run.is_text_plain || is_plain(self.text);
+        run.is_text_plain && self.keeps_place(&run.so_far, outline, at, run.paths.has_header())
+    }
+
+    /// Whether an edit that writes a line or a header at a byte can do so after these changes as before them. They
+    /// write no carriage return. A header can if none of them takes the byte before it. So can a line, or it comes in
+    /// the place of one that is taken; and not at the end, if a header was written.
+    fn keeps_place(&self, so_far: &AtOnce, outline: &Outline, at: usize, has_header: bool) -> bool
+        requires { All (IsChangeIn self.now.text) so_far.now.changes }
+        ensures plain { IsTrue result → so_far.now.are_plain ≡ true }
+        ensures kept { IsTrue result → IsPlaceKept self.now.text so_far.now.changes outline.now at has_header }
+    {
+        if !so_far.are_plain {
+            return false;
+        }
+        match outline {
+            Outline::Insert(_) => {
+                let text = self.text;
+                !(has_header && at == text.len()) && so_far.changes.allows_line_at(text, at)
+            }
+            Outline::Table(_) | Outline::Element(_) => !so_far.changes.take_up_to(at),
+            _ => true,
+        }
+    }
+
+    /// Adds what an edit takes from the text after those of a run, if it is the remove of an element, and the edits are
+    /// elsewhere than in its array. Then that is gone too. Returns whether it is; if not, no change was added.
+    fn take_element<'a>(&self, run: &mut KindsRun<'a>, edit: &'a Edit) -> bool
+        requires run { IsRunOn self.now run.old }
+        requires elsewhere { AreElsewhere run.old.gone.arrays.items run.old.so_far.outlines.items }
+        ensures taken { IsTrue result → TakesOne self.now run.old edit.now run.new }
+        ensures run { IsTrue result → IsRunOn self.now run.new }
+        ensures refused { result ≡ false → run.new.so_far.changes ≡ run.old.so_far.changes }
+    {
+        let Some(change) = self.element_by(run, edit) else {
+            return false;
+        };
+        run.so_far.add_change(change)
+    }
+
+    /// What an edit takes from the text after those of a run, if it is the remove of an element, and the edits are
+    /// elsewhere than in its array. Then that is gone too.
+    fn element_by<'a>(&self, run: &mut KindsRun<'a>, edit: &'a Edit) -> Option<TextEdit>
+        requires seen { AreSeen run.old }
+        requires elsewhere { AreElsewhere run.old.gone.arrays.items run.old.so_far.outlines.items }
+        ensures found { IfSome result (λ change. FindsElement self.now run.old edit.now change run.new) }
+        ensures edits { run.new.so_far ≡ run.old.so_far }
+    {
+        let Edit::Remove(path) = edit else {
+            return None;
+        };
+        if !run.keep_array(array_of(path)?) {
+            return None;
+        }
+        self.section_by(&mut run.gone.elements, edit)
+    }
+}
