@@ -16,6 +16,9 @@ pub(crate) const MOST_AT_ONCE: usize = 1000;
 /// than to read the text anew.
 const PAIRS: usize = 5000;
 
+/// So many edits of one kind are made at once, though more of several kinds might be: to look for them takes longer.
+const MANY_OF_ONE_KIND: usize = 32;
+
 /// Whether each of these edits is a remove.
 fn are_removes(edits: &[Edit]) -> bool {
     edits.iter().all(|edit| matches!(edit, Edit::Remove(_)))
@@ -42,16 +45,25 @@ impl Before<'_> {
             return filled;
         }
         let run = self.changes_by(edits, first);
-        if run.end > first
-            && !self.removes_element(edits.get(run.end))
-            && self.is_worth_reading(&edits[first..run.end])
-        {
+        if self.is_enough(edits, first, run.end) {
             return run;
         }
         match self.others_by(edits, first, run.end) {
             Some(others) if others.end > run.end => others,
             _ => run,
         }
+    }
+
+    /// Whether the edits of one kind up to the one with number `end` are made at once without looking how far those of
+    /// several kinds go: they are many or the last ones, and no element is removed next.
+    fn is_enough(&self, edits: &[Edit], first: usize, end: usize) -> bool
+        requires { (first ≤ end) × (end ≤ length edits.now) }
+    {
+        let next = edits.get(end);
+        if next.is_some() && end - first < MANY_OF_ONE_KIND || self.removes_element(next) {
+            return false;
+        }
+        end > first && self.is_worth_reading(&edits[first..end])
     }
 
     /// The same beyond the edit with number `end`, which ends those of one kind: as far as they are of several kinds,
