@@ -4,16 +4,19 @@
 -- A header lets a table come after it if the number of the table's keys is that of nothing that its own keys begin
 -- with (`not_below`); a key or an array does if its number is that of nothing that the table's keys begin with
 -- (`not_above`). An element of another array comes where no header before it begins with the first of its keys
--- (`lets_element`); none before it is of its array then (`none_among`). One more of the last one's array has the next
--- number. A key is new in the last one if its path has another number than those before it. By the laws of such runs
--- one more is then not refused, and comes after the others. So the edits up to it are made, as in RunSteps.
+-- (`lets_element`); none before it is of its array then (`none_among`). One more of an array of which one came has the
+-- number after the last of them, which is kept of each array (`after_element`): all others let it come, since they let
+-- the earlier one (`of_one_that_came`). A key is new in the last one if its path has another number than those before
+-- it. By the laws of such runs one more is then not refused, and comes after the others. So the edits up to it are
+-- made, as in RunSteps.
 --
 -- Theorems: `no_tables`, `tables_more`: before the first edit, and with one more; `filled_made`, `filled_within`: so
 -- all are made.
 use Rattle.std.proofs.Common.{◌≡◌, ◌≢◌, ◌∙◌, ◌∷◌, ◌++◌, ◌+◌, ◌-◌, ◌<◌, [], All, Bool, Bor, Global, IsUtf8, List}
 use Rattle.std.proofs.Common.{None, Some, String, ap, arith, cond, false, get_or, inl, inr, length, map, refl}
-use Rattle.std.proofs.Common.{subst, suc, sym, take, true, ℕ}
-use Rattle.std.specs.Prelude.{IfSome, Option}
+use Rattle.std.proofs.Common.{eqb-true, subst, suc, sym, take, true, ℕ}
+use Rattle.std.specs.Prelude.{◌==◌, Any, IfSome, Option}
+use Rattle.std.proofs.lemmas.Bool.{eq-eqb}
 use Rattle.std.proofs.lemmas.List.{take_all}
 use Rattle.std.proofs.lemmas.List.Elements.{All-cons, All-head, All-nil, All-tail, All-weaker}
 use Rattle.std.proofs.lemmas.List.Sums.{sum_by-cons}
@@ -25,6 +28,7 @@ use Rattle.keep_meaning.specs.Marks.{Mention, elements_of}
 use Rattle.keep_meaning.specs.Meaning.{mentions_in}
 use Rattle.keep_meaning.specs.Nodes.{is_node}
 use Rattle.keep_path.specs.Path.{Part, key, same_path, strip, without_last}
+use Rattle.keep_edit_spec.specs.AppendedHeaders.{AreSameOrApart}
 use Rattle.keep_edit_spec.specs.Edits as law
 use Rattle.keep_edit_spec.specs.Edits.{edited_document}
 use Rattle.keep_edit_spec.specs.FilledTables.{AppendsNewElement, AppendsNewTable, IsFilledRun, IsFilledRunLonger}
@@ -33,7 +37,7 @@ use Rattle.keep_edit_spec.specs.FilledTables.{LetsElementCome, LetsTableCome, el
 use Rattle.keep_edit_spec.specs.FilledTables.{key_in}
 use Rattle.keep_edit_spec.specs.Lines.{newline_of}
 use Rattle.keep_edit_spec.specs.Refusals.{refusal, tables_in}
-use Rattle.keep_edit_spec.specs.Runs.{AreApart, PassesBy}
+use Rattle.keep_edit_spec.specs.Runs.{AreApart}
 use Rattle.keep_edit_spec.specs.TextChanges.{IsBeside, TextChange, with_change}
 use Rattle.keep_edit_spec.proofs.Shared.{all_with, filled_run_goes_on_element, filled_run_goes_on_key}
 use Rattle.keep_edit_spec.proofs.Shared.{filled_run_goes_on_table, none_is_filled_run, same_path-refl, same_path-sound}
@@ -46,17 +50,19 @@ use Rattle.keep_edit_plan.specs.TextEdits.{IsChangeIn, change_of}
 use Rattle.keep_edit_plan.specs.declared.edit.Edit.{Edit}
 use Rattle.keep_edit_plan.specs.declared.text_edit.TextEdit.{TextEdit}
 use Rattle.keep_edit_runs.specs.FilledTables.{AddsElementHere, AddsKeyHere, AddsTableHere, FillsHere, HasOwn}
-use Rattle.keep_edit_runs.specs.FilledTables.{IsFilledRunTo, IsLastElement, IsMadeKnown, IsNextElement, TakesKeys}
-use Rattle.keep_edit_runs.specs.FilledTables.{last_path}
-use Rattle.keep_edit_runs.specs.FilledTables.{opened_keys}
+use Rattle.keep_edit_runs.specs.FilledTables.{AreLastElements, IsFilledRunTo, IsLastElement, IsMadeKnown}
+use Rattle.keep_edit_runs.specs.FilledTables.{IsNextElement, TakesKeys, last_path}
+use Rattle.keep_edit_runs.specs.LastElements.{IsLastKept, array_keys, array_number, last_at}
 use Rattle.keep_edit_runs.specs.Lists.{AreMade, IsEdit}
 use Rattle.keep_edit_plan.specs.Reading.{limit, IsTextOfTree, ProfiledText}
 use Rattle.keep_edit_runs.specs.Runs.{MakeChanges, changed_text}
 use Rattle.keep_edit_runs.specs.SeenHeaders.{HasAppended, HasBrought, HasHeader, HasMore, HasTableOf}
 use Rattle.keep_edit_runs.specs.SeenHeaders.{IsHeaderAppended, IsHeaderBrought}
-use Rattle.keep_edit_runs.specs.SeenPaths.{BeginsInKey}
+use Rattle.keep_edit_runs.specs.SeenPaths.{BeginsInKey, keys_number}
 use Rattle.keep_edit_runs.specs.declared.filled_tables.FilledTables.{FilledTables}
 use Rattle.keep_edit_runs.specs.declared.filled_tables.Opened.{Opened}
+use Rattle.keep_edit_runs.specs.declared.last_elements.LastElement.{LastElement}
+use Rattle.keep_edit_runs.specs.declared.last_elements.LastElements.{LastElements}
 use Rattle.keep_edit_runs.specs.declared.seen_headers.SeenHeaders.{SeenHeaders}
 use Rattle.keep_edit_runs.proofs.HeaderLaws.{header_passes, header_still, more_of_same, table_passed}
 use Rattle.keep_edit_runs.proofs.RunSteps.{change_made, tree_made}
@@ -186,12 +192,117 @@ module _ (seen : SeenHeaders) (keys : List (List ℕ)) (begins : BeginsInKey (ma
       one_more_among keys e es false (none_of_it e (All-head (IsMadeKnown seen) e es h))
       ∙ omega (arith, none_among es (All-tail (IsMadeKnown seen) e es h))
 
+-- ---- the last elements of arrays
+
+any_here : (e : law.Edit) (es : List law.Edit) → Any (λ x. x ≡ e) (e ∷ es)
+any_here e es = (0, e, omega arith, refl, refl)
+
+any_later : (P : law.Edit → Type 0) (e : law.Edit) (es : List law.Edit) → Any P es → Any P (e ∷ es)
+any_later P e es (k, x, lt, is, p) = (suc k, x, omega (arith, lt), is, p)
+
+-- what holds of all edits holds of one that came
+of_one_that_came : (P : law.Edit → Type 0) (e : law.Edit) (es : List law.Edit) → Any (λ x. x ≡ e) es → All P es → P e
+of_one_that_came P e es (k, x, lt, is, same) all = subst P (is ∙ same) (all k x lt)
+
+swapped : (path other : List Part) → AreApart path other → AreApart other path
+swapped path other (one, two) = (two, one)
+
+module _ (before : Document) (seen next : SeenHeaders) (es : List law.Edit) (more : HasMore seen next) where
+  -- after an edit that lets one more come, and is none of that array
+  last_still : (e : law.Edit) (n : ℕ) (l : LastElement) → LetsElementCome (array_keys l) e
+      → is_element_of (array_keys l) e ≡ false → IsLastElement before seen es n l
+      → IsLastElement before next (e ∷ es) n l
+  last_still e n l lets other was = record {
+    numbered = was.numbered;
+    begins = was.begins;
+    header = header_still seen next (map key (array_keys l)) more was.header;
+    brought = more.brought (map key (array_keys l)) was.brought;
+    came = any_later (λ x. x ≡ law.append_element (array_keys l)) e es was.came;
+    lets = All-cons (LetsElementCome (array_keys l)) e es lets was.lets;
+    counts = omega (arith, one_more_among (array_keys l) e es false other, was.counts);
+  }
+
+  all_still : (at : ℕ → Option LastElement) (e : law.Edit)
+      → ((n : ℕ) (l : LastElement) → IsLastElement before seen es n l → LetsElementCome (array_keys l) e
+      × (is_element_of (array_keys l) e ≡ false))
+      → AreLastElements before seen es at → AreLastElements before next (e ∷ es) at
+  all_still at e lets h n = by (at n) (h n)
+    where
+      by : (o : Option LastElement) → IfSome o (IsLastElement before seen es n)
+          → IfSome o (IsLastElement before next (e ∷ es) n)
+      by None was = tt
+      by (Some l) was = let (come, other) = lets n l was in last_still e n l come other was
+
+  -- a new table
+  after_table : (at : ℕ → Option LastElement) (keys : List (List ℕ)) → BeginsInKey (map key keys)
+      → ¬ HasAppended seen (map key keys)
+      → ((n : ℕ) → n < length (map key keys) → ¬ HasBrought seen (take (n + 1) (map key keys)))
+      → AreLastElements before seen es at → AreLastElements before next (law.append_table keys ∷ es) at
+  after_table at keys begins lacks passes =
+      all_still at (law.append_table keys) (λ n l was. (
+        swapped (map key (array_keys l)) (map key keys)
+            (lets_come seen keys begins lacks passes (law.append_element (array_keys l))
+            ((was.begins, was.brought), was.header)),
+        refl,
+      ))
+
+  -- a key
+  after_key : (at : ℕ → Option LastElement) (path : List Part) (value : Value) → IsHeaderBrought seen path next
+      → AreLastElements before seen es at → AreLastElements before next (law.insert path value ∷ es) at
+  after_key at path value brought =
+      all_still at (law.insert path value) (λ n l was. (
+        table_passed seen (array_keys l) path brought.here.0 brought.passes was.header,
+        refl,
+      ))
+
+  -- an element of an array, which is the last of it then
+  module _ (old new : LastElements) (l : LastElement) (kept : IsLastKept old l new)
+      (others : (n : ℕ) (m : LastElement) → IsLastElement before seen es n m
+      → AreSameOrApart (array_keys l) (array_keys m))
+      (own : IsLastElement before next (law.append_element (array_keys l) ∷ es) (array_number l) l) where
+    abbrev element : law.Edit
+    element = law.append_element (array_keys l)
+
+    other_array : (n : ℕ) (m : LastElement) → n ≢ array_number l → IsLastElement before seen es n m
+        → is_element_of (array_keys m) element ≡ false
+    other_array n m differs was = by (same_path (map key (array_keys l)) (map key (array_keys m))) refl
+      where
+        by : (b : Bool) → same_path (map key (array_keys l)) (map key (array_keys m)) ≡ b → b ≡ false
+        by false e = refl
+        by true e =
+            absurd (differs (sym was.numbered
+            ∙ ap keys_number (sym (same_path-sound (map key (array_keys l)) (map key (array_keys m)) e))))
+
+    after_element : AreLastElements before seen es (last_at old)
+        → AreLastElements before next (element ∷ es) (last_at new)
+    after_element h n = by (n == array_number l) refl
+      where
+        by_old : (o : Option LastElement) → n ≢ array_number l → IfSome o (IsLastElement before seen es n)
+            → IfSome o (IsLastElement before next (element ∷ es) n)
+        by_old None differs was = tt
+        by_old (Some m) differs was =
+            last_still element n m (others n m was) (other_array n m differs was) was
+
+        by : (b : Bool) → (n == array_number l) ≡ b
+            → IfSome (last_at new n) (IsLastElement before next (element ∷ es) n)
+        by true e =
+            let same : array_number l ≡ n = sym (eqb-true n (array_number l) e) in
+            subst (λ (k : ℕ). IfSome (last_at new k) (IsLastElement before next (element ∷ es) k)) same
+            (subst (λ (o : Option LastElement). IfSome o (IsLastElement before next (element ∷ es) (array_number l)))
+            (sym kept.here) own)
+        by false e =
+            let differs : n ≢ array_number l =
+            λ same. (let both : false ≡ true = sym e ∙ eq-eqb n (array_number l) same in absurd cc) in
+            subst (λ (o : Option LastElement). IfSome o (IsLastElement before next (element ∷ es) n))
+            (sym (kept.others n differs)) (by_old (last_at old n) differs (h n))
+
 -- ---- one edit more
 
 module _ (s : Document) (edits : List Edit) (n : ℕ) (old now : ProfiledText) (before : Document)
     (read : IsTextOfTree now before) (seen : SeenHeaders) (own : List Part → Type 0) (last : Option Opened)
-    (changes : List TextChange) (h : IsFilledRunTo s edits n old now before seen own last changes) (d x : Edit)
-    (lt : n < length edits) (here : get_or edits n d ≡ x) (c : TextChange) (beside : All (λ b. IsBeside b c) changes)
+    (arrays : ℕ → Option LastElement) (changes : List TextChange)
+    (h : IsFilledRunTo s edits n old now before seen own last arrays changes) (d x : Edit) (lt : n < length edits)
+    (here : get_or edits n d ≡ x) (c : TextChange) (beside : All (λ b. IsBeside b c) changes)
     (utf8 : All (λ b. IsUtf8 b.new) (with_change changes c))
     (within : All (IsChangeIn now.text) (with_change changes c)) where
   abbrev t : Document
@@ -229,15 +340,17 @@ module _ (s : Document) (edits : List Edit) (n : ℕ) (old now : ProfiledText) (
 
   -- with one more, after which that is the last
   one_more : (next : SeenHeaders) (had : List Part → Type 0) (e : law.Edit) (given : IsEdit x e)
-      (longer : IsLonger e) (o : Option Opened) → HasMore seen next → IsMadeKnown next e
-      → IfSome o (λ l. TakesKeys now.profile before (made e given longer).tree next had (e ∷ h.es) l)
-      → IsFilledRunTo s edits (suc n) old now before next had o (with_change changes c)
-  one_more next had e given longer o more known takes = record {
+      (longer : IsLonger e) (o : Option Opened) (at : ℕ → Option LastElement) → HasMore seen next → IsMadeKnown next e
+      → AreLastElements before next (e ∷ h.es) at
+      → IfSome o (λ l. TakesKeys now.profile before (made e given longer).tree had l)
+      → IsFilledRunTo s edits (suc n) old now before next had o at (with_change changes c)
+  one_more next had e given longer o at more known elements takes = record {
     made = made e given longer;
     es = e ∷ h.es;
     run = subst (IsFilledRun now.profile limit before (e ∷ h.es) (with_change changes c)) (same_tree e given longer)
         longer.run;
     known = All-cons (IsMadeKnown next) e h.es known (known_before next more);
+    elements = elements;
     last_takes = takes;
   }
 
@@ -264,67 +377,74 @@ module _ (s : Document) (edits : List Edit) (n : ℕ) (old now : ProfiledText) (
         (λ (e : law.Edit). lets_come seen table_keys table_first lacks more.passes e) h.es h.known) beside
 
     pub one_table_more : IsFilledRunTo s edits (suc n) old now before next had
-        (Some (record { keys = keys; element = None })) (with_change changes c)
+        (Some (record { keys = keys; element = None })) arrays (with_change changes c)
     one_table_more =
-        one_more next had table given table_goes_on.0 (Some (record { keys = keys; element = None })) more.more
-        (table_first, more.here) (record {
+        one_more next had table given table_goes_on.0 (Some (record { keys = keys; element = None })) arrays more.more
+        (table_first, more.here)
+        (after_table before seen next h.es more.more arrays table_keys table_first lacks more.passes h.elements)
+        (record {
           names = [];
           known = All-nil (λ name. had (key_in (map key table_keys) name));
           takes = then_open table given table_goes_on.0 (map key table_keys) [] table_goes_on.1;
-          element = λ number is. absurd cc;
         })
 
   -- an element
   module _ (keys : Bor (List (String Global))) (first number : ℕ) (next : SeenHeaders) (had : List Part → Type 0)
-      (given : IsEdit x (law.append_element (key_texts keys.now)))
+      (at : ℕ → Option LastElement) (given : IsEdit x (law.append_element (key_texts keys.now)))
       (appends : AppendsNewElement now.profile limit before (key_texts keys.now) first c)
       (more : HasMore seen next) (header : HasHeader next (map key (key_texts keys.now)))
       (brought : HasBrought next (map key (key_texts keys.now)))
       (lets : All (LetsElementCome (key_texts keys.now)) h.es)
       (counts : elements_among (key_texts keys.now) h.es + first ≡ number) where
-    abbrev array_keys : List (List ℕ)
-    array_keys = key_texts keys.now
+    abbrev array_of_it : List (List ℕ)
+    array_of_it = key_texts keys.now
 
-    abbrev element : law.Edit
-    element = law.append_element array_keys
+    abbrev element_edit : law.Edit
+    element_edit = law.append_element array_of_it
 
     abbrev opened : Opened
     opened = record { keys = keys; element = Some number }
 
-    element_goes_on : IsLonger element
-        × IsOpen now.profile limit newline (edited_document t element)
-        (element_at array_keys (elements_among array_keys h.es + first)) []
+    abbrev its : LastElement
+    its = record { keys = keys; number = number }
+
+    element_begins_in : BeginsInKey (map key array_of_it)
+    element_begins_in = element_begins now.profile before array_of_it appends.appends.allowed
+
+    element_goes_on : IsLonger element_edit
+        × IsOpen now.profile limit newline (edited_document t element_edit)
+        (element_at array_of_it (elements_among array_of_it h.es + first)) []
     element_goes_on =
-        filled_run_goes_on_element now.profile limit before h.es changes t array_keys first c h.run appends lets beside
+        filled_run_goes_on_element now.profile limit before h.es changes t array_of_it first c h.run appends lets beside
 
-    counted : elements_among array_keys (element ∷ h.es)
-        + elements_of (map key array_keys) (tables_in (mentions_in before)) ≡ suc number
-    counted =
-        omega (
-          arith,
-          one_more_among array_keys element h.es true (same_path-refl (map key array_keys)),
-          counts,
-          appends.counted,
-        )
+    pub is_last_of_its : IsLastElement before next (element_edit ∷ h.es) (array_number its) its
+    is_last_of_its = record {
+      numbered = refl;
+      begins = element_begins_in;
+      header = header;
+      brought = brought;
+      came = any_here element_edit h.es;
+      lets = All-cons (LetsElementCome array_of_it) element_edit h.es (inl refl) lets;
+      counts =
+          omega (
+            arith,
+            one_more_among array_of_it element_edit h.es true (same_path-refl (map key array_of_it)),
+            counts,
+            appends.counted,
+          );
+    }
 
-    pub one_element_more : IsFilledRunTo s edits (suc n) old now before next had (Some opened) (with_change changes c)
-    one_element_more =
-        one_more next had element given element_goes_on.0 (Some opened) more
-        ((element_begins now.profile before array_keys appends.appends.allowed, brought), header) (record {
+    pub one_element_more : AreLastElements before next (element_edit ∷ h.es) at
+        → IsFilledRunTo s edits (suc n) old now before next had (Some opened) at (with_change changes c)
+    one_element_more elements =
+        one_more next had element_edit given element_goes_on.0 (Some opened) at more
+        ((element_begins_in, brought), header) elements (record {
           names = [];
           known = All-nil (λ name. had (key_in (last_path opened) name));
-          takes = then_open element given element_goes_on.0 (last_path opened) []
+          takes = then_open element_edit given element_goes_on.0 (last_path opened) []
               (subst (λ (m : ℕ).
-              IsOpen now.profile limit newline (edited_document t element) (element_at array_keys m) []) counts
+              IsOpen now.profile limit newline (edited_document t element_edit) (element_at array_of_it m) []) counts
               element_goes_on.1);
-          element = λ m is.
-              let same : number ≡ m = cc in
-              subst (IsLastElement before next (element ∷ h.es) array_keys) same (record {
-                header = header;
-                brought = brought;
-                lets = All-cons (LetsElementCome array_keys) element h.es (inl refl) lets;
-                counts = counted;
-              });
         })
 
   -- a key
@@ -336,10 +456,9 @@ module _ (s : Document) (edits : List Edit) (n : ℕ) (old now : ProfiledText) (
     abbrev at : List Part
     at = last_path o
 
-    open_last : TakesKeys now.profile before t seen own h.es o
+    open_last : TakesKeys now.profile before t own o
     open_last =
-        subst (λ (l : Option Opened). IfSome l (λ m. TakesKeys now.profile before t seen own h.es m)) of_last
-        h.last_takes
+        subst (λ (l : Option Opened). IfSome l (λ m. TakesKeys now.profile before t own m)) of_last h.last_takes
 
     path_is : path ≡ key_in at line.name
     path_is =
@@ -369,54 +488,48 @@ module _ (s : Document) (edits : List Edit) (n : ℕ) (old now : ProfiledText) (
     key_here : HasTableOf next (key_in at line.name)
     key_here = subst (HasTableOf next) path_is more.here
 
-    element_still : (number : ℕ) → o.element ≡ Some number
-        → IsLastElement before next (insert ∷ h.es) (opened_keys o) number
-    element_still number is =
-        let was : IsLastElement before seen h.es (opened_keys o) number = open_last.element number is in
-        record {
-          header = header_still seen next (map key (opened_keys o)) more.more was.header;
-          brought = more.more.brought (map key (opened_keys o)) was.brought;
-          lets = All-cons (LetsElementCome (opened_keys o)) insert h.es
-              (subst (PassesBy (opened_keys o)) path_is
-              (table_passed seen (opened_keys o) path more.here.0 more.passes was.header)) was.lets;
-          counts = omega (arith, one_more_among (opened_keys o) insert h.es false refl, was.counts);
-        }
+    brought_it : IsHeaderBrought seen (key_in at line.name) next
+    brought_it = subst (λ (p : List Part). IsHeaderBrought seen p next) path_is more
 
-    pub one_key_more : IsFilledRunTo s edits (suc n) old now before next had last (with_change changes c)
+    pub one_key_more : IsFilledRunTo s edits (suc n) old now before next had last arrays (with_change changes c)
     one_key_more =
-        subst (λ (l : Option Opened). IsFilledRunTo s edits (suc n) old now before next had l (with_change changes c))
-        (sym of_last)
-        (one_more next had insert insert_given key_goes_on.0 (Some o) more.more key_here (record {
+        subst (λ (l : Option Opened).
+        IsFilledRunTo s edits (suc n) old now before next had l arrays (with_change changes c)) (sym of_last)
+        (one_more next had insert insert_given key_goes_on.0 (Some o) arrays more.more key_here
+        (after_key before seen next h.es more.more arrays (key_in at line.name) value brought_it h.elements) (record {
           names = line.name ∷ open_last.names;
           known = All-cons (λ name. had (key_in at name)) line.name open_last.names (subst had path_is here_now)
               (All-weaker (λ name. own (key_in at name)) (λ name. had (key_in at name))
               (λ (name : List ℕ). still (key_in at name)) open_last.names open_last.known);
           takes = then_open insert insert_given key_goes_on.0 at (line.name ∷ open_last.names) key_goes_on.1;
-          element = element_still;
         }))
 
 -- ---- as the code goes
 
 -- So far these changes are made, and the edits up to number `end` are made by them.
 pub record AreFilled (edits : List Edit) (first end : ℕ) (now : ProfiledText) (seen : SeenHeaders)
-    (own : List Part → Type 0) (last : Option Opened) (changes : List TextChange) : Type 0 where
+    (own : List Part → Type 0) (last : Option Opened) (arrays : ℕ → Option LastElement) (changes : List TextChange)
+    : Type 0 where
   pub made : (s : Document) (old : ProfiledText) → (h : AreMade s (take first edits) old now)
-      → IsFilledRunTo s edits end old now h.tree seen own last changes
+      → IsFilledRunTo s edits end old now h.tree seen own last arrays changes
   pub within : All (IsChangeIn now.text) changes
   pub utf8 : All (λ c. IsUtf8 c.new) changes
 
 abbrev pub AreFilledBy : List Edit → ℕ → ℕ → ProfiledText → FilledTables → Type 0
 AreFilledBy edits first end now tables =
-    AreFilled edits first end now tables.seen (HasOwn tables) tables.last tables.changes
+    AreFilled edits first end now tables.seen (HasOwn tables) tables.last (last_at tables.arrays) tables.changes
 
 no_edits : (edits : List Edit) (first : ℕ) (now : ProfiledText) (seen : SeenHeaders) (own : List Part → Type 0)
-    → AreFilled edits first first now seen own None []
-no_edits edits first now seen own = record {
+    (arrays : ℕ → Option LastElement) → ((n : ℕ) → arrays n ≡ None)
+    → AreFilled edits first first now seen own None arrays []
+no_edits edits first now seen own arrays no_arrays = record {
   made = λ s old h. record {
     made = h;
     es = [];
     run = none_is_filled_run now.profile limit h.tree (editable now h.tree h.read);
     known = All-nil (IsMadeKnown seen);
+    elements = λ n.
+        subst (λ (o : Option LastElement). IfSome o (IsLastElement h.tree seen [] n)) (sym (no_arrays n)) tt;
     last_takes = tt;
   };
   within = All-nil (IsChangeIn now.text);
@@ -424,11 +537,12 @@ no_edits edits first now seen own = record {
 }
 
 pub no_tables : (edits : List Edit) (first : ℕ) (now : ProfiledText) (tables : FilledTables) → tables.changes ≡ []
-    → tables.last ≡ None → AreFilledBy edits first first now tables
-no_tables edits first now tables none before_first =
-    subst (AreFilled edits first first now tables.seen (HasOwn tables) tables.last) (sym none)
-    (subst (λ (o : Option Opened). AreFilled edits first first now tables.seen (HasOwn tables) o [])
-    (sym before_first) (no_edits edits first now tables.seen (HasOwn tables)))
+    → tables.last ≡ None → ((n : ℕ) → last_at tables.arrays n ≡ None) → AreFilledBy edits first first now tables
+no_tables edits first now tables none before_first no_arrays =
+    subst (AreFilled edits first first now tables.seen (HasOwn tables) tables.last (last_at tables.arrays)) (sym none)
+    (subst (λ (o : Option Opened).
+    AreFilled edits first first now tables.seen (HasOwn tables) o (last_at tables.arrays) []) (sym before_first)
+    (no_edits edits first now tables.seen (HasOwn tables) (last_at tables.arrays) no_arrays))
 
 module _ (edits : List Edit) (first end : ℕ) (now : ProfiledText) (old new : FilledTables) (d x : Edit)
     (so_far : AreFilledBy edits first end now old) (lt : end < length edits) (here : get_or edits end d ≡ x) where
@@ -441,36 +555,39 @@ module _ (edits : List Edit) (first end : ℕ) (now : ProfiledText) (old new : F
   within_with t within =
       all_with (IsChangeIn now.text) old.changes (change_of t) so_far.within (change_in now.text t within)
 
-  abbrev IsAfter : Option Opened → List TextChange → Type 0
-  IsAfter last changes = AreFilled edits first (suc end) now new.seen (HasOwn new) last changes
+  abbrev IsAfter : Option Opened → LastElements → List TextChange → Type 0
+  IsAfter last arrays changes = AreFilled edits first (suc end) now new.seen (HasOwn new) last (last_at arrays) changes
 
-  after : (last : Option Opened) (c : TextChange) → new.last ≡ last
-      → new.changes ≡ with_change old.changes c → IsAfter last (with_change old.changes c)
+  after : (last : Option Opened) (arrays : LastElements) (c : TextChange) → new.last ≡ last → new.arrays ≡ arrays
+      → new.changes ≡ with_change old.changes c → IsAfter last arrays (with_change old.changes c)
       → AreFilledBy edits first (suc end) now new
-  after last c last_is changes_are h =
-      subst (IsAfter new.last) (sym changes_are)
-      (subst (λ (o : Option Opened). IsAfter o (with_change old.changes c)) (sym last_is) h)
+  after last arrays c last_is arrays_are changes_are h =
+      subst (IsAfter new.last new.arrays) (sym changes_are)
+      (subst (λ (o : Option Opened). IsAfter o new.arrays (with_change old.changes c)) (sym last_is)
+      (subst (λ (a : LastElements). IsAfter last a (with_change old.changes c)) (sym arrays_are) h))
 
   with_table : AddsTableHere now old x new → AreFilledBy edits first (suc end) now new
   with_table a =
       let c : TextChange = change_of a.made in
       let utf8 = utf8_with a.made in
       let within = within_with a.made a.appends.within in
-      after (Some (record { keys = a.keys; element = None })) c a.added.last a.added.changes (record {
+      after (Some (record { keys = a.keys; element = None })) old.arrays c a.added.last a.added.arrays a.added.changes
+      (record {
         made = λ s before h. one_table_more s edits end before now h.tree h.read old.seen (HasOwn old) old.last
-            old.changes (so_far.made s before h) d x lt here c a.added.beside utf8 within a.keys new.seen (HasOwn new)
-            a.is (a.appends.appends h.tree h.read) a.added.lacks a.added.header;
+            (last_at old.arrays) old.changes (so_far.made s before h) d x lt here c a.added.beside utf8 within a.keys
+            new.seen (HasOwn new) a.is (a.appends.appends h.tree h.read) a.added.lacks a.added.header;
         within = within;
         utf8 = utf8;
       })
 
-  -- of an array that is apart from all before, or of the last one's
+  -- of an array that is apart from all before, or of one of which an element came
   with_element : AddsElementHere now old x new → AreFilledBy edits first (suc end) now new
   with_element a =
       let c : TextChange = change_of a.made in
       let utf8 = utf8_with a.made in
       let within = within_with a.made a.appends.within in
-      after (Some (record { keys = a.keys; element = Some a.added.number })) c a.added.last a.added.changes (record {
+      after (Some (record { keys = a.keys; element = Some a.added.number })) new.arrays c a.added.last refl
+      a.added.changes (record {
         made = λ s before h.
             element_by a s before h (so_far.made s before h) utf8 within a.added.next;
         within = within;
@@ -479,53 +596,83 @@ module _ (edits : List Edit) (first end : ℕ) (now : ProfiledText) (old new : F
     where
       element_by : (a : AddsElementHere now old x new) (s : Document) (before : ProfiledText)
           (h : AreMade s (take first edits) before now)
-          (f : IsFilledRunTo s edits end before now h.tree old.seen (HasOwn old) old.last old.changes)
+          (f : IsFilledRunTo s edits end before now h.tree old.seen (HasOwn old) old.last (last_at old.arrays)
+          old.changes)
           → All (λ b. IsUtf8 b.new) (with_change old.changes (change_of a.made))
           → All (IsChangeIn now.text) (with_change old.changes (change_of a.made))
           → IsNextElement old (key_texts a.keys.now) a.first new.seen a.added.number
           → IsFilledRunTo s edits (suc end) before now h.tree new.seen (HasOwn new)
-          (Some (record { keys = a.keys; element = Some a.added.number }))
+          (Some (record { keys = a.keys; element = Some a.added.number })) (last_at new.arrays)
           (with_change old.changes (change_of a.made))
       element_by a s before h f utf8 within (inr (array, number)) =
+          let keys = key_texts a.keys.now in
           let appends = a.appends.appends h.tree h.read in
-          let begins = element_begins now.profile h.tree (key_texts a.keys.now) appends.appends.allowed in
-          one_element_more s edits end before now h.tree h.read old.seen (HasOwn old) old.last old.changes f d x lt here
-          (change_of a.made) a.added.beside utf8 within a.keys a.first a.added.number new.seen (HasOwn new) a.is appends
-          array.more array.here array.brought
-          (All-weaker (IsMadeKnown old.seen) (LetsElementCome (key_texts a.keys.now))
-          (λ (e : law.Edit). lets_element old.seen (key_texts a.keys.now) begins array.apart array.passes e) f.es
-          f.known)
-          (omega (
-            arith,
-            none_among old.seen (key_texts a.keys.now) begins array.apart array.passes f.es f.known,
-            number,
-          ))
+          let begins = element_begins now.profile h.tree keys appends.appends.allowed in
+          let lets : All (LetsElementCome keys) f.es =
+          All-weaker (IsMadeKnown old.seen) (LetsElementCome keys)
+          (λ (e : law.Edit). lets_element old.seen keys begins array.apart array.passes e) f.es f.known in
+          let counts : elements_among keys f.es + a.first ≡ a.added.number =
+          omega (arith, none_among old.seen keys begins array.apart array.passes f.es f.known, number) in
+          let its : IsLastElement h.tree new.seen (law.append_element keys ∷ f.es) (keys_number (map key keys))
+          (record { keys = a.keys; number = a.added.number }) =
+          is_last_of_its s edits end before now h.tree h.read old.seen (HasOwn old) old.last (last_at old.arrays)
+          old.changes f d x lt here (change_of a.made) a.added.beside utf8 within a.keys a.first a.added.number new.seen
+          (HasOwn new) (last_at new.arrays) a.is appends array.more array.here array.brought lets counts in
+          one_element_more s edits end before now h.tree h.read old.seen (HasOwn old) old.last (last_at old.arrays)
+          old.changes f d x lt here (change_of a.made) a.added.beside utf8 within a.keys a.first a.added.number new.seen
+          (HasOwn new) (last_at new.arrays) a.is appends array.more array.here array.brought lets counts
+          (after_element h.tree old.seen new.seen f.es array.more old.arrays new.arrays
+          (record { keys = a.keys; number = a.added.number }) a.added.kept
+          (λ n m was. inr (swapped (map key (array_keys m)) (map key keys)
+          (header_apart old.seen keys begins array.apart array.passes (array_keys m) was.begins was.header))) its
+          f.elements)
       element_by a s before h f utf8 within (inl l) =
+          let keys = key_texts a.keys.now in
           let appends = a.appends.appends h.tree h.read in
-          let takes : TakesKeys now.profile h.tree f.made.tree old.seen (HasOwn old) f.es l.last =
-          subst (λ (o : Option Opened).
-          IfSome o (λ m. TakesKeys now.profile h.tree f.made.tree old.seen (HasOwn old) f.es m)) l.is f.last_takes in
-          let was : IsLastElement h.tree old.seen f.es (key_texts a.keys.now) l.before =
-          subst (λ (ks : List (List ℕ)). IsLastElement h.tree old.seen f.es ks l.before) l.same
-          (takes.element l.before l.element) in
-          one_element_more s edits end before now h.tree h.read old.seen (HasOwn old) old.last old.changes f d x lt here
-          (change_of a.made) a.added.beside utf8 within a.keys a.first a.added.number new.seen (HasOwn new) a.is appends
-          (more_of_same old.seen new.seen l.seen_is)
-          (subst (λ (seen : SeenHeaders). HasHeader seen (map key (key_texts a.keys.now))) (sym l.seen_is) was.header)
-          (subst (λ (seen : SeenHeaders). HasBrought seen (map key (key_texts a.keys.now))) (sym l.seen_is)
-          was.brought)
-          was.lets (omega (arith, was.counts, appends.counted, l.next))
+          let more = more_of_same old.seen new.seen l.seen_is in
+          let was : IsLastElement h.tree old.seen f.es (keys_number (map key keys)) l.last =
+          subst (λ (o : Option LastElement). IfSome o (IsLastElement h.tree old.seen f.es (keys_number (map key keys))))
+          l.is (f.elements (keys_number (map key keys))) in
+          let header : HasHeader new.seen (map key keys) =
+          subst (λ (ks : List (List ℕ)). HasHeader new.seen (map key ks)) l.same
+          (header_still old.seen new.seen (map key (array_keys l.last)) more was.header) in
+          let brought : HasBrought new.seen (map key keys) =
+          subst (λ (ks : List (List ℕ)). HasBrought new.seen (map key ks)) l.same
+          (more.brought (map key (array_keys l.last)) was.brought) in
+          let lets : All (LetsElementCome keys) f.es =
+          subst (λ (ks : List (List ℕ)). All (LetsElementCome ks) f.es) l.same was.lets in
+          let was_counts : elements_among keys f.es + elements_of (map key keys) (tables_in (mentions_in h.tree))
+          ≡ suc l.last.number =
+          subst (λ (ks : List (List ℕ)). elements_among ks f.es
+          + elements_of (map key ks) (tables_in (mentions_in h.tree)) ≡ suc l.last.number) l.same was.counts in
+          let came : Any (λ e. e ≡ law.append_element keys) f.es =
+          subst (λ (ks : List (List ℕ)). Any (λ e. e ≡ law.append_element ks) f.es) l.same was.came in
+          let counts : elements_among keys f.es + a.first ≡ a.added.number =
+          omega (arith, was_counts, appends.counted, l.next) in
+          let its : IsLastElement h.tree new.seen (law.append_element keys ∷ f.es) (keys_number (map key keys))
+          (record { keys = a.keys; number = a.added.number }) =
+          is_last_of_its s edits end before now h.tree h.read old.seen (HasOwn old) old.last (last_at old.arrays)
+          old.changes f d x lt here (change_of a.made) a.added.beside utf8 within a.keys a.first a.added.number new.seen
+          (HasOwn new) (last_at new.arrays) a.is appends more header brought lets counts in
+          one_element_more s edits end before now h.tree h.read old.seen (HasOwn old) old.last (last_at old.arrays)
+          old.changes f d x lt here (change_of a.made) a.added.beside utf8 within a.keys a.first a.added.number new.seen
+          (HasOwn new) (last_at new.arrays) a.is appends more header brought lets counts
+          (after_element h.tree old.seen new.seen f.es more old.arrays new.arrays
+          (record { keys = a.keys; number = a.added.number }) a.added.kept
+          (λ n m its_was.
+          of_one_that_came (LetsElementCome (array_keys m)) (law.append_element keys) f.es came its_was.lets) its
+          f.elements)
 
   with_key : AddsKeyHere now old x new → AreFilledBy edits first (suc end) now new
   with_key a =
       let c : TextChange = change_of a.made in
       let utf8 = utf8_with a.made in
       let within = within_with a.made a.within in
-      after old.last c a.added.last_is a.added.changes (record {
+      after old.last old.arrays c a.added.last_is a.added.arrays a.added.changes (record {
         made = λ s before h. one_key_more s edits end before now h.tree h.read old.seen (HasOwn old) old.last
-            old.changes (so_far.made s before h) d x lt here c a.added.beside utf8 within a.added.last new.seen
-            (HasOwn new) a.path a.value a.is (a.line h.tree h.read) a.added.of_last a.added.holder
-            a.added.kept.own.lacks a.added.kept.own.here a.added.kept.own.more a.added.kept.brought;
+            (last_at old.arrays) old.changes (so_far.made s before h) d x lt here c a.added.beside utf8 within
+            a.added.last new.seen (HasOwn new) a.path a.value a.is (a.line h.tree h.read) a.added.of_last
+            a.added.holder a.added.kept.own.lacks a.added.kept.own.here a.added.kept.own.more a.added.kept.brought;
         within = within;
         utf8 = utf8;
       })

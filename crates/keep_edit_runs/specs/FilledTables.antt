@@ -1,6 +1,6 @@
 -- Tables and elements that edits of a list append, with keys that they insert into the last of them, as far as they are
 -- gone through.
-use Rattle.std.specs.Prelude.{◌≡◌, ◌⊎◌, ◌+◌, ◌==◌, ℕ, suc, All, IfSome, IsTrue, List, None, Option, Some, String}
+use Rattle.std.specs.Prelude.{◌≡◌, ◌⊎◌, ◌+◌, ◌==◌, ℕ, suc, All, Any, IfSome, IsTrue, List, None, Option, Some, String}
 use Rattle.std.specs.Prelude.{map, take}
 use Rattle.std.specs.HashSet.{contains_by}
 use Rattle.std.specs.Borrow.{Bor}
@@ -21,6 +21,7 @@ use Rattle.keep_edit_plan.specs.NewTables.{AppendsNewElementHere, AppendsNewTabl
 use Rattle.keep_edit_plan.specs.TextEdits.{change_of}
 use Rattle.keep_edit_plan.specs.declared.edit.Edit.{Edit}
 use Rattle.keep_edit_plan.specs.declared.text_edit.TextEdit.{TextEdit}
+use Rattle.keep_edit_runs.specs.LastElements.{IsLastKept, array_keys, array_number, last_at}
 use Rattle.keep_edit_runs.specs.Lists.{AreMade, IsEdit}
 use Rattle.keep_edit_plan.specs.Reading.{IsTextOfTree, ProfiledText, limit}
 use Rattle.keep_edit_runs.specs.Runs.{changed_text}
@@ -29,6 +30,7 @@ use Rattle.keep_edit_runs.specs.SeenHeaders.{IsHeaderAppended, IsHeaderBrought}
 use Rattle.keep_edit_runs.specs.SeenPaths.{BeginsInKey, keys_number}
 use Rattle.keep_edit_runs.specs.declared.filled_tables.FilledTables.{FilledTables}
 use Rattle.keep_edit_runs.specs.declared.filled_tables.Opened.{Opened}
+use Rattle.keep_edit_runs.specs.declared.last_elements.LastElement.{LastElement}
 use Rattle.keep_edit_runs.specs.declared.seen_headers.SeenHeaders.{SeenHeaders}
 
 -- the keys of a header, and the path of what it makes
@@ -52,17 +54,16 @@ pub record IsTableAdded (old : FilledTables) (keys : Bor (List (String Global)))
   pub lacks : ¬ HasAppended old.seen (map key (key_texts keys.now))
   pub header : IsHeaderAppended old.seen (map key (key_texts keys.now)) new.seen
   pub last : new.last ≡ Some (record { keys = keys; element = None })
+  pub arrays : new.arrays ≡ old.arrays
   pub beside : All (λ b. IsBeside b c) old.changes
   pub changes : new.changes ≡ with_change old.changes c
 
--- The last one is an element of the array of tables with these keys, and the number is the one after its own.
+-- An element of the array of tables with these keys came, and the number is the one after that of the last of them.
 pub record IsAfterLast (old : FilledTables) (keys : List (List ℕ)) (seen : SeenHeaders) (number : ℕ) : Type 0 where
-  pub last : Opened
-  pub is : old.last ≡ Some last
-  pub before : ℕ
-  pub element : last.element ≡ Some before
-  pub same : opened_keys last ≡ keys
-  pub next : number ≡ suc before
+  pub last : LastElement
+  pub is : last_at old.arrays (keys_number (map key keys)) ≡ Some last
+  pub same : array_keys last ≡ keys
+  pub next : number ≡ suc last.number
   pub seen_is : seen ≡ old.seen
 
 -- An element of that array has this number: the one after the last, or the first of an array whose keys are apart from
@@ -71,12 +72,13 @@ abbrev pub IsNextElement : FilledTables → List (List ℕ) → ℕ → SeenHead
 IsNextElement old keys first seen number =
     IsAfterLast old keys seen number ⊎ (IsArrayAppended old.seen (map key keys) seen × (number ≡ first))
 
--- The header of an element is added, beside the changes before it. It is the last one then.
+-- The header of an element is added, beside the changes before it. It is the last one then, and the last of its array.
 pub record IsElementAdded (old : FilledTables) (keys : Bor (List (String Global))) (first : ℕ) (c : TextChange)
     (new : FilledTables) : Type 0 where
   pub number : ℕ
   pub next : IsNextElement old (key_texts keys.now) first new.seen number
   pub last : new.last ≡ Some (record { keys = keys; element = Some number })
+  pub kept : IsLastKept old.arrays (record { keys = keys; number = number }) new.arrays
   pub beside : All (λ b. IsBeside b c) old.changes
   pub changes : new.changes ≡ with_change old.changes c
 
@@ -103,6 +105,7 @@ pub record IsKeyAdded (old : FilledTables) (path : List Part) (c : TextChange) (
   pub holder : without_last path ≡ last_path last
   pub kept : IsKeyKept old path new
   pub last_is : new.last ≡ old.last
+  pub arrays : new.arrays ≡ old.arrays
   pub beside : All (λ b. IsBeside b c) old.changes
   pub changes : new.changes ≡ with_change old.changes c
 
@@ -145,28 +148,39 @@ IsMadeKnown seen (law.append_element keys) = HasTableOf seen (map key keys) × H
 IsMadeKnown seen (law.insert path value) = HasTableOf seen path
 IsMadeKnown seen e = ⊥
 
--- The last one is the element with that number of an array of tables, of which the edits let one more come.
-pub record IsLastElement (before : Document) (seen : SeenHeaders) (es : List law.Edit) (keys : List (List ℕ))
-    (number : ℕ) : Type 0 where
-  pub header : HasHeader seen (map key keys)
-  pub brought : HasBrought seen (map key keys)
-  pub lets : All (LetsElementCome keys) es
-  pub counts : elements_among keys es + elements_of (map key keys) (tables_in (mentions_in before)) ≡ suc number
+-- The element is the last that the edits append of its array, by the number that stands for the array's keys, and they
+-- let one more come.
+pub record IsLastElement (before : Document) (seen : SeenHeaders) (es : List law.Edit) (n : ℕ) (l : LastElement)
+    : Type 0 where
+  pub numbered : array_number l ≡ n
+  pub begins : BeginsInKey (map key (array_keys l))
+  pub header : HasHeader seen (map key (array_keys l))
+  pub brought : HasBrought seen (map key (array_keys l))
+  pub came : Any (λ e. e ≡ law.append_element (array_keys l)) es
+  pub lets : All (LetsElementCome (array_keys l)) es
+  pub counts : elements_among (array_keys l) es + elements_of (map key (array_keys l)) (tables_in (mentions_in before))
+      ≡ suc l.number
+
+-- so it is of each array
+abbrev pub AreLastElements : Document → SeenHeaders → List law.Edit → (ℕ → Option LastElement) → Type 0
+AreLastElements before seen es at = (n : ℕ) → IfSome (at n) (IsLastElement before seen es n)
 
 -- The last one takes more keys at the end of the text, but for some that are its own.
-pub record TakesKeys (profile : Profile) (before now : Document) (seen : SeenHeaders) (own : List Part → Type 0)
-    (es : List law.Edit) (last : Opened) : Type 0 where
+pub record TakesKeys (profile : Profile) (before now : Document) (own : List Part → Type 0) (last : Opened)
+    : Type 0 where
   pub names : List (List ℕ)
   pub known : All (λ name. own (key_in (last_path last) name)) names
   pub takes : IsOpen profile limit (newline_of before).text now (last_path last) names
-  pub element : (number : ℕ) → last.element ≡ Some number → IsLastElement before seen es (opened_keys last) number
 
 -- The edits up to number `end` are made, on a document in which those before are: they append tables that are new and
--- elements, and insert keys into the last of them, which takes more. What each makes is known.
+-- elements, and insert keys into the last of them, which takes more. What each makes is known, and the last element of
+-- each array.
 pub record IsFilledRunTo (s : Document) (edits : List Edit) (end : ℕ) (old now : ProfiledText) (before : Document)
-    (seen : SeenHeaders) (own : List Part → Type 0) (last : Option Opened) (changes : List TextChange) : Type 0 where
+    (seen : SeenHeaders) (own : List Part → Type 0) (last : Option Opened) (arrays : ℕ → Option LastElement)
+    (changes : List TextChange) : Type 0 where
   pub made : AreMade s (take end edits) old (changed_text now changes)
   pub es : List law.Edit
   pub run : IsFilledRun now.profile limit before es changes made.tree
   pub known : All (IsMadeKnown seen) es
-  pub last_takes : IfSome last (λ o. TakesKeys now.profile before made.tree seen own es o)
+  pub elements : AreLastElements before seen es arrays
+  pub last_takes : IfSome last (λ o. TakesKeys now.profile before made.tree own o)

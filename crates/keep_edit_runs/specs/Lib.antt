@@ -10,5 +10,6 @@ pub mod SeenHeaders
 pub mod AddedLines
 pub mod GoneBetween
 pub mod KindsRun
+pub mod LastElements
 pub mod FilledTables
 pub mod Next

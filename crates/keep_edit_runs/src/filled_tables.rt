@@ -3,18 +3,20 @@
 //!
 //! A table is new if no header before it is of that table or of one below it, and no key that was inserted is on its
 //! way, nor an array of which an element came. So all that the keys of each header begin with is kept, the path of each
-//! key, and that of each array. An element is one more of the array of the last one, or its keys are apart from those
+//! key, and that of each array. An element is one more of an array of which one came, or its keys are apart from those
 //! of all headers before it. A key is new in the last table or element if its path is none of those that came into it.
 ghost use Rattle.std.specs.Prelude.{◌≡◌, ◌<◌, ℕ, IfSome, IsTrue, [], None, false, length, map, slice_get};
 ghost use Rattle.keep_edit_plan.specs.Headers.{key_texts};
 ghost use Rattle.keep_edit_plan.specs.TextEdits.{IsOrdered, change_of};
 ghost use Rattle.keep_edit_spec.specs.FilledTables.{element_at};
+ghost use Rattle.keep_edit_runs.specs.LastElements.{last_at};
 ghost use Rattle.keep_edit_runs.specs.FilledTables.{IsElementAdded, IsKeyAdded, IsKeyKept, IsNextElement, IsOwnKept};
 ghost use Rattle.keep_edit_runs.specs.FilledTables.{IsTableAdded, last_path};
 ghost use Rattle.keep_path.specs.Path.{key, without_last};
 
 use crate::alike::are_same_keys;
 use crate::at_once::Run;
+use crate::last_elements::{LastElement, LastElements};
 use crate::outline::{Steps, index_at};
 use crate::seen_headers::SeenHeaders;
 use crate::seen_paths::number_of_keys;
@@ -40,6 +42,8 @@ pub struct FilledTables<'a> {
     last: Option<Opened<'a>>,
     /// The paths of the keys that were inserted into the last one, each by a number that stands for its keys.
     own: HashSet<u64>,
+    /// Of each array of which an element came, the last one.
+    arrays: LastElements<'a>,
     /// The headers, and in place of tables whose headers come with a line the keys and the arrays.
     seen: SeenHeaders,
 }
@@ -47,12 +51,14 @@ pub struct FilledTables<'a> {
 impl<'a> FilledTables<'a> {
     /// No tables yet. It takes no memory.
     pub fn new(alloc: Global) -> FilledTables<'a>
-        ensures { (result.changes ≡ []) × (result.last ≡ None) }
+        ensures none { (result.changes ≡ []) × (result.last ≡ None) }
+        ensures no_arrays { (n : ℕ) → last_at result.arrays n ≡ None }
     {
         FilledTables {
             changes: TextEdits::new(alloc),
             last: None,
             own: HashSet::new(alloc),
+            arrays: LastElements::new(alloc),
             seen: SeenHeaders::new(alloc),
         }
     }
@@ -86,8 +92,8 @@ impl<'a> FilledTables<'a> {
     }
 
     /// Adds an element of the array of tables with these keys, with its header and the number that it would have before
-    /// all others. Returns whether it was added: not one that is neither of the last one's array nor known to be apart
-    /// from all before it, nor any where memory was refused. Then no change was added.
+    /// all others. Returns whether it was added: not one that is neither of an array of which one came nor known to be
+    /// apart from all before it, nor any where memory was refused. Then no change was added.
     pub fn add_element(&mut self, keys: &'a [String], element: NewElement) -> bool
         requires { IsOrdered element.header }
         ensures added { IsTrue result
@@ -97,6 +103,9 @@ impl<'a> FilledTables<'a> {
         let Some(number) = self.next_number(keys, element.number) else {
             return false;
         };
+        if !self.arrays.keep(LastElement { keys, number }) {
+            return false;
+        }
         self.own.clear();
         self.last = Some(Opened {
             keys,
@@ -105,22 +114,23 @@ impl<'a> FilledTables<'a> {
         self.changes.add(element.header).unwrap_or(false)
     }
 
-    /// The number of an element of the array of tables with these keys: that after the last one, if that is of the same
-    /// array; else the one that it would have before all others, if the keys are known to be apart from those of all
+    /// The number of an element of the array of tables with these keys: that after the last one of that array, if one
+    /// came; else the one that it would have before all others, if the keys are known to be apart from those of all
     /// before it, and then they are kept. None for any other, and where memory was refused.
     fn next_number(&mut self, keys: &[String], first: usize) -> Option<usize>
         ensures next { IfSome result (IsNextElement self.old (key_texts keys.now) first self.new.seen) }
-        ensures changes { self.new.changes ≡ self.old.changes }
+        ensures rest { (self.new.changes ≡ self.old.changes) × (self.new.arrays ≡ self.old.arrays) }
     {
-        match self.last {
-            Some(
-                Opened {
-                    keys: other,
-                    element: Some(number),
-                },
-            ) if are_same_keys(other, keys) => number.checked_add(1),
-            _ if self.seen.append_array(keys) => Some(first),
-            _ => None,
+        if let Some(last) = self.arrays.of(keys) {
+            if !are_same_keys(last.keys, keys) {
+                return None;
+            }
+            return last.number.checked_add(1);
+        }
+        if self.seen.append_array(keys) {
+            Some(first)
+        } else {
+            None
         }
     }
 
@@ -144,7 +154,8 @@ impl<'a> FilledTables<'a> {
     /// was refused.
     fn keep_key(&mut self, path: &Steps) -> bool
         ensures kept { IsTrue result → IsKeyKept self.old path.now self.new }
-        ensures rest { (self.new.changes ≡ self.old.changes) × (self.new.last ≡ self.old.last) }
+        ensures rest { (self.new.changes ≡ self.old.changes) × (self.new.last ≡ self.old.last)
+            × (self.new.arrays ≡ self.old.arrays) }
     {
         self.keep_own(path) && self.seen.bring(path)
     }
@@ -154,7 +165,7 @@ impl<'a> FilledTables<'a> {
     fn keep_own(&mut self, path: &Steps) -> bool
         ensures kept { IsTrue result → IsOwnKept self.old path.now self.new }
         ensures rest { (self.new.changes ≡ self.old.changes) × (self.new.last ≡ self.old.last)
-            × (self.new.seen ≡ self.old.seen) }
+            × ((self.new.arrays ≡ self.old.arrays) × (self.new.seen ≡ self.old.seen)) }
     {
         let number = number_of_keys(path);
         !self.own.contains(&number) && self.own.insert(number).is_ok()

@@ -27,6 +27,7 @@ mod items;
 mod kinds;
 mod kinds_run;
 mod known_arrays;
+mod last_elements;
 mod next;
 mod one_kind;
 mod opened;

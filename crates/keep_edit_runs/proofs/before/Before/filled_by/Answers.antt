@@ -4,8 +4,8 @@ use Rattle.keep_edit_runs.proofs.before.Before.filled_by.Goals as goal
 
 pub loop-number-init : goal.loop-number-init
 loop-number-init c =
-    no_tables c.args.edits.now c.args.first c.args.self.now c.new-tables.result c.new-tables.ensures.0
-    c.new-tables.ensures.1
+    no_tables c.args.edits.now c.args.first c.args.self.now c.new-tables.result c.new-tables.ensures.none.0
+    c.new-tables.ensures.none.1 c.new-tables.ensures.no_arrays
 
 pub loop-number-preserved : goal.loop-number-preserved
 loop-number-preserved c =
