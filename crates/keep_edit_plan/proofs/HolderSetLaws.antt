@@ -6,13 +6,16 @@
 -- value; and what the index tells of the holder's kind is what the document states of it (`holds`).
 --
 -- Theorems: `not_first`, `step_taken`: the first steps of a path; `last_step`: a path and its last step; `put_inside`:
--- the text of a value after an edit inside; `planned_set`: the edit as a set; `by_insert`, `by_remove`: of an entry.
+-- the text of a value after an edit inside; `planned_set`: the edit as a set; `by_insert`, `by_set`, `by_rename`,
+-- `by_remove`: of an entry.
 use Rattle.std.proofs.Common.{◌≡◌, ◌≢◌, ℕ, zero, suc, ◌+◌, ◌-◌, ◌≤◌, true, List, [], ◌∷◌, ◌++◌, length, take, drop}
 use Rattle.std.proofs.Common.{slice_get, slice_range, string_bytes, refl, sym, ap, ap₂, subst, ◌∙◌, arith, append_assoc}
-use Rattle.std.proofs.Common.{Option, Some, None, Result, Ok, take_all}
+use Rattle.std.proofs.Common.{Global, Option, Some, None, Result, Ok, String, take_all}
 use Rattle.std.specs.Prelude.{IfSome}
 use Rattle.std.specs.Result.{result_ok}
 use Rattle.std.proofs.lemmas.List.{drop-drop, drop-take, take-append-drop, take-take}
+use Rattle.std.proofs.lemmas.Str.{IsUtf8-string_bytes}
+use Rattle.keep_types.specs.declared.leaf.Profile.TheVariants.{Wide}
 use Rattle.keep_types.specs.declared.node.NodeInfo.{NodeInfo}
 use Rattle.keep_types.specs.declared.syntax.Span.{Span}
 use Rattle.keep_types.specs.declared.syntax.ValueInfo.{ValueInfo}
@@ -31,10 +34,11 @@ use Rattle.keep_edit_spec.specs.Changed.{put}
 use Rattle.keep_edit_spec.specs.Edits as law
 use Rattle.keep_edit_spec.specs.Edits.{edited_document, place}
 use Rattle.keep_edit_spec.specs.EntryEdits.{CanHold}
-use Rattle.keep_edit_spec.specs.Laws.{IsLawfulEdit}
+use Rattle.keep_edit_spec.specs.Laws.{IsGivenValue, IsLawfulEdit}
 use Rattle.keep_edit_spec.specs.Refusals.{has_value, refusal}
 use Rattle.keep_edit_spec.specs.SetValues.{SetsValue}
-use Rattle.keep_edit_spec.proofs.Shared.{change_put, has_of_number, insert_lawful, remove_lawful, set_lawful, set_place}
+use Rattle.keep_edit_spec.proofs.Shared.{change_put, has_of_number, insert_lawful, remove_lawful, rename_lawful}
+use Rattle.keep_edit_spec.proofs.Shared.{set_lawful, set_place}
 use Rattle.keep_edit_plan.specs.Answers.{text_after}
 use Rattle.keep_edit_plan.specs.Given.{IsEdit}
 use Rattle.keep_edit_plan.specs.Places.{place_at}
@@ -210,6 +214,65 @@ by_insert d x path given (Some t) is utf8 h =
             sets = h.sets s read;
             same =
                 same_document d s h.holder h.value t e read (h.sets s read) lawful
+                (subst (λ (f : law.Edit).
+                text (edited_document s f) ≡ text (edited_document s (law.set h.holder h.value))) same
+                (h.same s read));
+          };
+      within = h.within;
+    }
+
+pub by_set : (d : ProfiledText) (x : Edit) (path : List Part) (given : List ℕ) (r : Option TextEdit)
+    → x ≡ edit.Set path given → IfSome r (IsSetOfHolder d x path) → IfSome r (MakesSetHere d x)
+by_set d x path given None is h = tt
+by_set d x path given (Some t) is h =
+    let (v, value, same) = subst (λ (y : Edit). IsEdit y h.edit) is h.is in
+    let e : law.Edit = law.set path v in
+    let good : IsGivenValue Wide v = record { valid = value.reads.valid; obeys = value.obeys } in
+    record {
+      edit = e;
+      is = subst (λ (f : law.Edit). IsEdit x f) same h.is;
+      holder = h.holder;
+      value = h.value;
+      makes = λ s read.
+          let allowed : refusal d.profile limit s e ≡ None =
+          subst (λ (f : law.Edit). refusal d.profile limit s f ≡ None) same (h.allowed s read) in
+          record {
+            of_entry = record { part = h.part; is = h.whole; holds = h.holds s read; given = good };
+            allowed = allowed;
+            sets = h.sets s read;
+            same =
+                same_document d s h.holder h.value t e read (h.sets s read)
+                (set_lawful d.profile limit s path v (editable d s read) good allowed)
+                (subst (λ (f : law.Edit).
+                text (edited_document s f) ≡ text (edited_document s (law.set h.holder h.value))) same
+                (h.same s read));
+          };
+      within = h.within;
+    }
+
+pub by_rename : (d : ProfiledText) (x : Edit) (path : List Part) (name : String Global) (r : Option TextEdit)
+    → x ≡ edit.Rename path name → IfSome r (IsSetOfHolder d x path) → IfSome r (MakesSetHere d x)
+by_rename d x path name None is h = tt
+by_rename d x path name (Some t) is h =
+    let same = subst (λ (y : Edit). IsEdit y h.edit) is h.is in
+    let e : law.Edit = law.rename path (string_bytes name) in
+    record {
+      edit = e;
+      is = subst (λ (f : law.Edit). IsEdit x f) same h.is;
+      holder = h.holder;
+      value = h.value;
+      makes = λ s read.
+          let allowed : refusal d.profile limit s e ≡ None =
+          subst (λ (f : law.Edit). refusal d.profile limit s f ≡ None) same (h.allowed s read) in
+          record {
+            of_entry =
+                record { part = h.part; is = h.whole; holds = h.holds s read; utf8 = IsUtf8-string_bytes name };
+            allowed = allowed;
+            sets = h.sets s read;
+            same =
+                same_document d s h.holder h.value t e read (h.sets s read)
+                (rename_lawful d.profile limit s path (string_bytes name) (editable d s read)
+                (IsUtf8-string_bytes name) allowed)
                 (subst (λ (f : law.Edit).
                 text (edited_document s f) ≡ text (edited_document s (law.set h.holder h.value))) same
                 (h.same s read));

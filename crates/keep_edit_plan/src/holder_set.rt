@@ -19,14 +19,15 @@ use keep_syntax::Span;
 use std::alloc::{AllocError, Global};
 
 impl<'a> DocumentRef<'a> {
-    /// What an insert or a remove of an entry changes of the text, as the set of the value that holds the entry: the
-    /// whole text of that value is replaced. None for any other edit, where it is refused, and where memory was
-    /// refused.
+    /// What an edit of an entry changes of the text, as the set of the value that holds the entry: the whole text of
+    /// that value is replaced. None for any other edit, where it is refused, and where memory was refused.
     pub fn change_of_holder(&self, alloc: Global, edit: &Edit) -> Option<TextEdit>
         ensures { IfSome result (MakesSetHere self.now edit.now) }
     {
         match edit {
             Edit::Insert(path, _) => self.holder_set(alloc, edit, path),
+            Edit::Set(path, _) => self.holder_set(alloc, edit, path),
+            Edit::Rename(path, _) => self.holder_set(alloc, edit, path),
             Edit::Remove(path) => {
                 self.value_node(path).ok()?;
                 self.holder_set(alloc, edit, path)

@@ -121,6 +121,8 @@ pub mod EntryActs
 pub mod EntryDepth
 pub mod EntryMade
 pub mod EntryInserts
+pub mod EntrySets
+pub mod EntryRenames
 pub mod EntryEdits
 pub mod EntryEditRuns
 pub mod EntryChanges

@@ -11,7 +11,7 @@ use Rattle.keep_meaning.specs.Fact.{Fact}
 use Rattle.keep_meaning.specs.Meaning.{mentions_in}
 use Rattle.keep_meaning.specs.Nodes.{fact_at}
 use Rattle.keep_edit_spec.specs.InsertKinds.{Added}
-use Rattle.keep_edit_spec.specs.Edits.{Edit, edited_document, insert, remove, set}
+use Rattle.keep_edit_spec.specs.Edits.{Edit, edited_document, insert, remove, rename, set}
 use Rattle.keep_edit_spec.specs.Laws.{IsEditable, IsGivenValue, IsLawfulEdit}
 use Rattle.keep_edit_spec.specs.Look.{keys_in}
 use Rattle.keep_edit_spec.specs.Refusals.{has_value, refusal}
@@ -41,9 +41,25 @@ pub record RemovesEntry (s : Document) (holder path : List Part) : Type 0 where
   pub holds : CanHold (fact_at holder (mentions_in s)) part
   pub valued : has_value path (mentions_in s) ≡ true
 
+-- the value of one is set
+pub record SetsEntry (s : Document) (holder path : List Part) (value : Value) : Type 0 where
+  pub part : Part
+  pub is : path ≡ holder ++ part ∷ []
+  pub holds : CanHold (fact_at holder (mentions_in s)) part
+  pub given : IsGivenValue Wide value
+
+-- the key of one gets another name, or the first part of it
+pub record RenamesEntry (s : Document) (holder path : List Part) (name : List ℕ) : Type 0 where
+  pub part : Part
+  pub is : path ≡ holder ++ part ∷ []
+  pub holds : CanHold (fact_at holder (mentions_in s)) part
+  pub utf8 : IsUtf8 name
+
 abbrev pub IsOfEntry : Document → List Part → Edit → Type 0
 IsOfEntry s holder (insert path value) = InsertsEntry s holder path value
 IsOfEntry s holder (remove path) = RemovesEntry s holder path
+IsOfEntry s holder (set path value) = SetsEntry s holder path value
+IsOfEntry s holder (rename path name) = RenamesEntry s holder path name
 IsOfEntry s holder _ = ⊥
 
 -- ---- as a set
@@ -64,11 +80,14 @@ pub record AreSameEntry (holder path other more : List Part) : Type 0 where
   pub is : path ≡ holder ++ part ∷ []
   pub there : more ≡ other ++ part ∷ []
 
--- edits of the same entry of these two values: both insert the same value, or both remove
+-- edits of the same entry of these two values: both insert the same value, or set it, or rename to the same key, or
+-- both remove
 abbrev pub AreOfSameEntry : List Part → Edit → List Part → Edit → Type 0
 AreOfSameEntry holder (insert path value) other (insert more new) =
     AreSameEntry holder path other more × (new ≡ value) × AllByRecursion IsUtf8 (keys_in more)
 AreOfSameEntry holder (remove path) other (remove more) = AreSameEntry holder path other more
+AreOfSameEntry holder (set path value) other (set more new) = AreSameEntry holder path other more × (new ≡ value)
+AreOfSameEntry holder (rename path name) other (rename more new) = AreSameEntry holder path other more × (new ≡ name)
 AreOfSameEntry holder _ other _ = ⊥
 
 -- So does the edit of the same entry in another document, of a value with the same bytes, at whatever path it is there.

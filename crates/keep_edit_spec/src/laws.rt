@@ -202,9 +202,9 @@ pub fn elements_go_in_runs()
     ensures without { elements.ElementRunGoesOnWithout }
 {}
 
-/// An insert or a `remove` of an item makes what the `set` of its array makes, and one of a key in an inline table what
-/// the `set` of that table makes, and so it does of a value with the same bytes at any path of any document. So it can
-/// be in a run, as that set.
+/// An edit of an item makes what the `set` of its array makes, and one of a key in an inline table what the `set` of
+/// that table makes: an insert, a `remove`, a `set` or a `rename`. It does so of a value with the same bytes at any
+/// path of any document. So it can be in a run, as that set.
 pub fn edits_of_entries_are_sets()
     ensures still { entries.StillMakesSet }
     ensures run { entries.RunGoesOnByEntry }

@@ -7,7 +7,8 @@
 -- insert can put into any array, and into any inline table. A remove can take out an entry that has a fact, since an
 -- entry has that index or key then (`named_of_fact`).
 --
--- Theorems: `gives_item`, `gives_keyval`, `gives_removal`; `inline_table`: an inline table is a table.
+-- Theorems: `gives_item`, `gives_keyval`, `gives_removal`; `nothing_deeper`, `gives_here`: of any act; `inline_table`:
+-- an inline table is a table.
 use Rattle.std.proofs.Common.{◌≡◌, ℕ, ◌+◌, Bool, true, false, List, [], ◌∷◌, ◌++◌, map, refl, sym, ap, subst}
 use Rattle.std.proofs.Common.{◌∙◌, Option, Some, None, inl, inr}
 use Rattle.std.specs.Prelude.{codes}
@@ -50,7 +51,7 @@ rest_none : (ks : List (List ℕ)) (more : List Part) → map key ks ++ more ≡
 rest_none [] more e = e
 rest_none (k ∷ ks) more e = absurd cc
 
-one_step : (p : Part) (n : ℕ) (name : Option Name) (more : List Part) → p ∷ [] ≡ step n name ++ more → more ≡ []
+pub one_step : (p : Part) (n : ℕ) (name : Option Name) (more : List Part) → p ∷ [] ≡ step n name ++ more → more ≡ []
 one_step p n None more e = let k : [] ≡ more = cc in sym k
 one_step p n (Some name) more e =
     rest_none (map further_value name.key.more) more
@@ -64,7 +65,7 @@ module _ (act : Act) (rootless : (v : Value) → act [] v ≡ None) where
       (act [] v)) (no_entry act 0 v.nested) ∙ rootless v
   at_end v (q ∷ qs) e = absurd cc
 
-  nothing_deeper : (p : Part) (n : ℕ) (es : Entries) → in_entries act (p ∷ []) n es ≡ None
+  pub nothing_deeper : (p : Part) (n : ℕ) (es : Entries) → in_entries act (p ∷ []) n es ≡ None
   nothing_deeper p n none = refl
   nothing_deeper p n (entry name body nested after comma rest) =
       by (strip (step n name) (p ∷ [])) refl (nothing_deeper p (n + 1) rest)
@@ -80,19 +81,19 @@ module _ (act : Act) (rootless : (v : Value) → act [] v ≡ None) where
 
 -- ---- at the array
 
-some_named : (p : List Part) (ms : List Mention) → SomeOf (IsAloneAt p) ms → SomeOf (IsNamedAt (p ++ [])) ms
+pub some_named : (p : List Part) (ms : List Mention) → SomeOf (IsAloneAt p) ms → SomeOf (IsNamedAt (p ++ [])) ms
 some_named p [] s = absurd s
 some_named p (m ∷ ms) (inl a) = inl (a.path ∙ sym (append-nil p))
 some_named p (m ∷ ms) (inr s) = inr (some_named p ms s)
 
-gives_here : {A B : Type 0} (outer : A → B) (left right : List ℕ) (i : Option (Changed A)) (o : Option (Changed B))
+pub gives_here : {A B : Type 0} (outer : A → B) (left right : List ℕ) (i : Option (Changed A)) (o : Option (Changed B))
     (x : Changed B) → i ≡ None → IsSome o
     → Gives (or_else o (Some x)) (or_else (within outer left right i) o)
 gives_here outer left right None (Some c) x e h = refl
 gives_here outer left right None None x e h = absurd h
 gives_here outer left right (Some d) o x e h = absurd cc
 
-there_too : (a : List Part) (ms : List Mention) (f : Fact) → fact_at a ms ≡ Some f → fact_at (a ++ []) ms ≡ Some f
+pub there_too : (a : List Part) (ms : List Mention) (f : Fact) → fact_at a ms ≡ Some f → fact_at (a ++ []) ms ≡ Some f
 there_too a ms f at = ap (λ (x : List Part). fact_at x ms) (append-nil a) ∙ at
 
 -- ---- an item comes

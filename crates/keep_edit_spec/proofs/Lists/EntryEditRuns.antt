@@ -1,4 +1,4 @@
--- A run of edits goes on by an insert or a remove of an entry, as by the set of the value that holds it.
+-- A run of edits goes on by an edit of an entry, as by the set of the value that holds it.
 --
 -- That set makes its change after the run (`later`), where the value's bytes are as before (`kept`). So the edit does
 -- what the set does there (EntryEdits), and the run with the set is one with the edit.
@@ -15,7 +15,7 @@ use Rattle.keep_edit_spec.specs.Laws.{IsEditable, IsLawfulEdit}
 use Rattle.keep_edit_spec.specs.Runs.{IsRun, IsRunLonger}
 use Rattle.keep_edit_spec.specs.SetValues.{SetsValue}
 use Rattle.keep_edit_spec.specs.TextChanges.{IsBeside, TextChange, moved_past, with_change}
-use Rattle.keep_edit_spec.proofs.EditLaws.{insert_lawful, remove_lawful}
+use Rattle.keep_edit_spec.proofs.EditLaws.{insert_lawful, remove_lawful, rename_lawful, set_lawful}
 use Rattle.keep_edit_spec.proofs.Lists.EntryEdits.{of_itself, still_makes_set}
 use Rattle.keep_edit_spec.proofs.Lists.MadeChanges.{within_text}
 use Rattle.keep_edit_spec.proofs.Lists.RunLaws.{run_goes_on}
@@ -27,8 +27,10 @@ pub entry_lawful : (profile : Profile) (limit : ℕ) (s : Document) (e : Edit) (
 entry_lawful profile limit s (insert path new) a value c fine h =
     insert_lawful profile limit s path new fine h.of_entry.given h.of_entry.utf8 h.allowed
 entry_lawful profile limit s (remove path) a value c fine h = remove_lawful profile limit s path fine h.allowed
-entry_lawful profile limit s (set path new) a value c fine h = absurd h.of_entry
-entry_lawful profile limit s (rename path name) a value c fine h = absurd h.of_entry
+entry_lawful profile limit s (set path new) a value c fine h =
+    set_lawful profile limit s path new fine h.of_entry.given h.allowed
+entry_lawful profile limit s (rename path name) a value c fine h =
+    rename_lawful profile limit s path name fine h.of_entry.utf8 h.allowed
 entry_lawful profile limit s (append_table keys) a value c fine h = absurd h.of_entry
 entry_lawful profile limit s (append_element keys) a value c fine h = absurd h.of_entry
 

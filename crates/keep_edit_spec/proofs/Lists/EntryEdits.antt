@@ -1,10 +1,10 @@
--- An insert or a remove of an entry makes of any document what the set of the value that holds it makes, if the edit of
--- that entry does so of one in which a value has the same text, at the same path or at another. The entry is an item of
--- an array or a keyval of an inline table.
+-- An edit of an entry makes of any document what the set of the value that holds it makes, if the edit of that entry
+-- does so of one in which a value has the same text, at the same path or at another. The entry is an item of an array
+-- or a keyval of an inline table.
 --
--- What it makes is told by EntryMade, and of an insert by EntryInserts, with why it is not refused. A remove is not
--- refused where the entry has a value, and it has one there too. The two paths go on by one step, which the path of the
--- first edit tells (`one_step`).
+-- What it makes is told by EntryMade, and of an insert by EntryInserts, of a set by EntrySets and of a rename by
+-- EntryRenames, each with why it is not refused. A remove is not refused where the entry has a value, and it has one
+-- there too. The two paths go on by one step, which the path of the first edit tells (`one_step`).
 --
 -- Theorems: `still_makes_set`; `of_itself`: an edit is of the same entry as itself.
 use Rattle.std.proofs.Common.{◌≡◌, ℕ, Bool, true, false, not, ◌||◌, List, [], ◌∷◌, ◌++◌, take, drop, refl, sym, ap}
@@ -20,7 +20,7 @@ use Rattle.keep_meaning.specs.Nodes.{fact_at, is_node, is_root}
 use Rattle.keep_edit_spec.specs.declared.fault.EditFault.TheVariants as fault
 use Rattle.keep_edit_spec.specs.Edits.{Edit, append_element, append_table, edited_document, insert, remove, rename, set}
 use Rattle.keep_edit_spec.specs.EntryEdits.{AreOfSameEntry, AreSameEntry, CanHold, InsertsEntry, MakesSet, RemovesEntry}
-use Rattle.keep_edit_spec.specs.EntryEdits.{StillMakesSet}
+use Rattle.keep_edit_spec.specs.EntryEdits.{RenamesEntry, SetsEntry, StillMakesSet}
 use Rattle.keep_edit_spec.specs.Laws.{IsEditable}
 use Rattle.keep_edit_spec.specs.Look.{keys_in, last_part}
 use Rattle.keep_edit_spec.specs.Refusals.{first_that_holds, has_value, is_one_piece, refusal, refusal_by}
@@ -31,6 +31,8 @@ use Rattle.keep_edit_spec.proofs.Common.ValueThere.{alone_of_has}
 use Rattle.keep_edit_spec.proofs.Lists.AtHolder.{take_at}
 use Rattle.keep_edit_spec.proofs.Lists.EntryInserts.{insert_allowed, insert_same, keyval_allowed, keyval_same, no_root}
 use Rattle.keep_edit_spec.proofs.Lists.EntryMade.{remove_there, same_fact, same_valued, still_same}
+use Rattle.keep_edit_spec.proofs.Lists.EntryRenames.{rename_allowed, rename_same}
+use Rattle.keep_edit_spec.proofs.Lists.EntrySets.{set_allowed, set_same}
 use Rattle.keep_edit_spec.proofs.Lists.SetAllowed.{node_alone}
 
 -- ---- the refusal of a remove
@@ -70,8 +72,12 @@ of_itself profile limit s (insert path new) a value c h =
 of_itself profile limit s (remove path) a value c h =
     let entry : RemovesEntry s a path = h.of_entry in
     record { part = entry.part; is = entry.is; there = entry.is }
-of_itself profile limit s (set path new) a value c h = absurd h.of_entry
-of_itself profile limit s (rename path name) a value c h = absurd h.of_entry
+of_itself profile limit s (set path new) a value c h =
+    let entry : SetsEntry s a path new = h.of_entry in
+    (record { part = entry.part; is = entry.is; there = entry.is }, refl)
+of_itself profile limit s (rename path name) a value c h =
+    let entry : RenamesEntry s a path name = h.of_entry in
+    (record { part = entry.part; is = entry.is; there = entry.is }, refl)
 of_itself profile limit s (append_table keys) a value c h = absurd h.of_entry
 of_itself profile limit s (append_element keys) a value c h = absurd h.of_entry
 
@@ -157,6 +163,58 @@ module _ (profile : Profile) (limit : ℕ) (s : Document) (a : List Part) (value
             (remove (b ++ part ∷ [])) (remove_there profile limit now b value d fine_now to part still));
       }
 
+  of_set : (path more : List Part) (new : Value) → AreSameEntry a path b more
+      → MakesSet profile limit s (set path new) a value c → MakesSet profile limit now (set more new) b value d
+  of_set path more new entry h =
+      let part : Part = h.of_entry.part in
+      let is : path ≡ a ++ part ∷ [] = h.of_entry.is in
+      let is_there : more ≡ b ++ part ∷ [] = there_by a path b more part is entry in
+      let allowed : refusal profile limit s (set (a ++ part ∷ []) new) ≡ None =
+      subst (λ (p : List Part). refusal profile limit s (set p new) ≡ None) is h.allowed in
+      let sets : edited_document s (set (a ++ part ∷ []) new) ≡ edited_document s (set a value) =
+      subst (λ (p : List Part). edited_document s (set p new) ≡ edited_document s (set a value)) is h.same in
+      record {
+        of_entry = record {
+          part = part;
+          is = is_there;
+          holds = can_hold h.sets part h.of_entry.holds;
+          given = h.of_entry.given;
+        };
+        allowed = subst (λ (p : List Part). refusal profile limit now (set p new) ≡ None) (sym is_there)
+            (set_allowed profile limit s a value c now b d fine fine_now h.sets to same part new h.of_entry.holds
+            allowed sets);
+        sets = to;
+        same = subst (λ (p : List Part). edited_document now (set p new) ≡ edited_document now (set b value))
+            (sym is_there)
+            (set_same profile limit s a value c now b d fine fine_now h.sets to same part new h.of_entry.holds
+            allowed sets);
+      }
+
+  of_rename : (path more : List Part) (name : List ℕ) → AreSameEntry a path b more
+      → MakesSet profile limit s (rename path name) a value c → MakesSet profile limit now (rename more name) b value d
+  of_rename path more name entry h =
+      let part : Part = h.of_entry.part in
+      let is : path ≡ a ++ part ∷ [] = h.of_entry.is in
+      let is_there : more ≡ b ++ part ∷ [] = there_by a path b more part is entry in
+      let allowed : refusal profile limit s (rename (a ++ part ∷ []) name) ≡ None =
+      subst (λ (p : List Part). refusal profile limit s (rename p name) ≡ None) is h.allowed in
+      let sets : edited_document s (rename (a ++ part ∷ []) name) ≡ edited_document s (set a value) =
+      subst (λ (p : List Part). edited_document s (rename p name) ≡ edited_document s (set a value)) is h.same in
+      record {
+        of_entry = record {
+          part = part;
+          is = is_there;
+          holds = can_hold h.sets part h.of_entry.holds;
+          utf8 = h.of_entry.utf8;
+        };
+        allowed = subst (λ (p : List Part). refusal profile limit now (rename p name) ≡ None) (sym is_there)
+            (rename_allowed profile limit s a value c now b d fine fine_now h.sets to same part name allowed sets);
+        sets = to;
+        same = subst (λ (p : List Part). edited_document now (rename p name) ≡ edited_document now (set b value))
+            (sym is_there)
+            (rename_same profile limit s a value c now b d fine fine_now h.sets to same part name allowed sets);
+      }
+
   of_edits : (e f : Edit) → MakesSet profile limit s e a value c → AreOfSameEntry a e b f
       → MakesSet profile limit now f b value d
   of_edits (insert path new) (insert more other) h (entry, alike, utf8) =
@@ -173,8 +231,22 @@ module _ (profile : Profile) (limit : ℕ) (s : Document) (a : List Part) (value
   of_edits (remove path) (rename more name) h entry = absurd entry
   of_edits (remove path) (append_table keys) h entry = absurd entry
   of_edits (remove path) (append_element keys) h entry = absurd entry
-  of_edits (set path new) f h entry = absurd h.of_entry
-  of_edits (rename path name) f h entry = absurd h.of_entry
+  of_edits (set path new) (set more other) h (entry, alike) =
+      subst (λ (v : Value). MakesSet profile limit now (set more v) b value d) (sym alike)
+      (of_set path more new entry h)
+  of_edits (set path new) (insert more other) h entry = absurd entry
+  of_edits (set path new) (remove more) h entry = absurd entry
+  of_edits (set path new) (rename more name) h entry = absurd entry
+  of_edits (set path new) (append_table keys) h entry = absurd entry
+  of_edits (set path new) (append_element keys) h entry = absurd entry
+  of_edits (rename path name) (rename more other) h (entry, alike) =
+      subst (λ (k : List ℕ). MakesSet profile limit now (rename more k) b value d) (sym alike)
+      (of_rename path more name entry h)
+  of_edits (rename path name) (insert more other) h entry = absurd entry
+  of_edits (rename path name) (remove more) h entry = absurd entry
+  of_edits (rename path name) (set more other) h entry = absurd entry
+  of_edits (rename path name) (append_table keys) h entry = absurd entry
+  of_edits (rename path name) (append_element keys) h entry = absurd entry
   of_edits (append_table keys) f h entry = absurd h.of_entry
   of_edits (append_element keys) f h entry = absurd h.of_entry
 

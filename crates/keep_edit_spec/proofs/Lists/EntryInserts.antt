@@ -5,7 +5,8 @@
 -- since its path names no node there either, and the value is an inline table too. It is not too deep, since the set
 -- there is not, whose value is deeper than the entry by one (EntryDepth).
 --
--- Theorems: `insert_allowed`, `insert_same`: of an item; `keyval_allowed`, `keyval_same`: of a keyval.
+-- Theorems: `insert_allowed`, `insert_same`: of an item; `keyval_allowed`, `keyval_same`: of a keyval; `deeper`,
+-- `shallow`: of the depth of an entry.
 use Rattle.std.proofs.Common.{◌≡◌, ℕ, suc, ◌+◌, ◌≤◌, Bool, true, false, not, ◌&&◌, List, [], ◌∷◌, ◌++◌, length}
 use Rattle.std.proofs.Common.{take, drop, refl, sym, ap, subst, ◌∙◌, arith, Some, None, inl, inr}
 use Rattle.std.specs.List.{list_any}
@@ -100,7 +101,7 @@ keyval_unrefused profile limit a k new ms node table free shallow own =
         ap (λ (h : List Part). list_any is_index (drop (length h) (a ++ key k ∷ []))) holds
         ∙ ap (list_any is_index) (drop_prefix_parts a (key k ∷ []))
 
-inline_body : (body : Body) → Some (body_fact body) ≡ Some fact.inline → is_inline body ≡ true
+pub inline_body : (body : Body) → Some (body_fact body) ≡ Some fact.inline → is_inline body ≡ true
 inline_body body e = table_body body (ap is_table_fact e)
 
 -- ---- in another document
@@ -119,7 +120,7 @@ module _ (profile : Profile) (limit : ℕ) (s : Document) (a : List Part) (value
       ∙ ap (λ (p : List Part). fact_at p (mentions_in s)) (append-nil a) ∙ at
 
   -- the set's value is deeper than the entry
-  deeper : (act : Act) (e : Edit) (new : Value)
+  pub deeper : (act : Act) (e : Edit) (new : Value)
       → IsMadeThere act was (there profile limit s a value c fine h).outer (edited_document s e)
       → edited_document s e ≡ edited_document s (set a value)
       → EachTo (λ u. suc (value_depth new) ≤ value_depth u) (act [] was) → suc (value_depth new) ≤ value_depth value
@@ -128,7 +129,7 @@ module _ (profile : Profile) (limit : ℕ) (s : Document) (a : List Part) (value
       (made_is profile limit s a value c now b d fine fine_now h k same act e x sets)
       (subst (EachTo (λ u. suc (value_depth new) ≤ value_depth u)) x.by deep)
 
-  shallow : (p : Part) (new : Value) → suc (value_depth new) ≤ value_depth value
+  pub shallow : (p : Part) (new : Value) → suc (value_depth new) ≤ value_depth value
       → is_too_deep limit (b ++ p ∷ []) new (mentions_in now) ≡ false
   shallow p new deep =
       le-ltb limit (enclosing (b ++ p ∷ []) (mentions_in now) + value_depth new)

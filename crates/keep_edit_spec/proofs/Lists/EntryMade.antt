@@ -3,10 +3,10 @@
 --
 -- It is done at that value (EntryActs, ValueSet), which is the same in both documents, since a text is that of one
 -- value. So if it makes of the value in one what the set of the value makes there, the edit of the entry in the other
--- does (`still_same`). The same is said at the path of the value and below it (`same_fact`, `same_node`).
+-- does (`still_same`). The same is said at the path of the value and below it (`same_fact`, `same_kinds`, `same_node`).
 --
--- Theorems: `insert_there`, `insert_keyval_there`, `remove_there`: it is done at the value; `still_same`; `made_is`,
--- `facts`, `same_fact`, `same_node`.
+-- Theorems: `made_by`: what is done at the value; `insert_there`, `insert_keyval_there`, `remove_there`: it is;
+-- `still_same`; `made_is`, `facts`, `same_fact`, `same_kinds`, `same_node`.
 use Rattle.std.proofs.Common.{◌≡◌, ℕ, Bool, true, false, List, [], ◌∷◌, ◌++◌, take, drop, refl, sym, ap}
 use Rattle.std.proofs.Common.{◌∙◌, Option, Some, None}
 use Rattle.std.specs.List.{list_any}
@@ -66,7 +66,7 @@ module _ (profile : Profile) (limit : ℕ) (s : Document) (a : List Part) (value
       → kinds_at (a ++ p ∷ ps) (mentions_in s) ≡ kinds_at (p ∷ ps) (mentions_of_value its)
   kinds = value_set.kinds profile limit s a value c fine h
 
-  made_by : (act : Act) → IsAtEnd act → CanBeDone act → (e : Edit)
+  pub made_by : (act : Act) → IsAtEnd act → CanBeDone act → (e : Edit)
       → ((x : Changed Document) → nested act a s ≡ Some x → edited_document s e ≡ x.to)
       → IsMadeThere act its there.outer (edited_document s e)
   made_by act ends can e does =
@@ -95,7 +95,7 @@ module _ (profile : Profile) (limit : ℕ) (s : Document) (a : List Part) (value
       (λ x e. ap (λ (o : Option (Changed Document)). (changed_or_same s o).to)
       (inserted_keyval profile limit s a k new x fine at free e))
 
-  holder_valued : has_value a (mentions_in s) ≡ true
+  pub holder_valued : has_value a (mentions_in s) ≡ true
   holder_valued = (settable profile limit a value (mentions_in s) h.allowed).valued
 
   pub remove_there : (p : Part) → has_value (a ++ p ∷ []) (mentions_in s) ≡ true
@@ -151,14 +151,17 @@ module _ (profile : Profile) (limit : ℕ) (s : Document) (a : List Part) (value
       → has_value (b ++ p ∷ []) (mentions_in now) ≡ has_value (a ++ p ∷ []) (mentions_in s)
   same_valued p = ap value_of (same_below (p ∷ []))
 
+  pub same_kinds : (p : Part) → kinds_at (b ++ p ∷ []) (mentions_in now) ≡ kinds_at (a ++ p ∷ []) (mentions_in s)
+  same_kinds p =
+      kinds profile limit now b value d fine_now k p []
+      ∙ ap (λ (v : Value). kinds_at (p ∷ []) (mentions_of_value v)) same_values
+      ∙ sym (kinds profile limit s a value c fine h p [])
+
   pub same_node : (p : Part)
       → list_any (is_at (b ++ p ∷ [])) (mentions_in now) ≡ list_any (is_at (a ++ p ∷ [])) (mentions_in s)
   same_node p =
       mentioned_by (b ++ p ∷ []) (mentions_in now)
-      ∙ ap (λ (l : List MentionKind). list_any (λ x. true) l)
-      (kinds profile limit now b value d fine_now k p []
-      ∙ ap (λ (v : Value). kinds_at (p ∷ []) (mentions_of_value v)) same_values
-      ∙ sym (kinds profile limit s a value c fine h p []))
+      ∙ ap (λ (l : List MentionKind). list_any (λ x. true) l) (same_kinds p)
       ∙ sym (mentioned_by (a ++ p ∷ []) (mentions_in s))
 
   module _ (act : Act) (e : Edit)

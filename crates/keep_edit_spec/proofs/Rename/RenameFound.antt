@@ -7,7 +7,7 @@
 -- number can be renamed (`content_there`). In entries the mention is in the first entry or in a later one, and in both
 -- cases there is a change (`keyed_there`, `further_there`).
 --
--- Theorem: `some_rename`.
+-- Theorems: `entries_there`: in entries; `some_rename`.
 use Rattle.std.proofs.Common.{◌≡◌, ℕ, zero, suc, ◌+◌, ◌<◌, Bool, true, false, cond, List, [], ◌∷◌, ◌++◌, length, map}
 use Rattle.std.proofs.Common.{get_or, refl, sym, ap, subst, ◌∙◌, append_assoc, arith, Option, Some, None, ◌⊎◌, inl, inr}
 use Rattle.std.specs.Prelude.{codes, position, ◌==◌}
@@ -66,7 +66,7 @@ further_there profile place new q qs (Some name) body nested after comma rest na
 filled_by : (es : Entries) (more : List Part) → SomeOf (IsSolidAt more) (entries_mentions 0 es) → more ≡ [] → ⊥
 filled_by es more s e = entries_root 0 es (subst (λ (q : List Part). SomeOf (IsSolidAt q) (entries_mentions 0 es)) e s)
 
-entries_there : (profile : Profile) (new : Written) (place : Place) (p : List Part) → EndsInKey p
+pub entries_there : (profile : Profile) (new : Written) (place : Place) (p : List Part) → EndsInKey p
     → (n : ℕ) (es : Entries) → AreEntries profile place es → Rules (entries_mentions n es)
     → SomeOf (IsSolidAt p) (entries_mentions n es)
     → IsThere new p n es
