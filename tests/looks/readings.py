@@ -9,8 +9,8 @@ these crates where READ_BY says, once in each of these functions, and nowhere el
 document's text for a list of edits, once, and `with_changes` the text after many edits of a list that are made at once; and
 where a value changes the index, its own text is read once more: that of a given value by `nodes_of_value` or `set_value`, that
 of a touched line's value by `set_inside`. For a list of edits `holder_set` reads the text that a value has with an entry more or less, and
-where an edit of the list has set a short value and another one is of an entry of it, `change_in` reads that value, `edit_alone`
-the one that is inserted, and `value_made` the text that the first has then. That is where the places of its entries don't tell it:
+where an edit of the list has set a short value and another one is of an entry of it, `change_in` reads that value, `same_value`
+the one that is inserted or set, and `value_made` the text that the first has then. That is where the places of its entries don't tell it:
 `take` reads such a value with these places, once for all edits of it, and of an inline table the keys are read where they stand.
 
 Comments, contracts and proofs are not looked at. The functions are found by the layout of `rt fmt` (bodies.py).
@@ -69,7 +69,7 @@ READ_BY = {
         "keep_edit_plan document::DocumentRef::holder_set",
         "keep_edit_runs before::Before::value_made",
         # and the value that is inserted there
-        ALONE + "edit_alone",
+        ALONE + "same_value",
     ],
     "read_owned_in": [DOCUMENT + "read_owned"],
     "read_owned": [],

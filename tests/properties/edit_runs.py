@@ -429,19 +429,24 @@ class Run:
         return holders
 
     def part(self, path, count, is_array, again=False):
-        """An edit of an entry of one of these, and how many it has then: one is inserted or removed; now and then one that can't
-        be. Of a table that comes again the last key is removed, so that its keys stay k0, k1 and so on."""
+        """An edit of an entry of one of these, and how many it has then: one is inserted, removed or set, or a key renamed; now and
+        then one that can't be. Of a table that comes again the last key is removed or renamed, so that its keys stay k0, k1 and so
+        on, and those that were renamed."""
         random = self.random
         at = random.randrange(count + 1)
         step = lambda number: path + (b"[%d]" if is_array else b".k%d") % number
+        if count and random.random() < 0.3:
+            if is_array or random.random() < 0.5:
+                return edit_of(b"set", step(random.randrange(count)), value_of(random)), count
+            return edit_of(b"rename", step(count - 1), key=random.choice(KEYS) + b"_part_%d" % random.randrange(1000)), count - 1
         if at < count and (is_array or at == count - 1 or not again) and random.random() < 0.5:
             return edit_of(b"remove", step(at)), count - 1
         end = at if is_array and random.random() < 0.99 else count + (random.random() < 0.01)
         return edit_of(b"insert", step(end), value_of(random)), count + 1
 
     def parts(self):
-        """Entries of arrays and inline tables, mostly one of each, and sets between; in half of the lists many of few values, in a
-        row or coming back to them; now and then a second one."""
+        """Edits of entries of arrays and inline tables, mostly one of each, and sets of these between; in half of the lists many of
+        few values, in a row or coming back to them; now and then a second one."""
         random, holders = self.random, self.with_holders()
         random.shuffle(holders)
         edits = []
@@ -492,7 +497,12 @@ class Run:
         for number, path in enumerate(paths):
             kind = random.choice((b"insert", b"insert", b"remove", b"remove", b"set", b"rename", b"table", b"element"))
             if holders and random.random() < 0.3:
-                edits.append(self.part(*holders.pop())[0])
+                at = random.randrange(len(holders))
+                edit, count = self.part(*holders[at], again=True)
+                edits.append(edit)
+                holders[at] = (holders[at][0], count, holders[at][2])
+                if random.random() < 0.5:
+                    holders.pop(at)
             elif left and random.random() < 0.3:
                 edits.append(edit_of(b"remove", left.pop(random.randrange(len(left)))))
             elif any(arrays.values()) and random.random() < 0.3:

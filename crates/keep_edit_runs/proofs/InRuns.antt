@@ -3,12 +3,11 @@
 -- The holder's path is that of the entry without its last step.
 --
 -- Theorems: `by_itself`, `line_in_run`, `other_in_run`, `by_set`, `by_places`; `again`: a set of a value that is set
--- already; `entry_again`: an edit of an entry of one; `holder_first`, `has_path`, `same_place`: the holder's path, the
--- edit's, and its place.
+-- already; `entry_again`: an edit of an entry of one; `holder_first`, `same_place`: the holder's path, and its place.
 use Rattle.std.proofs.Common.{◌≡◌, ◌∷◌, ◌++◌, [], List, refl, sym, ap, subst, ◌∙◌, inl, inr, Option, Some, None}
 use Rattle.std.proofs.Common.{false, true, string_bytes, ℕ, suc, ◌-◌, arith, length, take, get_or, Bool, not, ap₂}
 use Rattle.std.proofs.Common.{eqb-true, take-suc, take_all, drop}
-use Rattle.std.specs.Prelude.{◌⊎◌, ◌&&◌, ◌==◌, Err, IfOk, IfSome, Ok, Result, slice_range}
+use Rattle.std.specs.Prelude.{◌&&◌, ◌==◌, Err, IfOk, IfSome, Ok, Result, slice_range}
 use Rattle.std.specs.Result.{result_ok}
 use Rattle.keep_types.specs.declared.leaf.Profile.TheVariants.{Wide}
 use Rattle.keep_types.specs.declared.syntax.Span.{Span}
@@ -23,7 +22,7 @@ use Rattle.keep_edit_spec.proofs.Shared.{kind_is, without_last-snoc}
 use Rattle.keep_edit_plan.specs.Headers.{key_texts}
 use Rattle.keep_edit_plan.proofs.Shared.{editable}
 use Rattle.keep_edit_spec.specs.Runs as runs
-use Rattle.keep_edit_spec.specs.Runs.{MakesChange, path_of}
+use Rattle.keep_edit_spec.specs.Runs.{MakesChange}
 use Rattle.keep_edit_spec.specs.TextChanges.{TextChange, change_at}
 use Rattle.keep_edit_plan.specs.TextEdits.{HasChange, MakesChangeHere, MakesSetHere, change_of}
 use Rattle.keep_edit_plan.specs.declared.edit.Edit.{Edit}
@@ -35,7 +34,7 @@ use Rattle.keep_edit_plan.specs.Reading.{IsAcceptedValue, IsTextOfTree, IsTextOf
 use Rattle.keep_edit_runs.specs.Runs.{IsOfKind, IsSeenAs, IsSetBy, MakesInRunHere, MakesItselfHere, SetsAgainHere}
 use Rattle.keep_edit_runs.specs.Runs.{SetsHolderHere, no_value, outline}
 use Rattle.keep_edit_runs.specs.Runs.{plain}
-use Rattle.keep_edit_runs.specs.ValueAfter.{MakesValue}
+use Rattle.keep_edit_runs.specs.ValueAfter.{HasPath, MakesValue}
 use Rattle.keep_edit_runs.specs.declared.outline.Outline.{Outline}
 use Rattle.keep_edit_runs.specs.declared.at_once.RunEdit.{RunEdit}
 use Rattle.keep_edit_runs.specs.declared.outline.SeenAs.{SeenAs}
@@ -55,8 +54,12 @@ module _ (now : ProfiledText) (s : Document) (read : IsTextOfTree now s) where
   plain_itself (edit.Remove p) e Itself other h is = plain_seen e (law.remove p) is
   plain_itself (edit.Remove p) e Entry other h is = absurd (other refl)
   plain_itself (edit.Remove p) e (FirstKey n) other h is = plain_seen e (law.remove p) is
-  plain_itself (edit.Set p w) e how other h (v, text, is) = plain_seen e (law.set p v) is
-  plain_itself (edit.Rename p w) e how other h is = plain_seen e (law.rename p (string_bytes w)) is
+  plain_itself (edit.Set p w) e Itself other h (v, text, is) = plain_seen e (law.set p v) is
+  plain_itself (edit.Set p w) e Entry other h (v, text, is) = absurd (other refl)
+  plain_itself (edit.Set p w) e (FirstKey n) other h (v, text, is) = plain_seen e (law.set p v) is
+  plain_itself (edit.Rename p w) e Itself other h is = plain_seen e (law.rename p (string_bytes w)) is
+  plain_itself (edit.Rename p w) e Entry other h is = absurd (other refl)
+  plain_itself (edit.Rename p w) e (FirstKey n) other h is = plain_seen e (law.rename p (string_bytes w)) is
   plain_itself (edit.Table ks) e how other h is = plain_seen e (law.append_table (key_texts ks.items)) is
   plain_itself (edit.Element ks) e how other h is = plain_seen e (law.append_element (key_texts ks.items)) is
 
@@ -75,9 +78,11 @@ module _ (s : Document) (holder : List Part) where
       let entry : IsOfEntry s holder (law.remove p) = subst (IsOfEntry s holder) is h in
       set_at holder p entry.part entry.is
   plain_set (edit.Set p w) e (v, text, is) h =
-      let no : IsOfEntry s holder (law.set p v) = subst (IsOfEntry s holder) is h in absurd no
+      let entry : IsOfEntry s holder (law.set p v) = subst (IsOfEntry s holder) is h in
+      set_at holder p entry.part entry.is
   plain_set (edit.Rename p w) e is h =
-      let no : IsOfEntry s holder (law.rename p (string_bytes w)) = subst (IsOfEntry s holder) is h in absurd no
+      let entry : IsOfEntry s holder (law.rename p (string_bytes w)) = subst (IsOfEntry s holder) is h in
+      set_at holder p entry.part entry.is
   plain_set (edit.Table ks) e is h =
       let no : IsOfEntry s holder (law.append_table (key_texts ks.items)) = subst (IsOfEntry s holder) is h in
       absurd no
@@ -147,17 +152,6 @@ by_set now x (Some t) h = record {
   makes = λ s read. inr (h.holder, h.value, refl, h.makes s read);
   within = h.within;
 }
-
--- the edit has that path
-abbrev pub HasPath : Edit → List Part → Type 0
-HasPath x path = (e : law.Edit) → IsEdit x e → path_of e ≡ path
-
-pub has_path : (x : Edit) (path : List Part)
-    → ((value : List ℕ) × (x ≡ edit.Insert path value)) ⊎ (x ≡ edit.Remove path) → HasPath x path
-has_path x path (inl (value, is)) e h =
-    let (v, text, same) = subst (λ (y : Edit). IsEdit y e) is h in ap path_of same
-has_path x path (inr is) e h =
-    let same : e ≡ law.remove path = subst (λ (y : Edit). IsEdit y e) is h in ap path_of same
 
 -- an edit of an entry of the value in this place, by the set of the value to what it makes of that
 pub by_places : (now : ProfiledText) (x : Edit) (path : List Part) (place : Span) (was new : List ℕ)

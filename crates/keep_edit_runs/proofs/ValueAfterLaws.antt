@@ -8,7 +8,7 @@
 -- Theorems: `alone_path`: the path of the entry there; `makes_value`.
 use Rattle.std.proofs.Common.{◌≡◌, ℕ, ◌-◌, List, [], ◌∷◌, ◌++◌, length, take, drop, refl, sym, ap, ap₂, subst, ◌∙◌}
 use Rattle.std.proofs.Common.{◌≤◌, arith, codes, length-append, slice_get, string_bytes, suc, take-suc, take_all}
-use Rattle.std.proofs.Common.{Err, IsUtf8, Ok, Result, Some}
+use Rattle.std.proofs.Common.{Err, Global, IsUtf8, Ok, Result, Some, String}
 use Rattle.std.specs.List.{AllByRecursion}
 use Rattle.std.specs.Prelude.{IfOk, IfSome}
 use Rattle.std.specs.Result.{result_ok}
@@ -162,12 +162,54 @@ module _ (profile : Profile) (was bytes : List ℕ) (t : TextEdit) (is : bytes �
             (same_entry path alone h.holder other part made.of_entry.part entry made.of_entry.is there);
       }
 
+  by_set : (path alone : List Part) (given : List ℕ) → IsAlonePath path alone
+      → MakesSetHere (text_in profile bytes) (edit.Set alone given) t
+      → MakesValue profile was (edit.Set path given) (string_bytes t.new)
+  by_set path alone given entry h =
+      let (v, text_is, e_is) = h.is in
+      let made : MakesSet profile limit s (law.set alone v) h.holder h.value (change_of t) =
+      subst (λ (e : law.Edit). MakesSet profile limit s e h.holder h.value (change_of t)) e_is (h.makes s read) in
+      record {
+        edit = law.set path v;
+        is = (v, text_is, refl);
+        value = h.value;
+        text_is =
+            written profile s h.holder h.value (change_of t) (editable (text_in profile bytes) s read) made.sets;
+        makes = λ u other part d there fine sets here.
+            still (law.set alone v) (law.set path v) h.holder h.value made u other d fine sets here
+            (same_entry path alone h.holder other part made.of_entry.part entry made.of_entry.is there, refl);
+      }
+
+  by_rename : (path alone : List Part) (name same : String Global) → string_bytes same ≡ string_bytes name
+      → IsAlonePath path alone
+      → MakesSetHere (text_in profile bytes) (edit.Rename alone same) t
+      → MakesValue profile was (edit.Rename path name) (string_bytes t.new)
+  by_rename path alone name same alike entry h =
+      let made : MakesSet profile limit s (law.rename alone (string_bytes same)) h.holder h.value (change_of t) =
+      subst (λ (e : law.Edit). MakesSet profile limit s e h.holder h.value (change_of t)) h.is (h.makes s read) in
+      record {
+        edit = law.rename path (string_bytes name);
+        is = refl;
+        value = h.value;
+        text_is =
+            written profile s h.holder h.value (change_of t) (editable (text_in profile bytes) s read) made.sets;
+        makes = λ u other part d there fine sets here.
+            still (law.rename alone (string_bytes same)) (law.rename path (string_bytes name)) h.holder h.value made u
+            other d fine sets here
+            (same_entry path alone h.holder other part made.of_entry.part entry made.of_entry.is there, sym alike);
+      }
+
   by_edits : (x y : Edit) → IsAlone x y → MakesSetHere (text_in profile bytes) y t
       → MakesValue profile was x (string_bytes t.new)
   by_edits (edit.Insert path value) (edit.Insert alone same) (alike, entry) h =
       by_insert path alone value entry
       (subst (λ (v : List ℕ). MakesSetHere (text_in profile bytes) (edit.Insert alone v) t) alike h)
   by_edits (edit.Remove path) (edit.Remove alone) entry h = by_remove path alone entry h
+  by_edits (edit.Set path value) (edit.Set alone same) (alike, entry) h =
+      by_set path alone value entry
+      (subst (λ (v : List ℕ). MakesSetHere (text_in profile bytes) (edit.Set alone v) t) alike h)
+  by_edits (edit.Rename path name) (edit.Rename alone same) (alike, entry) h =
+      by_rename path alone name same alike entry h
   by_edits x y entry h = absurd entry
 
 -- What the edit alone makes of a document that has no more than the value, the edit makes wherever the value is.

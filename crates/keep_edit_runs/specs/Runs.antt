@@ -55,13 +55,19 @@ plain e = e
 -- An edit, as far as it tells which others it leaves alone: what it does, and its path and keys. One of an entry of a
 -- value sets that value, and an insert is that of its first new key.
 abbrev pub outline : Edit → SeenAs → law.Edit
-outline (Set path value) how = law.set path no_value
+outline (Set path value) how = elim how [
+  | Entry ↦ law.set (without_last path) no_value
+  | _ ↦ law.set path no_value
+]
 outline (Insert path value) how = elim how [
   | Itself ↦ law.insert path no_value
   | Entry ↦ law.set (without_last path) no_value
   | FirstKey n ↦ law.insert (take n path) no_value
 ]
-outline (Rename path name) how = law.rename path (string_bytes name)
+outline (Rename path name) how = elim how [
+  | Entry ↦ law.set (without_last path) no_value
+  | _ ↦ law.rename path (string_bytes name)
+]
 outline (Remove path) how = elim how [
   | Entry ↦ law.set (without_last path) no_value
   | _ ↦ law.remove path

@@ -1,5 +1,5 @@
 -- The value that an edit of an entry makes of the value that holds the entry, whatever document that is in.
-use Rattle.std.specs.Prelude.{◌≡◌, ℕ, List, [], ◌∷◌, ◌++◌, IsUtf8, codes, drop, take}
+use Rattle.std.specs.Prelude.{◌≡◌, ℕ, List, [], ◌∷◌, ◌++◌, IsUtf8, codes, drop, string_bytes, take}
 use Rattle.std.specs.List.{AllByRecursion}
 use Rattle.keep_types.specs.declared.leaf.Profile.{Profile}
 use Rattle.keep_syntax.specs.Tree.{Document, Value, text}
@@ -13,7 +13,7 @@ use Rattle.keep_edit_spec.specs.SetValues.{SetsValue}
 use Rattle.keep_edit_spec.specs.TextChanges.{TextChange}
 use Rattle.keep_edit_plan.specs.Given.{IsEdit}
 use Rattle.keep_edit_plan.specs.declared.edit.Edit.{Edit}
-use Rattle.keep_edit_plan.specs.declared.edit.Edit.TheVariants.{Insert, Remove}
+use Rattle.keep_edit_plan.specs.declared.edit.Edit.TheVariants.{Insert, Remove, Rename, Set}
 use Rattle.keep_edit_plan.specs.Reading.{IsTextOfValue, limit}
 
 -- The edit is of an entry. In any document in which the value that holds the entry has the text `was`, and can be set
@@ -26,6 +26,10 @@ pub record MakesValue (profile : Profile) (was : List ℕ) (x : Edit) (new : Lis
   pub makes : (u : Document) (path : List Part) (part : Part) (d : TextChange) → path_of edit ≡ path ++ part ∷ []
       → IsEditable profile limit u → SetsValue profile limit u path value d → take d.size (drop d.at (text u)) ≡ was
       → MakesSet profile limit u edit path value d
+
+-- a path that the edit has
+abbrev pub HasPath : Edit → List Part → Type 0
+HasPath x path = (e : law.Edit) → IsEdit x e → path_of e ≡ path
 
 -- a path with that last step
 abbrev pub EndsInStep : List Part → Part → Type 0
@@ -45,5 +49,7 @@ pub record IsAlonePath (path alone : List Part) : Type 0 where
 -- an edit of an entry, and the edit that does the same there
 abbrev pub IsAlone : Edit → Edit → Type 0
 IsAlone (Insert path value) (Insert alone same) = (same ≡ value) × IsAlonePath path alone
+IsAlone (Set path value) (Set alone same) = (same ≡ value) × IsAlonePath path alone
+IsAlone (Rename path name) (Rename alone same) = (string_bytes same ≡ string_bytes name) × IsAlonePath path alone
 IsAlone (Remove path) (Remove alone) = IsAlonePath path alone
 IsAlone _ _ = ⊥

@@ -1,6 +1,7 @@
 //! The values that hold entries: an edit of an entry is made as the set of the value that holds it.
 ghost use Rattle.std.specs.Prelude.{◌≡◌, ◌+◌, ◌++◌, ◌∷◌, ◌<◌, [], IfSome, None, Some, length};
 ghost use Rattle.keep_edit_runs.specs.Runs.{SetsHolderHere};
+ghost use Rattle.keep_edit_runs.specs.ValueAfter.{HasPath};
 ghost use Rattle.keep_path.specs.Path.{Part};
 
 use crate::before::Before;
@@ -12,6 +13,22 @@ use std::alloc::Global;
 /// A value of no more bytes is read anew for an edit of an entry of it where the entries' places don't tell what it
 /// makes, whatever the length of the text.
 const SHORT_VALUE: usize = 1000;
+
+/// Among edits of several kinds a set or a rename of an entry of a value of no more bytes is made as the set of that
+/// value, so that its entries may come and go, too. By itself it would take less.
+const SHORT_HOLDER: usize = 200;
+
+/// The path of an edit; None where it has keys.
+pub(crate) fn path_of(edit: &Edit) -> Option<&Path>
+    ensures { IfSome result (λ path. HasPath edit.now path.now) }
+{
+    match edit {
+        Edit::Insert(path, _) | Edit::Remove(path) | Edit::Set(path, _) | Edit::Rename(path, _) => {
+            Some(path)
+        }
+        Edit::Table(_) | Edit::Element(_) => None,
+    }
+}
 
 /// The path from which the last step of a path leads; None where it has no step, and where memory was refused.
 fn holder_path(alloc: Global, path: &Path) -> Option<Path>
@@ -49,6 +66,14 @@ impl Before<'_> {
     pub(crate) fn holder_span(&self, path: &Path) -> Option<Span> {
         let id = self.index.find_first(path, path.len().checked_sub(1)?)?;
         self.index.value_span(id, self.syntax)
+    }
+
+    /// Whether it is a short value.
+    pub(crate) fn has_short_holder(&self, path: &Path) -> bool {
+        match self.holder_span(path) {
+            Some(span) => span.end.saturating_sub(span.start) <= SHORT_HOLDER,
+            None => false,
+        }
     }
 
     /// Whether a value of so many bytes is long: to read it anew for each edit of an entry of it takes longer than to

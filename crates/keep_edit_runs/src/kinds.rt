@@ -61,7 +61,7 @@ impl Before<'_> {
         if is_filled(edit, edits.get(number + 1)) {
             return false;
         }
-        let seen = self.seen_as(edit);
+        let seen = self.seen_among_kinds(edit);
         if is_of_element(edit, seen) {
             return self.take_element(run, edit);
         }

@@ -25,8 +25,8 @@ impl OpenValues {
         }
     }
 
-    /// What an edit of an entry makes of the value with this text, which begins at this byte. None for any other edit,
-    /// where the places of the entries don't tell it, and where memory was refused.
+    /// What an insert or a remove of an entry makes of the value with this text, which begins at this byte. None for
+    /// any other edit, where the places of the entries don't tell it, and where memory was refused.
     pub fn after(
         &mut self,
         alloc: Global,
@@ -36,6 +36,9 @@ impl OpenValues {
     ) -> Option<ValueText>
         ensures { (profile : Profile) → IfSome result (λ value. MakesValue profile text.now edit.now value) }
     {
+        if !comes_or_goes(edit) {
+            return None;
+        }
         let was = self.take(alloc, start, text)?;
         let now = edited(was, edit)?;
         let value = now.value(alloc).ok()?;
@@ -55,6 +58,11 @@ impl OpenValues {
         }
         OpenValue::read(alloc, text)
     }
+}
+
+/// Whether an edit inserts or removes what is at its path.
+fn comes_or_goes(edit: &Edit) -> bool {
+    matches!(edit, Edit::Insert(_, _) | Edit::Remove(_))
 }
 
 /// The value after an edit of an entry of it.

@@ -141,7 +141,7 @@ pub enum SeenAs {
     FirstKey(usize),
 }
 
-/// What an edit does, with its path or keys. An insert or a remove of an entry of a value sets that value, and an
+/// What an edit does, with its path or keys. An edit of an entry of a value sets that value, if it is seen so, and an
 /// insert of several keys inserts the first.
 #[derive(Drop)]
 pub enum Outline<'a> {
@@ -159,9 +159,13 @@ impl<'a> Outline<'a> {
         ensures { outlined result ≡ outline edit.now seen }
     {
         match (edit, seen) {
-            (Edit::Insert(path, _) | Edit::Remove(path), SeenAs::Entry) => {
-                Outline::Set(Steps::before_last(path))
-            }
+            (
+                Edit::Insert(path, _)
+                | Edit::Remove(path)
+                | Edit::Set(path, _)
+                | Edit::Rename(path, _),
+                SeenAs::Entry,
+            ) => Outline::Set(Steps::before_last(path)),
             (Edit::Insert(path, _), SeenAs::FirstKey(count)) => {
                 Outline::Insert(Steps::first(path, count))
             }

@@ -5,6 +5,7 @@ ghost use Rattle.keep_edit_runs.specs.ValueAfter.{MakesValue};
 
 use crate::at_once::AtOnce;
 use crate::before::Before;
+use crate::holders::path_of;
 use crate::opened::OpenValues;
 use crate::outline::Steps;
 use crate::value_after::value_after;
@@ -23,14 +24,13 @@ impl Before<'_> {
         ensures { IfSome result
             (SetsAgainHere self.now edit.now so_far.now.outlines.items so_far.now.changes) }
     {
-        match edit {
-            Edit::Set(_, _) => self.value_again(so_far, edit),
-            Edit::Insert(_, _) | Edit::Remove(_) => self.entry_again(so_far, opened, edit),
-            _ => None,
+        if let Some(change) = self.value_again(so_far, edit) {
+            return Some(change);
         }
+        self.entry_again(so_far, opened, edit)
     }
 
-    /// The same of a set.
+    /// The same of a set of such a value.
     fn value_again(&self, so_far: &AtOnce, edit: &Edit) -> Option<TextEdit>
         ensures { IfSome result
             (SetsAgainHere self.now edit.now so_far.now.outlines.items so_far.now.changes) }
@@ -44,15 +44,13 @@ impl Before<'_> {
         self.as_ref().change_by(self.alloc(), edit)
     }
 
-    /// The same of an insert or a remove of an entry: the value that holds it is set to what the edit makes of the
-    /// value that it was set to before.
+    /// The same of an edit of an entry: the value that holds it is set to what the edit makes of the value that it was
+    /// set to before.
     fn entry_again(&self, so_far: &AtOnce, opened: &mut OpenValues, edit: &Edit) -> Option<TextEdit>
         ensures { IfSome result
             (SetsAgainHere self.now edit.now so_far.now.outlines.items so_far.now.changes) }
     {
-        let (Edit::Insert(path, _) | Edit::Remove(path)) = edit else {
-            return None;
-        };
+        let path = path_of(edit)?;
         let start = self.holder_span(path)?.start;
         let earlier = so_far.setting(&Steps::before_last(path), start)?;
         let value = self.value_made(opened, start, earlier.new.as_str(), edit)?;

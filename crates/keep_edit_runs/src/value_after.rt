@@ -60,12 +60,27 @@ fn edit_alone(alloc: Global, edit: &Edit) -> Option<Edit>
     match edit {
         Edit::Insert(path, value) => {
             let alone = path_alone(alloc, path)?;
-            let value = ValueText::read_in(alloc, value.as_str(), Profile::Wide).ok()?;
-            Some(Edit::Insert(alone, value))
+            Some(Edit::Insert(alone, same_value(alloc, value)?))
+        }
+        Edit::Set(path, value) => {
+            let alone = path_alone(alloc, path)?;
+            Some(Edit::Set(alone, same_value(alloc, value)?))
+        }
+        Edit::Rename(path, name) => {
+            let alone = path_alone(alloc, path)?;
+            let name = String::from_str(alloc, name.as_str()).ok()?;
+            Some(Edit::Rename(alone, name))
         }
         Edit::Remove(path) => Some(Edit::Remove(path_alone(alloc, path)?)),
         _ => None,
     }
+}
+
+/// The same value, read once more. None where memory was refused.
+fn same_value(alloc: Global, value: &ValueText) -> Option<ValueText>
+    ensures { IfSome result (λ same. same ≡ value.now) }
+{
+    ValueText::read_in(alloc, value.as_str(), Profile::Wide).ok()
 }
 
 /// The path of the entry with the last step of a path in the value at the root's key `v`. None for the root's path,

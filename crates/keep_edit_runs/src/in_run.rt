@@ -6,6 +6,7 @@ ghost use Rattle.keep_edit_runs.specs.declared.outline.SeenAs.TheVariants.{Entry
 use crate::alike::is_same;
 use crate::at_once::RunEdit;
 use crate::before::Before;
+use crate::holders::path_of;
 use crate::opened::OpenValues;
 use crate::outline::{Outline, SeenAs, Steps};
 use keep_edit_plan::{Edit, Planner, TextEdit};
@@ -41,6 +42,19 @@ impl Before<'_> {
             }
             Edit::Remove(path) if self.holder_span(path).is_some() => SeenAs::Entry,
             _ => SeenAs::Itself,
+        }
+    }
+
+    /// The same among edits of several kinds: a set or a rename of an entry of a short value is seen as the set of that
+    /// value.
+    pub(crate) fn seen_among_kinds(&self, edit: &Edit) -> SeenAs
+        ensures { IsSeenAs self.now edit.now result }
+    {
+        match edit {
+            Edit::Set(path, _) | Edit::Rename(path, _) if self.has_short_holder(path) => {
+                SeenAs::Entry
+            }
+            _ => self.seen_as(edit),
         }
     }
 
@@ -101,9 +115,7 @@ impl Before<'_> {
     fn change_by_places(&self, opened: &mut OpenValues, edit: &Edit) -> Option<TextEdit>
         ensures { IfSome result (λ change. MakesInRunHere self.now edit.now (outline edit.now Entry) change None) }
     {
-        let (Edit::Insert(path, _) | Edit::Remove(path)) = edit else {
-            return None;
-        };
+        let path = path_of(edit)?;
         let span = self.holder_span(path)?;
         let was = self.text.get(span.start..span.end)?;
         let value = opened.after(self.alloc(), span.start, was, edit)?;
