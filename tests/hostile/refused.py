@@ -10,7 +10,8 @@ first growth refused, with the second, and so on up to the last.
 The program (subcommands.tsv): each of these runs ends with status 4, one line on standard error and nothing on
 standard output, also where the answer with ample memory is a refusal. Where the index is refused the memory of a key, of a line's
 node or of a header's, it is built anew: so a few runs for each edit of a script (CHANGES) may have the wanted answer instead. Where
-many edits are made at once (AT_ONCE), some have to: they are made one by one then.
+many edits are made at once (AT_ONCE), some have to: they are made one by one then. So are few, where memory is refused while it is
+found that they can be the last ones, after which the text is not read.
 
 The libraries (calls.tsv, asked of keep_test_rows): each of these runs ends out of memory, or answers that the call
 was out of memory. keep_test_rows makes an edit twice, first for the text alone and then in the document, and prints a doubt
@@ -280,7 +281,9 @@ def growths_of_edits(program, refuse, kind, edits, tables):
     op, words = IN_PLACE[kind]
     last = lambda number: f"n{number - 1}" if number else "a"
     filled = (words.format(middle=tables // 2, number=number, last=last(number)) for number in range(edits))
-    script = "".join(f"[[edit]]\nop = '{op}'\n{it}" for it in filled)
+    # (Two that do two things to one key come last. Without them all would be made at once for the text alone, and no index changed.)
+    ends = ("insert", "path = 'z'\nvalue = '1'\n"), ("remove", "path = 'z'\n")
+    script = "".join(f"[[edit]]\nop = '{op}'\n{it}" for op, it in (*((op, it) for it in filled), *ends))
     keys = "".join(f"k{number} = {number}\nl{number} = [{number}, [1]]\n" for number in range(KEYS))
     keys += f"c = [{', '.join(str(number) for number in range(KEYS))}]\n"
     text = "".join(f"[t{number}]\na = 1\n{keys if number == tables // 2 else ''}b = [1, 2]\n" for number in range(tables))

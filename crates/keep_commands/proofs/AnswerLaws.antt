@@ -7,14 +7,12 @@
 -- text after all of them, or the number of the one at which they stop (`stopped_at`).
 --
 -- Theorems: `listed`, `get_text`, `meant_text`, `apply_answer`; of refusals `read_refusal`, `get_refusal`.
-use Rattle.std.proofs.Common.{◌≡◌, ◌∙◌, ◌++◌, ◌⊎◌, ◌+◌, ◌-◌, ℕ, Bool, true, false, List, [], ◌∷◌, map, Option, Some}
+use Rattle.std.proofs.Common.{◌≡◌, ◌∙◌, ◌++◌, ◌⊎◌, ℕ, Bool, true, false, List, [], ◌∷◌, map, Option, Some}
 use Rattle.std.proofs.Common.{None, refl, sym, ap, subst, inl, inr, Vec, Global, String}
 use Rattle.std.specs.Prelude.{Result, Ok, Err, IfOk, MatchResult, codes, string_bytes, filter, is_some}
 use Rattle.std.specs.Option.{option_map}
 use Rattle.std.specs.List.{list_any, filter_map}
 use Rattle.keep_types.specs.declared.leaf.Profile.{Profile}
-use Rattle.keep_edit_spec.specs.Edits as law
-use Rattle.keep_edit_spec.specs.Refusals.{refusal}
 use Rattle.keep_syntax.specs.declared.fault.ReadFault.{ReadFault}
 use Rattle.keep_syntax.specs.declared.fault.ReadFault.TheVariants as read
 use Rattle.keep_syntax.specs.Tree.{Document}
@@ -25,7 +23,6 @@ use Rattle.keep_path.specs.Path.{Part}
 use Rattle.keep_types.specs.declared.node.Kind.{Kind}
 use Rattle.keep_edit_spec.specs.declared.fault.EditFault.{EditFault}
 use Rattle.keep_edit_spec.specs.declared.fault.EditFault.TheVariants as fault
-use Rattle.keep_edit_spec.specs.Answers as answers
 use Rattle.keep_edit_spec.specs.Answers.{get, string_of, at_node}
 use Rattle.keep_edit.specs.Answers.{counts_of, entries_of, kind_of, str_value_of}
 use Rattle.keep_edit.specs.Reading.{ProfiledText, text_in, IsAccepted, IsRefused, IsTextOfTree}

@@ -2,7 +2,7 @@
 --
 -- Theorems: `entries_few`: a document has no more entries than nodes; `lines_around`: the lines before a block, the
 -- block, and the lines after it are all lines.
-use Rattle.std.proofs.Common.{◌≡◌, ◌++◌, ◌+◌, ◌≤◌, ℕ, List, length, length-append, take, drop, sym, ap, ◌∙◌}
+use Rattle.std.proofs.Common.{◌≡◌, ◌++◌, ◌≤◌, ℕ, List, length, length-append, take, drop, sym, ap, ◌∙◌}
 use Rattle.std.proofs.Common.{append_assoc, arith, length-drop}
 use Rattle.std.proofs.lemmas.Grind.{flat_map-append}
 use Rattle.std.proofs.lemmas.List.{length-map, take-append-drop}

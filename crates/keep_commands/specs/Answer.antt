@@ -5,7 +5,7 @@ use Rattle.keep_types.specs.declared.leaf.Profile.{Profile}
 use Rattle.keep_types.specs.declared.leaf.Profile.TheVariants.{Strict, Wide}
 use Rattle.keep_syntax.specs.declared.fault.ReadFault.{ReadFault}
 use Rattle.keep_syntax.specs.declared.fault.ReadFault.TheVariants as read
-use Rattle.keep_syntax.specs.Tree.{Document, text}
+use Rattle.keep_syntax.specs.Tree.{Document}
 use Rattle.keep_types.specs.declared.node.Kind.{Kind}
 use Rattle.keep_types.specs.declared.node.Kind.TheVariants as kind
 use Rattle.keep_path.specs.PathText.{encoded_path}

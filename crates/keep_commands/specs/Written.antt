@@ -3,7 +3,8 @@ use Rattle.std.specs.Prelude.{◌≡◌, ◌<◌, ◌+◌, ℕ, Bool, true, fals
 use Rattle.std.specs.Prelude.{string_bytes}
 use Rattle.std.specs.Io.KnownBytes.{Appends}
 use Rattle.keep_syntax.specs.Tree.{Document}
-use Rattle.keep_edit.specs.Lists.{AreMade}
+use Rattle.keep_edit.specs.Lists.{AreMade, text_after_last}
+use Rattle.keep_edit.specs.declared.lists.LastEdits.{LastEdits}
 use Rattle.keep_edit.specs.Answers.{entries_of}
 use Rattle.keep_edit.specs.Reading.{ProfiledText, text_in, IsTextOfTree}
 use Rattle.keep_edit_plan.specs.declared.edit.Edit.{Edit}
@@ -30,6 +31,10 @@ IsAnswer command input answer = (bytes : List ℕ) → AreBytesOf answer bytes �
 abbrev pub IsAfter : Document → List Edit → ProfiledText → Answer → Type 0
 IsAfter s edits old answer =
     (bytes : List ℕ) → AreBytesOf answer bytes → AreMade s edits old (text_in old.profile bytes)
+
+-- they are that text after the last edits of a list
+abbrev pub IsTextAfterLast : List ℕ → LastEdits → Answer → Type 0
+IsTextAfterLast text last answer = (bytes : List ℕ) → AreBytesOf answer bytes → bytes ≡ text_after_last text last
 
 -- ---- how it is written
 

@@ -3,14 +3,15 @@ ghost use Rattle.std.specs.Prelude.{◌≡◌, ◌⊎◌, ◌++◌, codes, IfOk,
 ghost use Rattle.keep_syntax.specs.Tree as tree;
 ghost use Rattle.keep_edit.specs.Reading.{IsTextOfTree, text_in};
 ghost use Rattle.keep_commands.specs.Answer.{counts_line, profile_of, IsRefusal, IsText};
-ghost use Rattle.keep_commands.specs.Written.{AreBytesOf, IsAfter, IsAnswer};
+ghost use Rattle.keep_edit.specs.Lists.{AreWithin};
+ghost use Rattle.keep_commands.specs.Written.{AreBytesOf, IsAfter, IsAnswer, IsTextAfterLast};
 ghost use Rattle.keep_commands.specs.Answer as spec;
 
 use crate::command::Command;
 use crate::edited::Edited;
 use crate::fault::RunFault;
 use crate::lines::Lines;
-use keep_edit::{Counts, Document, Edit, EditFault, Path, Profile, ReadFault};
+use keep_edit::{Counts, Document, Edit, EditFault, LastEdits, Path, Profile, ReadFault};
 use std::alloc::{AllocError, Global};
 use std::mem;
 
@@ -120,9 +121,14 @@ fn text_of(alloc: Global, answer: Answer) -> Result<String, AllocError>
     }
 }
 
-// The text after the edits in order, or the first refusal. Nothing is asked of the document after the last of them, so
-// that one is not made in it, and the text is not read once more.
-fn after_edits(document: Document, edits: &[Edit], rest: Rest) -> Result<Answer, RunFault>
+// The text after the edits in order, or the first refusal. Nothing is asked of the document after the last ones: they
+// are not made in it, and the text is not read once more.
+fn after_edits(
+    alloc: Global,
+    document: Document,
+    edits: &[Edit],
+    rest: Rest,
+) -> Result<Answer, RunFault>
     ensures { (s : tree.Document) → IsTextOfTree document s
         → MatchResult result (λ answer. IsAfter s edits.now document answer)
         (spec.Refused document.profile edits.now s) }
@@ -132,10 +138,30 @@ fn after_edits(document: Document, edits: &[Edit], rest: Rest) -> Result<Answer,
     }
     let mut changed = document;
     match changed.apply_but_last(edits) {
-        Ok(last) => Ok(Answer::Edited(Edited::new(changed, last))),
+        Ok(last) => Ok(after_last(alloc, changed, last, rest)?),
         Err((index, fault)) => {
             put_away(changed, rest);
             Err(of_edit(index, fault))
+        }
+    }
+}
+
+// The text of a document after the last edits of a list. The only error is out of memory.
+fn after_last(
+    alloc: Global,
+    document: Document,
+    last: LastEdits,
+    rest: Rest,
+) -> Result<Answer, AllocError>
+    requires { AreWithin document.text last }
+    ensures { IfOk result (IsTextAfterLast document.text last) }
+{
+    match last {
+        LastEdits::One(edit) => Ok(Answer::Edited(Edited::new(document, edit))),
+        LastEdits::AtOnce(changes) => {
+            let text = changes.text_after(alloc, document.text());
+            put_away(document, rest);
+            Ok(Answer::Text(text?))
         }
     }
 }
@@ -196,8 +222,8 @@ fn decide(
         Command::List => return list(alloc, document),
         Command::Get(path) => value_line(alloc, &document, path),
         Command::Text(path) => string_text(alloc, &document, path),
-        Command::Apply(edits) => return after_edits(document, edits.as_slice(), rest),
-        Command::ApplyWide(edits) => return after_edits(document, edits.as_slice(), rest),
+        Command::Apply(edits) => return after_edits(alloc, document, edits.as_slice(), rest),
+        Command::ApplyWide(edits) => return after_edits(alloc, document, edits.as_slice(), rest),
     };
     put_away(document, rest);
     answer

@@ -5,7 +5,7 @@ use Rattle.std.proofs.Common.{◌≡◌, ◌∙◌, ◌+◌, ◌-◌, ◌<◌, �
 use Rattle.std.proofs.Common.{Option, Some, None, refl, sym, ap, subst, inl, inr, arith, length-take}
 use Rattle.std.proofs.Math.Nat.{add-zero}
 use Rattle.std.proofs.lemmas.Bool.{eqb-true}
-use Rattle.std.proofs.lemmas.List.{take-take, take_all}
+use Rattle.std.proofs.lemmas.List.{take_all}
 use Rattle.std.specs.Prelude.{◌==◌, Result, Ok, Err}
 use Rattle.std.specs.List.{AllZip}
 use Rattle.keep_types.specs.declared.leaf.Profile.{Profile}
@@ -91,36 +91,7 @@ pub nothing_made : (s : Document) (edits : List Edit) (d : ProfiledText) → tru
 nothing_made s [] d e h = none_made s d h
 nothing_made s (x ∷ xs) d e h = absurd (omega (arith, eqb-true (length (x ∷ xs)) 0 (sym e)))
 
--- ---- all but the last
-
-module _ (s : Document) (edits part : List Edit) (m : ℕ) (some : m < length edits) (are : part ≡ take m edits) where
-  -- edits that stop at one of the first stop there with others after them
-  pub stopped_before : (profile : Profile) (n : ℕ) (f : EditFault) → n < length part → StopsAt s part profile n f
-      → StopsAt s edits profile n f
-  stopped_before profile n f lt h = elim h [
-    | inl r ↦ inl (record { es = r.es; are = first r.es r.are; refused = r.refused })
-    | inr r ↦
-        inr (record {
-          memory = r.memory;
-          here = omega (arith, low, some);
-          es = r.es;
-          are = first r.es r.are;
-          tree = r.tree;
-          allowed = r.allowed;
-        })
-  ]
-    where
-      low : n < m
-      low = omega (arith, lt, ap length are, length-take {A = Edit})
-
-      first : (es : List law.Edit) → AllZip IsEdit (take (suc n) part) es → AllZip IsEdit (take (suc n) edits) es
-      first es zip =
-          subst (λ (xs : List Edit). AllZip IsEdit xs es)
-          (ap (take (suc n)) are ∙ take-take (suc n) m edits (omega (arith, low))) zip
-
-  -- the edits before it are made
-  pub made_before : (old new : ProfiledText) → AreMade s part old new → AreMade s (take m edits) old new
-  made_before old new h = subst (λ (xs : List Edit). AreMade s xs old new) are h
+-- ---- all of them
 
 -- the last edit is the one after all others
 pub made_all : (s : Document) (edits : List Edit) (old new : ProfiledText) → 0 < length edits

@@ -1,5 +1,5 @@
 -- Edits that are given as values, and what a list of them answers.
-use Rattle.std.specs.Prelude.{◌≡◌, ◌⊎◌, ℕ, suc, ◌<◌, List, length, take, Result, Ok, Err}
+use Rattle.std.specs.Prelude.{◌≡◌, ◌⊎◌, ℕ, suc, ◌<◌, All, List, length, take, Result, Ok, Err}
 use Rattle.std.specs.List.{AllZip}
 use Rattle.keep_types.specs.declared.leaf.Profile.{Profile}
 use Rattle.keep_syntax.specs.Tree.{Document}
@@ -7,11 +7,14 @@ use Rattle.keep_edit_spec.specs.declared.fault.EditFault.{EditFault}
 use Rattle.keep_edit_spec.specs.declared.fault.EditFault.TheVariants.{Memory}
 use Rattle.keep_edit_spec.specs.Answers.{applied_edits}
 use Rattle.keep_edit_spec.specs.Edits as law
-use Rattle.keep_edit.specs.Answers.{text_after}
+use Rattle.keep_edit_spec.specs.TextChanges.{text_with}
+use Rattle.keep_edit_plan.specs.TextEdits.{IsChangeIn}
+use Rattle.keep_edit.specs.Answers.{IsSpanOf, text_after}
 use Rattle.keep_edit.specs.Reading.{limit, ProfiledText, text_in}
 pub use Rattle.keep_edit_runs.specs.Lists.{IsEdit, growth_of, AreMade}
 use Rattle.keep_edit_plan.specs.declared.edit.Edit.{Edit}
-use Rattle.keep_edit_plan.specs.declared.text_edit.TextEdit.{TextEdit}
+use Rattle.keep_edit.specs.declared.lists.LastEdits.{LastEdits}
+use Rattle.keep_edit.specs.declared.lists.LastEdits.TheVariants.{AtOnce, One}
 
 -- The edit with this number, from 0, is the first that is refused, on the document after those before it, and this is
 -- why.
@@ -53,7 +56,19 @@ abbrev pub AllDone : {T : Type 0} → Document → List Edit → ProfiledText �
 AllDone s edits old new (Ok done) = AreMade s edits old new
 AllDone s edits old new (Err stop) = StopsAt s edits old.profile stop.0 stop.1 ⊎ IsNotCopied edits stop.0 stop.1
 
--- What edits answer of which all but the last are made: with what the last writes, the text is the one after all edits.
-abbrev pub AllWritten : Document → List Edit → ProfiledText → ProfiledText → Result TextEdit (ℕ × EditFault) → Type 0
-AllWritten s edits old new (Ok made) = AreMade s edits old (text_in new.profile (text_after new.text made))
+-- ---- the last edits, which are not made in the document
+
+-- its text after them
+abbrev pub text_after_last : List ℕ → LastEdits → List ℕ
+text_after_last text (One made) = text_after text made
+text_after_last text (AtOnce changes) = text_with 0 text changes
+
+-- each changes a part of it
+abbrev pub AreWithin : List ℕ → LastEdits → Type 0
+AreWithin text (One made) = IsSpanOf text made.place
+AreWithin text (AtOnce changes) = All (IsChangeIn text) changes
+
+-- What edits answer of which all but the last ones are made: with what these change, the text is the one after all.
+abbrev pub AllWritten : Document → List Edit → ProfiledText → ProfiledText → Result LastEdits (ℕ × EditFault) → Type 0
+AllWritten s edits old new (Ok last) = AreMade s edits old (text_in new.profile (text_after_last new.text last))
 AllWritten s edits old new (Err stop) = StopsAt s edits old.profile stop.0 stop.1

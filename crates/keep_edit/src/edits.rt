@@ -5,7 +5,7 @@ ghost use Rattle.keep_edit_spec.specs.Edits as law;
 ghost use Rattle.keep_edit_spec.specs.declared.fault.EditFault.TheVariants.{Memory};
 ghost use Rattle.keep_edit.specs.Reading.{IsAccepted, IsTextOfTree, ProfiledText};
 ghost use Rattle.keep_edit.specs.Answers.{EditDone, EditReported, EditWritten, IsSpanOf};
-ghost use Rattle.keep_edit.specs.Lists.{IsEdit, AllDone, AllWritten, AreMade, EachDone, IsNotCopied, StopsAt};
+ghost use Rattle.keep_edit.specs.Lists.{IsEdit, AllDone, AreMade, EachDone, IsNotCopied, StopsAt};
 
 use crate::document::Document;
 use keep_edit_plan::{Edit, TextEdit};
@@ -57,28 +57,6 @@ impl Document {
     {
         let plan = self.as_ref().plan(self.alloc(), edit)?;
         Ok(plan.text_edit)
-    }
-
-    /// Makes all edits but the last, in their order, each on the document after those before it, and returns what the
-    /// last then writes into the text, and where: that one is not made. After a refusal the edits before the refused
-    /// one are made. The document's own allocator gives the memory.
-    ///
-    /// # Errors
-    ///
-    /// The number, from 0, of the first edit that is refused, and why: as `apply` refuses it on the document after
-    /// those before it.
-    pub fn apply_but_last(&mut self, edits: &[Edit]) -> Result<TextEdit, (usize, EditFault)>
-        requires { 0 < length edits.now }
-        ensures done { (s : tree.Document) → IsTextOfTree self.old s → AllWritten s edits.now self.old self.new result }
-        ensures within { IfOk result (λ made. IsSpanOf self.new.text made.place) }
-        ensures number { IfErr result (λ stop. stop.0 < length edits.now) }
-    {
-        let last = edits.len() - 1;
-        self.apply_each(&edits[..last])?;
-        match self.text_edit(&edits[last]) {
-            Ok(made) => Ok(made),
-            Err(fault) => Err((last, fault)),
-        }
     }
 
     /// Makes all edits in their order, each on the document after those before it; or none of them: after a refusal the
@@ -157,16 +135,6 @@ impl Document {
             return Ok(begun);
         }
         Ok((self.copied()?, 0))
-    }
-
-    /// Makes the edits in their order, up to the first that is refused.
-    fn apply_each(&mut self, edits: &[Edit]) -> Result<(), (usize, EditFault)>
-        ensures done { (s : tree.Document) → IsTextOfTree self.old s → EachDone s edits.now self.old self.new result }
-        ensures number { IfErr result (λ stop. stop.0 < length edits.now) }
-    {
-        // The invariant of a document is known to the proof from where a field of it is looked at.
-        let _text = &self.text;
-        self.apply_from(edits, 0)
     }
 
     /// Makes the edits from number `first` on in their order, up to the first that is refused.

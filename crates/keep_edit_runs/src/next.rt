@@ -14,7 +14,7 @@ pub enum Next {
     /// These are made at once.
     AtOnce(Run),
     /// Those up to the one with this number are made one by one.
-    OneByOne(usize),
+    OneByOne { end: usize },
 }
 
 impl Before<'_> {
@@ -25,13 +25,46 @@ impl Before<'_> {
         ensures made { GoesOnTo edits.now first self.now result }
     {
         if let Some(few) = self.too_few(&edits[first..]) {
-            return Next::OneByOne(first + few);
+            return Next::OneByOne { end: first + few };
         }
         let run = self.changes_at_once(edits, first);
+        self.run_or_each(edits, first, run)
+    }
+
+    /// The same where no more is asked of the document after the list than its text. That text needs no reading, so the
+    /// last edits are made at once wherever they can be.
+    pub fn next_for_text(&self, edits: &[Edit], first: usize) -> Next
+        requires { first < length edits.now }
+        ensures further { (first < end_of result) × (end_of result ≤ length edits.now) }
+        ensures made { GoesOnTo edits.now first self.now result }
+    {
+        if let Some(few) = self.too_few(&edits[first..]) {
+            if first + few < edits.len() {
+                return Next::OneByOne { end: first + few };
+            }
+        }
+        let run = self.changes_at_once(edits, first);
+        if run.end == edits.len() {
+            return Next::AtOnce(run);
+        }
+        self.run_or_each(edits, first, run)
+    }
+
+    /// The edits of a run at once, if that takes less time than to make them one by one; else they are made so, or the
+    /// first edit alone where it has none.
+    fn run_or_each(&self, edits: &[Edit], first: usize, run: Run) -> Next
+        requires few { (first < length edits.now) × (first ≤ run.end) × (run.end ≤ length edits.now) }
+        requires made { MakeChanges edits.now first run.end self.now run.changes }
+        requires within { All (IsChangeIn self.now.text) run.changes }
+        ensures further { (first < end_of result) × (end_of result ≤ length edits.now) }
+        ensures made { GoesOnTo edits.now first self.now result }
+    {
         if run.end > first && self.is_worth_reading(&edits[first..run.end]) {
             return Next::AtOnce(run);
         }
-        Next::OneByOne(run.end.max(first + 1))
+        Next::OneByOne {
+            end: run.end.max(first + 1),
+        }
     }
 
     /// The first edits of a list, as far as they are made at once; None where it takes less time to make them one by

@@ -16,7 +16,8 @@ pub(crate) const MOST_AT_ONCE: usize = 1000;
 /// than to read the text anew.
 const PAIRS: usize = 5000;
 
-/// So many edits of one kind are made at once, though more of several kinds might be: to look for them takes longer.
+/// So many edits of one kind, and one more for each hundred bytes of the text, are made at once, though more of several
+/// kinds might be.
 const MANY_OF_ONE_KIND: usize = 32;
 
 /// Whether each of these edits is a remove.
@@ -45,43 +46,34 @@ impl Before<'_> {
             return filled;
         }
         let run = self.changes_by(edits, first);
-        if self.is_enough(edits, first, run.end) {
-            return run;
-        }
         match self.others_by(edits, first, run.end) {
             Some(others) if others.end > run.end => others,
             _ => run,
         }
     }
 
-    /// Whether the edits of one kind up to the one with number `end` are made at once without looking how far those of
-    /// several kinds go: they are many or the last ones, and no element is removed next.
-    fn is_enough(&self, edits: &[Edit], first: usize, end: usize) -> bool
-        requires { (first ≤ end) × (end ≤ length edits.now) }
-    {
-        let next = edits.get(end);
-        if next.is_some() && end - first < MANY_OF_ONE_KIND || self.removes_element(next) {
-            return false;
-        }
-        end > first && self.is_worth_reading(&edits[first..end])
-    }
-
     /// The same beyond the edit with number `end`, which ends those of one kind: as far as they are of several kinds,
-    /// or remove tables and elements with their headers. None where neither is tried.
+    /// or remove tables and elements with their headers. None where neither is tried, as those of one kind are enough.
     fn others_by(&self, edits: &[Edit], first: usize, end: usize) -> Option<Run>
-        requires { first < length edits.now }
+        requires few { (first < length edits.now) × (first ≤ end) × (end ≤ length edits.now) }
         ensures few { IfSome result (λ run. (first ≤ run.end) × (run.end ≤ length edits.now)) }
         ensures made { IfSome result (λ run. MakeChanges edits.now first run.end self.now run.changes) }
         ensures within { IfSome result (λ run. All (IsChangeIn self.now.text) run.changes) }
     {
         let next = edits.get(end);
-        if end > first && !self.removes_element(next) {
-            if !self.is_other_kind(&edits[first], next) {
-                return None;
-            }
-            return Some(self.changes_of_kinds(edits, first));
+        if end == first || self.removes_element(next) {
+            return Some(self.changes_with_elements(edits, first));
         }
-        Some(self.changes_with_elements(edits, first))
+        if !self.is_other_kind(&edits[first], next) || self.are_enough(&edits[first..end]) {
+            return None;
+        }
+        Some(self.changes_of_kinds(edits, first))
+    }
+
+    /// Whether edits of one kind are made at once without looking how far those of several kinds go. They are many, for
+    /// the text: to look for more takes longer than to read it anew.
+    fn are_enough(&self, edits: &[Edit]) -> bool {
+        edits.len() >= MANY_OF_ONE_KIND + self.text.len() / 100 && self.is_worth_reading(edits)
     }
 
     /// What the edits from number `first` on change in the text, as far as they are of several kinds, or as far as they

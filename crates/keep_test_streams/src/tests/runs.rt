@@ -380,7 +380,7 @@ fn edits_are_made_in_order(rt: HostRuntime) -> Result<(), Fail> {
         (
             "a = 1 # x\nb = 2\n",
             &[("a", "[1, 2]"), ("b", "true"), ("a[1]", "{x = 3}")],
-            "wrote 30; 2 false; 3 false; a = [1, {x = 3}] # x\nb = true\n",
+            "wrote 30; 2 false; 1 false; a = [1, {x = 3}] # x\nb = true\n",
         ),
         (
             "a = 1\n",
@@ -410,7 +410,8 @@ fn pieces_of(alloc: Global, command: Result<Command, Fail>, text: &str) -> Resul
     Ok(String::from_utf8(taken)?)
 }
 
-// The text before what the last edit writes, that, and the text after it; what is empty is not written.
+// The text before what an edit writes, that, and the text after it; what is empty is not written. After edits that are
+// made at once the text is one piece.
 #[test]
 fn an_edited_text_is_written_in_pieces(rt: HostRuntime) -> Result<(), Fail> {
     const CASES: &[(&str, &[(&str, &str)], &str)] = &[
@@ -419,7 +420,7 @@ fn an_edited_text_is_written_in_pieces(rt: HostRuntime) -> Result<(), Fail> {
         (
             "a = 1\nb = 2\nc = 3\n",
             &[("a", "'x'"), ("b", "{y = 3}")],
-            "a = 'x'\nb = |{y = 3}|\nc = 3\n|",
+            "a = 'x'\nb = {y = 3}\nc = 3\n|",
         ),
         ("a = 1 # x\r\n", &[], "a = 1 # x\r\n|"),
         ("", &[], ""),

@@ -12,12 +12,12 @@ returns-then-is_empty c = λ s h bytes are.
     (sym (are ∙ c.into_text.ensures.text))
     (nothing_made s c.args.edits.now c.args.document c.if-is_empty.ensures h)
 
-pub returns-in-Ok : goal.returns-in-Ok
-returns-in-Ok c = λ s h bytes are.
+pub returns-in_ok-after_last-in-Ok : goal.returns-in_ok-after_last-in-Ok
+returns-in_ok-after_last-in-Ok c = λ s h bytes are.
     let made = c.in-Ok.ensures.done s h in
     subst (λ (p : Profile). AreMade s c.args.edits.now c.args.document (text_in p bytes)) made.profile
     (subst (λ (b : List ℕ). AreMade s c.args.edits.now c.args.document (text_in c.apply_but_last.new.self.profile b))
-    (sym (are ∙ c.new.ensures)) made)
+    (sym (c.in_ok-after_last-in-Ok.ensures bytes are)) made)
 
 pub returns-in-Err : goal.returns-in-Err
 returns-in-Err c =

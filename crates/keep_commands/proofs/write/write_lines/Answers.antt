@@ -1,4 +1,4 @@
-use Rattle.std.proofs.Common.{◌≡◌, ◌++◌, ◌+◌, take, drop, length, length-append, ap, sym, subst, arith, ◌∙◌, List, ℕ}
+use Rattle.std.proofs.Common.{◌≡◌, ◌++◌, take, drop, length, length-append, ap, sym, subst, arith, ◌∙◌, List, ℕ}
 use Rattle.std.proofs.lemmas.List.{take_all}
 use Rattle.std.specs.Io.KnownBytes.{Appends}
 use Rattle.keep_commands.proofs.Appends.{appends_then}

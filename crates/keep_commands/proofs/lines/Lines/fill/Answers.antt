@@ -1,4 +1,4 @@
-use Rattle.std.proofs.Common.{◌≡◌, ◌∙◌, ◌+◌, ◌++◌, ap, append_assoc, arith, take, sym, subst, slice_get, string_bytes}
+use Rattle.std.proofs.Common.{◌≡◌, ◌∙◌, ◌++◌, ap, append_assoc, arith, take, sym, subst, slice_get, string_bytes}
 use Rattle.keep_edit.specs.Answers.{entries_of}
 use Rattle.keep_edit.specs.Reading.{ProfiledText, IsTextOfTree}
 use Rattle.keep_commands.specs.Answer.{lines_of}
