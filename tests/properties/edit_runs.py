@@ -155,10 +155,10 @@ class Run:
 
     def brought(self):
         """New keys of tables that no header defines, each of which brings the header, mostly one of each; in half of the lists some
-        are of several keys, and in a third of them many are set later. Now and then a table comes again, or something else is
-        between."""
+        are of several keys, and in a third of them many are set later. In half of them many come into the table before which the
+        header comes, and headers of tables below. Now and then a table comes again, or something else is between."""
         random, paths, several = self.random, self.with_implicit(), self.random.choice((0, 0.3))
-        later, given = random.choice((0, 0, 0.4)), []
+        later, given, below = random.choice((0, 0, 0.4)), [], random.choice((0, 0.4))
         if not paths:
             return self.inserts()
         random.shuffle(paths)
@@ -166,6 +166,11 @@ class Run:
         for number in range(self.many):
             table = paths[number % len(paths)] if random.random() < 0.995 else random.choice(paths)
             table = table if random.random() < 0.995 else random.choice([b"", *(path for path, _ in self.entries)])
+            if edits and random.random() < below:
+                table = paths[random.randrange(number) % len(paths)] + b".sub"
+                if b"[" not in table and random.random() < 0.2:
+                    edits.append(edit_of(b"table", table + b"_%d" % number))
+                    continue
             edits.append(self.insert_or_set(given, later, table, number, several))
         return edits
 

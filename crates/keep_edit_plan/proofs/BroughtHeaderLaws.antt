@@ -4,24 +4,24 @@
 -- dotted keys make it, and the edit puts its lines after the body of the last header that goes through the table
 -- (`section_placed_there`). Where the text is not open, the line before is ended by a newline (`not_past`).
 --
--- Theorems: `header_is_brought`; `brought_boundary`: it comes between characters.
+-- Theorems: `header_is_brought`; `line_is_brought`: its line alone; `brought_boundary`: it comes between characters.
 use Rattle.std.proofs.Common.{◌≡◌, ℕ, ◌-◌, ◌≤◌, false, List, [], ◌∷◌, ◌++◌, length, take, drop, refl, sym, ap, ◌∙◌}
 use Rattle.std.proofs.Common.{arith, Some, None, Ok}
-use Rattle.std.specs.Prelude.{IsCharBoundary}
+use Rattle.std.specs.Prelude.{Bool, IsCharBoundary, if◌then◌else◌}
 use Rattle.keep_syntax.specs.declared.syntax.Syntax.{Syntax}
 use Rattle.keep_syntax.specs.Tree.{Value, Document, text}
 use Rattle.keep_path.specs.NodeInfos.{NodeInfos}
 use Rattle.keep_path.specs.Path.{Part, AreUtf8}
 use Rattle.keep_meaning.specs.Meaning.{lines, mentions_in}
-use Rattle.keep_edit_spec.specs.BroughtHeaders.{BringsHeader}
+use Rattle.keep_edit_spec.specs.BroughtHeaders.{BringsHeader, BringsLine}
 use Rattle.keep_edit_spec.specs.Edits.{at_line, insert, place}
-use Rattle.keep_edit_spec.specs.Insertion.{is_open, missing_newline, put_in}
+use Rattle.keep_edit_spec.specs.Insertion.{is_open, keyed_text, missing_newline, put_in}
 use Rattle.keep_edit_spec.specs.Lines.{body_end, newline_of}
 use Rattle.keep_edit_spec.specs.Look.{holder, item_number, keys_in}
 use Rattle.keep_edit_spec.specs.TextChanges.{change_at}
 use Rattle.keep_edit_spec.proofs.Shared.{IsNewPath, IsThroughPlaced, holder_prefix, new_path, new_section}
 use Rattle.keep_edit_spec.proofs.Shared.{new_section_text}
-use Rattle.keep_edit_plan.specs.Inserting.{IsInsertionOf, IsKeyvalSpot, lines_start}
+use Rattle.keep_edit_plan.specs.Inserting.{IsInsertionOf, IsKeyvalSpot, lines_start, new_line_at}
 use Rattle.keep_edit_plan.specs.PutLines.{body_end_of, new_section_at}
 use Rattle.keep_edit_plan.specs.Reading.{limit, ProfiledText, Holds, IsTextOfTree, IsTextOfValue}
 use Rattle.keep_edit_plan.specs.declared.insert.Insertion.{Insertion}
@@ -110,4 +110,27 @@ module _ (d : ProfiledText) (syntax : Syntax) (nodes : NodeInfos) (path : List P
         closed = closed_before at section section_is put closed;
         adds = omega arith;
         is = put;
+      }
+
+  -- its line alone, where the line before is ended
+  pub line_is_brought : (at : ℕ) (old line : List ℕ) → at ≡ body_end_of s (Some header) → old ≡ []
+      → line ≡ old ++ (new_line_at s at (keys_in (drop i.from path)) v).new
+      → false ≡ is_open (drop (lines_start s) (take at d.text))
+      → BringsLine d.profile limit s path v (change_at at (at - at) line)
+  unfolding header_is_brought
+  line_is_brought at old line at_end none_before pushed closed =
+      let section : List ℕ = (new_section_at s at (keys_in (take i.from path)) (keys_in (drop i.from path)) v).new in
+      let ended : is_open (drop (lines_start s) (take at (text s))) ≡ false =
+      ap (λ (t : List ℕ). is_open (drop (lines_start s) (take at t))) (sym read.reads.spelled) ∙ sym closed in
+      let missing : missing_newline (text s) (newline_of s).text (lines_start s) at ≡ [] =
+      ap (λ (b : Bool). if b then (newline_of s).text else []) ended in
+      record {
+        whole = change_at at (at - at) section;
+        brings = header_is_brought at [] section at_end refl refl closed;
+        at = refl;
+        adds = omega arith;
+        line = pushed
+            ∙ ap (λ (t : List ℕ). t ++ (new_line_at s at (keys_in (drop i.from path)) v).new) none_before
+            ∙ ap (λ (t : List ℕ). t ++ (keyed_text (keys_in (drop i.from path)) v ++ (newline_of s).text)) missing
+            ∙ ap (λ (l : List (List ℕ)). keyed_text l v ++ (newline_of s).text) line_keys;
       }

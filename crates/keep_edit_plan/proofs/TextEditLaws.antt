@@ -9,7 +9,8 @@
 -- list with one edit more; `none_written`, `next_change`, `one_written`: what is written before the first edit and with
 -- one more; `takes_it`: an edit that replaces the byte before a place; `others_take_not`, `none_takes`, `one_alone`,
 -- `alone_takes`, `all_if_alone`: only one does; `all_further`, `all_changes`, `all_of_one`, `change_at_edit`: what
--- holds of each edit; `has_change`: the change of one; `set_in_place`, `set_instead`, `follow_replaced`, `both_same`:
+-- holds of each edit; `has_change`: the change of one; `put_ahead`, `follow_ahead`: one more right before another;
+-- `set_in_place`, `set_instead`, `follow_replaced`, `both_same`:
 -- one in the place of another.
 use Rattle.std.proofs.Common.{◌≡◌, ℕ, zero, suc, ◌+◌, ◌-◌, ◌<◌, ◌≤◌, true, false, List, [], ◌∷◌, ◌++◌, length}
 use Rattle.std.proofs.Common.{get_or, take, drop, insert, set, map, slice_range, string_bytes, All, leb}
@@ -17,7 +18,7 @@ use Rattle.std.proofs.Common.{IsUtf8, IsCharBoundary, refl, sym, ap, ◌∙◌, 
 use Rattle.std.proofs.Common.{Bool, Some, not, slice_get}
 use Rattle.std.specs.Prelude.{◌&&◌, ◌||◌}
 use Rattle.std.proofs.Common.{◌==◌, ◌≢◌, nat_lt, arith, leb-true, leb-false, lt-ltb, le-ltb, ltb, ◌⊎◌, inl, inr}
-use Rattle.std.proofs.lemmas.List.{drop-take, get_or-map, length-map, take_more}
+use Rattle.std.proofs.lemmas.List.{drop-take, get_or-map, get_or_default, length-map, take_more}
 use Rattle.std.proofs.lemmas.List.Elements.{All-append, All-cons, All-drop, All-head, All-map, All-nil, All-tail}
 use Rattle.std.proofs.lemmas.List.Elements.{All-take, All-weaker}
 use Rattle.std.proofs.lemmas.List.Folds.{list_any-append}
@@ -30,8 +31,8 @@ use Rattle.std.specs.List.Sorted.{IsNonDecreasingBy, IsPartitionPoint}
 use Rattle.keep_edit_spec.specs.Runs.{takes_up_to}
 use Rattle.keep_edit_spec.specs.TextChanges.{Follow, IsBeside, TextChange, text_with, with_change}
 use Rattle.keep_edit_plan.specs.declared.text_edit.TextEdit.{TextEdit}
-use Rattle.keep_edit_plan.specs.TextEdits.{HasChange, HasInstead, IsChangeIn, IsOrdered, IsReplaced, TakesAlone}
-use Rattle.keep_edit_plan.specs.TextEdits.{change_of}
+use Rattle.keep_edit_plan.specs.TextEdits.{HasChange, HasInstead, IsChangeIn, IsOrdered, IsPutAhead, IsReplaced}
+use Rattle.keep_edit_plan.specs.TextEdits.{TakesAlone, change_of}
 
 -- ---- the order
 
@@ -174,6 +175,78 @@ insert_change m (t ∷ ts) (suc place) p =
     } in
     rw (le-ltb m.place.start t.place.start first)
     (ap (λ (cs : List TextChange). change_of t ∷ cs) (insert_change m ts place rest))
+
+-- ---- one more, right before another
+
+-- An edit is put before the one with this number.
+pub record IsPutBefore (m : TextEdit) (ts : List TextEdit) (i : ℕ) : Type 0 where
+  pub before : List TextChange
+  pub after : List TextChange
+  pub was : map change_of ts ≡ before ++ change_of (get_or ts i m) ∷ after
+  pub is : map change_of (insert ts i m) ≡ before ++ change_of m ∷ change_of (get_or ts i m) ∷ after
+  pub later : (at : ℕ) → ((k : ℕ) (d : TextEdit) → i < k → k < length ts → at < start_of (get_or ts k d))
+      → All (λ c. at < c.at) after
+
+pub put_before : (m : TextEdit) (ts : List TextEdit) (i : ℕ) → i < length ts → IsPutBefore m ts i
+put_before m [] i low = absurd (omega (arith, low))
+put_before m (t ∷ ts) zero low = record {
+  before = [];
+  after = map change_of ts;
+  was = refl;
+  is = refl;
+  later = λ at h. All-map (λ c. at < c.at) change_of ts (λ k d w. h (suc k) d (omega arith) (omega (arith, w)));
+}
+put_before m (t ∷ ts) (suc i) low =
+    let more : IsPutBefore m ts i = put_before m ts i (omega (arith, low)) in
+    record {
+      before = change_of t ∷ more.before;
+      after = more.after;
+      was = ap (λ (cs : List TextChange). change_of t ∷ cs) more.was;
+      is = ap (λ (cs : List TextChange). change_of t ∷ cs) more.is;
+      later = λ at h. more.later at (λ k d l w. h (suc k) d (omega (arith, l)) (omega (arith, w)));
+    }
+
+follow_before : (from : ℕ) (before after : List TextChange) (c d : TextChange) → d.at ≡ c.at → c.size ≡ 0
+    → Follow from (before ++ d ∷ after) → Follow from (before ++ c ∷ d ∷ after)
+follow_before from [] after c d at none (low, rest) =
+    (omega (arith, at, low), (omega (arith, at, none), rest))
+follow_before from (x ∷ before) after c d at none (low, rest) =
+    (low, follow_before (x.at + x.size) before after c d at none rest)
+
+-- An edit that takes nothing comes before the last of those that begin where it does, which takes nothing either.
+module _ (m : TextEdit) (ts : List TextEdit) (place : ℕ) (p : IsPlaceOf m ts place) (some : 0 < place)
+    (h : Follow 0 (map change_of ts)) (none : m.place.start ≡ m.place.end)
+    (start : start_of (get_or ts (place - 1) m) ≡ m.place.start)
+    (end : (get_or ts (place - 1) m).place.end ≡ m.place.end) where
+  last_before : IsPutBefore m ts (place - 1)
+  last_before = put_before m ts (place - 1) (omega (arith, some, p.within))
+
+  -- the last of them, whatever stands for one that is not there
+  last_end : HasLeft m ts place
+  last_end d more =
+      subst (λ (t : TextEdit). t.place.end ≤ m.place.start)
+      (get_or_default ts (place - 1) m d (omega (arith, some, p.within))) (omega (arith, end, none))
+
+  right_end : HasRight m ts place
+  right_end d more = omega (arith, none, p.after place d (omega arith) more)
+
+  pub put_ahead : IsPutAhead (map change_of ts) (change_of m) (map change_of (insert ts (place - 1) m))
+  put_ahead = record {
+    before = last_before.before;
+    one = change_of (get_or ts (place - 1) m);
+    after = last_before.after;
+    was = last_before.was;
+    at = start;
+    later = last_before.later m.place.start (λ k d l w. p.after k d (omega (arith, l, some)) w);
+    is = last_before.is;
+    beside = room_beside m ts place p h last_end right_end;
+  }
+
+  pub follow_ahead : Follow 0 (map change_of (insert ts (place - 1) m))
+  follow_ahead =
+      subst (Follow 0) (sym last_before.is)
+      (follow_before 0 last_before.before last_before.after (change_of m) (change_of (get_or ts (place - 1) m)) start
+      (omega (arith, none)) (subst (Follow 0) last_before.was h))
 
 -- ---- the text, edit by edit
 

@@ -1,5 +1,5 @@
 -- Edits of one text, and what changes of the text they are.
-use Rattle.std.specs.Prelude.{◌≡◌, ◌+◌, ◌-◌, ◌≤◌, ◌++◌, ◌∷◌, [], ℕ, All, List, None, IsCharBoundary, false, true}
+use Rattle.std.specs.Prelude.{◌≡◌, ◌+◌, ◌-◌, ◌<◌, ◌≤◌, ◌++◌, ◌∷◌, [], ℕ, All, List, None, IsCharBoundary, false, true}
 use Rattle.std.specs.Prelude.{string_bytes}
 use Rattle.keep_syntax.specs.Tree.{Document, Value, text}
 use Rattle.keep_path.specs.Path.{Part}
@@ -11,7 +11,7 @@ use Rattle.keep_edit_spec.specs.EntryEdits.{CanHold, MakesSet}
 use Rattle.keep_edit_spec.specs.Refusals.{refusal}
 use Rattle.keep_edit_spec.specs.Runs.{MakesChange, takes_up_to}
 use Rattle.keep_edit_spec.specs.SetValues.{SetsValue}
-use Rattle.keep_edit_spec.specs.TextChanges.{TextChange, change_at}
+use Rattle.keep_edit_spec.specs.TextChanges.{IsBeside, TextChange, change_at}
 use Rattle.keep_edit_plan.specs.Answers.{IsMadeAt, IsSpanOf}
 use Rattle.keep_edit_plan.specs.Given.{IsEdit}
 use Rattle.keep_edit_plan.specs.Reading.{IsTextOfTree, ProfiledText, limit}
@@ -54,6 +54,17 @@ pub record IsReplaced (old : List TextChange) (d : TextChange) (new : List TextC
   pub is : new ≡ before ++ d ∷ after
   pub at : gone.at ≡ d.at
   pub size : gone.size ≡ d.size
+
+-- the change comes beside all others, right before the last one that begins where it does
+pub record IsPutAhead (old : List TextChange) (c : TextChange) (new : List TextChange) : Type 0 where
+  pub before : List TextChange
+  pub one : TextChange
+  pub after : List TextChange
+  pub was : old ≡ before ++ one ∷ after
+  pub at : one.at ≡ c.at
+  pub later : All (λ d. c.at < d.at) after
+  pub is : new ≡ before ++ c ∷ one ∷ after
+  pub beside : All (λ d. IsBeside d c) old
 
 -- the change d is where c was
 pub record HasInstead (old : List TextChange) (c d : TextChange) (new : List TextChange) : Type 0 where

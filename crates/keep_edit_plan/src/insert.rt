@@ -20,6 +20,7 @@ ghost use Rattle.keep_edit_plan.specs.Inserting.{IsInsertionOf, IsPutIn, last_ke
 
 mod added;
 mod brought_header;
+mod brought_line;
 mod change;
 mod dotted_line;
 mod keys;

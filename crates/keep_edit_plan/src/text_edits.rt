@@ -6,8 +6,8 @@ ghost use Rattle.std.specs.List.{list_any};
 ghost use Rattle.keep_edit_spec.specs.Runs.{LeavesPlace, LetsCome, takes_up_to};
 ghost use Rattle.keep_edit_spec.specs.TextChanges.{IsBeside, text_with, with_change};
 ghost use Rattle.keep_edit_plan.specs.SaidSpans.{Leaves};
-ghost use Rattle.keep_edit_plan.specs.TextEdits.{HasChange, HasInstead, IsChangeIn, IsOrdered, IsReplaced, TakesAlone};
-ghost use Rattle.keep_edit_plan.specs.TextEdits.{change_of};
+ghost use Rattle.keep_edit_plan.specs.TextEdits.{HasChange, HasInstead, IsChangeIn, IsOrdered, IsPutAhead, IsReplaced};
+ghost use Rattle.keep_edit_plan.specs.TextEdits.{TakesAlone, change_of};
 
 use crate::said::said_line;
 use crate::text_edit::TextEdit;
@@ -75,6 +75,30 @@ impl TextEdits {
             return Ok(false);
         }
         match self.edits.insert(number, edit) {
+            Ok(()) => Ok(true),
+            Err(_) => Err(AllocError),
+        }
+    }
+
+    /// Puts an edit that takes nothing right before the last of those that begin where it does. Returns whether it did:
+    /// not where none begins there, or where that one takes bytes.
+    ///
+    /// # Errors
+    ///
+    /// Out of memory. Then nothing has changed.
+    pub fn add_ahead(&mut self, edit: TextEdit) -> Result<bool, AllocError>
+        ensures put { IfOk result (λ done. IsTrue done → IsPutAhead self.old (change_of edit) self.new) }
+        ensures other { IfOk result (λ done. done ≡ false → self.new ≡ self.old) }
+        ensures refused { OnErr result (self.new ≡ self.old) }
+    {
+        let Span { start, end } = edit.place;
+        let after = self
+            .edits
+            .partition_point(|there| there.place.start <= start);
+        if start != end || after == 0 || self.edits[after - 1].place != edit.place {
+            return Ok(false);
+        }
+        match self.edits.insert(after - 1, edit) {
             Ok(()) => Ok(true),
             Err(_) => Err(AllocError),
         }

@@ -12,7 +12,7 @@ use Rattle.keep_edit_spec.specs.TextChanges.{TextChange}
 use Rattle.keep_edit_plan.specs.TextEdits.{change_of}
 use Rattle.keep_edit_plan.specs.declared.edit.Edit.{Edit}
 use Rattle.keep_edit_plan.specs.declared.text_edit.TextEdit.{TextEdit}
-use Rattle.keep_edit_runs.specs.Again.{AllowAgain, IsAgainHere, IsPutAgain, edit_of, outlines_of}
+use Rattle.keep_edit_runs.specs.Again.{AllowAgain, IsAgainHere, IsPutAgain, LetsAgain, edit_of, outlines_of}
 use Rattle.keep_edit_plan.specs.Reading.{ProfiledText}
 use Rattle.keep_edit_runs.specs.Runs.{Allows, outlined}
 use Rattle.keep_edit_runs.specs.declared.added_lines.AddedLines.{AddedLines}
@@ -42,16 +42,19 @@ alike P outlines t (inr inserts) all =
 pub made_once_more : (edits : List Edit) (first end : ℕ) (now : ProfiledText) (outlines : List Outline)
     (changes new : List TextChange) (adds : AddedLines) (d x : Edit) (a : Again) (P : Outline → Type 0)
     → AreMadeTo edits first end now outlines changes adds → end < length edits → get_or edits end d ≡ x
-    → IsAgainHere now x outlines changes a → AllowAgain P a → All P outlines → IsPutAgain a changes new
+    → IsAgainHere now x outlines changes a → AllowAgain P a → LetsAgain adds a → All P outlines
+    → IsPutAgain a changes new
     → AreMadeTo edits first (suc end) now (outlines ++ outlines_of a) new adds
-made_once_more edits first end now outlines changes new adds d x (again.Value t) P so_far lt here is allow seen put =
+made_once_more edits first end now outlines changes new adds d x (again.Value t) P so_far lt here is allow lets seen
+    put =
     subst (λ (os : List Outline). AreMadeTo edits first (suc end) now os new adds) (sym (append-nil outlines))
     (changes_again edits first end now outlines changes new adds d x t so_far lt here is put)
-made_once_more edits first end now outlines changes new adds d x (again.Key o t) P so_far lt here is allow seen put =
+made_once_more edits first end now outlines changes new adds d x (again.Key o t) P so_far lt here is allow lets seen
+    put =
     renamed_again edits first end now outlines changes new adds d x o t so_far lt here is
     (All-weaker P (λ y. Allows y o) allow outlines seen) put
 made_once_more edits first end now outlines changes new adds d x (again.Line number was t) P so_far lt here is allow
-    seen put =
+    lets seen put =
     subst (λ (os : List Outline). AreMadeTo edits first (suc end) now os new adds) (sym (append-nil outlines))
     (inserted_again edits first end now outlines changes new adds d x was t so_far lt here is
-    (alike P outlines t allow seen) put)
+    (alike P outlines t allow seen) lets put)

@@ -5,7 +5,8 @@
 -- more edit that is elsewhere than in their arrays is not refused after those before it, nor is the remove of one more
 -- element, and its change is put in where they move it. So the edits up to it are made.
 --
--- Theorems: `none_gone`: where none is gone; `more_among`: with one edit more; `less_among`: with one element less;
+-- Theorems: `none_gone`: where none is gone; `more_among`, `placed_too`: with one edit more; `less_among`: with one
+-- element less;
 -- `among_made`, `among_within`: so all are made.
 use Rattle.std.proofs.Common.{◌≡◌, ◌≢◌, ◌<◌, ◌∷◌, ◌++◌, [], ℕ, suc, List, length, take, get_or, refl, sym, ap, subst}
 use Rattle.std.proofs.Common.{subst₂, ◌∙◌, All, IsUtf8, inl, inr}
@@ -26,7 +27,7 @@ use Rattle.keep_edit_spec.specs.Laws.{IsLawfulEdit}
 use Rattle.keep_edit_spec.specs.Refusals.{refusal}
 use Rattle.keep_edit_spec.specs.Runs as runs
 use Rattle.keep_edit_spec.specs.Runs.{ArePlain, IsBeforeHeaders, IsInOrder, IsPlainBefore, LetsCome}
-use Rattle.keep_edit_spec.specs.Runs.{LetsTable, MakesChange, with_line}
+use Rattle.keep_edit_spec.specs.Runs.{MakesChange, with_line}
 use Rattle.keep_edit_spec.specs.TextChanges.{IsBeside, TextChange, with_change}
 use Rattle.keep_edit_spec.specs.declared.line_kind.LineKind.{LineKind}
 use Rattle.keep_edit_spec.proofs.Shared.{all_with}
@@ -39,7 +40,7 @@ use Rattle.keep_edit_runs.specs.KindsRun.{IsPlacedAmong}
 use Rattle.keep_edit_runs.specs.Lists.{AreMade, IsEdit}
 use Rattle.keep_edit_plan.specs.Reading.{IsTextOfTree, ProfiledText, limit}
 use Rattle.keep_edit_runs.specs.Runs.{IsLineKept, IsOfKind, LeavesAlone, MakeChanges, MakesInRun, MakesInRunHere}
-use Rattle.keep_edit_runs.specs.Runs.{changed_text, outlined, plain}
+use Rattle.keep_edit_runs.specs.Runs.{IsNoSecondOf, changed_text, outlined, plain}
 use Rattle.keep_edit_runs.specs.declared.added_lines.AddedLines.{AddedLines}
 use Rattle.keep_edit_runs.specs.declared.gone_between.GoneBetween.{GoneBetween}
 use Rattle.keep_edit_runs.specs.declared.outline.Outline.{Outline}
@@ -169,9 +170,9 @@ module _ (s : Document) (edits : List Edit) (n : ℕ) (old now : ProfiledText) (
       → IsInOrder h.es changes h.lines (added_as before p c)
   in_order = order before h.es changes h.lines adds next_adds o a plain_is c line kept h.headers_known h.known
 
-  pass : (f : law.Edit) → a ≡ f → All (λ l. LetsTable l f) h.lines
+  pass : (f : law.Edit) → a ≡ f → All (λ l. IsNoSecondOf l f) h.lines
   pass f same =
-      subst (λ (g : law.Edit). All (λ l. LetsTable l g) h.lines) same
+      subst (λ (g : law.Edit). All (λ l. IsNoSecondOf l g) h.lines) same
       (passes before h.es changes h.lines adds next_adds o a plain_is c line kept h.headers_known h.known)
 
   -- a line comes so in this text
@@ -257,7 +258,7 @@ module _ (s : Document) (edits : List Edit) (n : ℕ) (old now : ProfiledText) (
   }
 
 -- as it is placed among others between which elements go, it is placed among those between which none does
-placed_too : (outlines : List Outline) (bytes : List ℕ) (changes : List TextChange) (x : Outline) (at : ℕ)
+pub placed_too : (outlines : List Outline) (bytes : List ℕ) (changes : List TextChange) (x : Outline) (at : ℕ)
     → IsPlacedAmong outlines bytes changes x at → IsPlaced outlines bytes changes x at
 placed_too outlines bytes changes x at h =
     record { insert = λ is. inr (h.insert is); header = λ is. inr (h.header is) }

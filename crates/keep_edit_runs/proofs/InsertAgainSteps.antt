@@ -9,14 +9,15 @@
 -- Theorems: `each_instead`: what holds of each change holds with one where another was; `line_here`, `inserted_again`.
 use Rattle.std.proofs.Common.{◌≡◌, ◌<◌, ◌∷◌, ◌++◌, [], ℕ, suc, List, take, length, get_or, string_bytes, refl, sym}
 use Rattle.std.proofs.Common.{ap, subst, ◌∙◌, All, IsUtf8, inl, inr, None, false, true}
-use Rattle.std.specs.Prelude.{◌⊎◌, IsTrue}
+use Rattle.std.specs.Prelude.{◌⊎◌, Any, IsTrue}
+use Rattle.std.proofs.lemmas.List.Elements.{All-cons, All-head, All-tail, All-weaker}
 use Rattle.std.proofs.lemmas.Str.{IsUtf8-string_bytes}
 use Rattle.keep_types.specs.declared.leaf.Profile.TheVariants.{Wide}
 use Rattle.keep_syntax.specs.Tree.{Document, Value, text}
 use Rattle.keep_path.specs.Path.{Part}
 use Rattle.keep_edit_spec.specs.AddedLines.{first_new}
 use Rattle.keep_edit_spec.specs.Changed.{put}
-use Rattle.keep_edit_spec.specs.InsertKinds.{AddsAs}
+use Rattle.keep_edit_spec.specs.InsertKinds.{AddsAs, IsHeaderAt}
 use Rattle.keep_edit_spec.specs.declared.line_kind.LineKind.{LineKind}
 use Rattle.keep_edit_spec.specs.declared.line_kind.LineKind.TheVariants.{LastInBody, OfDotted, WithHeader}
 use Rattle.keep_edit_spec.specs.Edits as law
@@ -27,7 +28,7 @@ use Rattle.keep_edit_spec.specs.Refusals.{refusal}
 use Rattle.keep_edit_spec.specs.RenameLists.{AllowsKey, IsRenameIn}
 use Rattle.keep_edit_spec.specs.RunLists.{IsSetIn, MadeEdit, changes_of, document_after, lines_of, made, seen_of}
 use Rattle.keep_edit_spec.specs.Runs as runs
-use Rattle.keep_edit_spec.specs.Runs.{IsPlain, IsRun}
+use Rattle.keep_edit_spec.specs.Runs.{IsPlain, IsRun, MakesChange}
 use Rattle.keep_edit_spec.specs.TextChanges.{Follow, TextChange, text_with}
 use Rattle.keep_edit_spec.proofs.Shared.{change_put, each_more, lines_more, run_goes_on_inserted, run_is_known}
 use Rattle.keep_edit_spec.proofs.Shared.{set_lawful}
@@ -38,14 +39,14 @@ use Rattle.keep_edit_plan.specs.declared.edit.Edit.TheVariants as edit
 use Rattle.keep_edit_plan.specs.declared.text_edit.TextEdit.{TextEdit}
 use Rattle.keep_edit_runs.specs.Again.{InsertsAgainHere}
 use Rattle.keep_edit_plan.specs.Answers.{IsSpanOf}
-use Rattle.keep_edit_runs.specs.AddedLines.{IsHeaderKnown, IsKnownAt}
+use Rattle.keep_edit_runs.specs.AddedLines.{IsFollowed, IsHeaderKnown, IsKnownAt}
 use Rattle.keep_edit_runs.specs.Lists.{AreMade, IsEdit}
 use Rattle.keep_edit_plan.specs.Reading.{IsAcceptedValue, IsTextOfTree, IsTextOfValue, ProfiledText, limit}
 use Rattle.keep_edit_runs.specs.Runs.{IsRunTo, changed_text, outlined}
 use Rattle.keep_edit_runs.specs.declared.added_lines.AddedLines.{AddedLines}
 use Rattle.keep_edit_runs.specs.declared.outline.Outline.{Outline}
 use Rattle.keep_edit_runs.proofs.MadeMore.{more_made}
-use Rattle.keep_edit_runs.proofs.RunSteps.{AreMadeTo, run_so_far, text_utf8, tree_of_run}
+use Rattle.keep_edit_runs.proofs.RunSteps.{AreMadeTo, MakesOrFollows, run_so_far, text_utf8, tree_of_run}
 use Rattle.keep_edit_runs.proofs.SetAgainSteps.{all_but}
 
 -- ---- the edits in the list
@@ -77,6 +78,14 @@ rename_in_more q path v w c d [] earlier (inr h) = inr h
 rename_in_more q path v w c d (x ∷ later) earlier (inl its) = inl its
 rename_in_more q path v w c d (x ∷ later) earlier (inr h) = inr (rename_in_more q path v w c d later earlier h)
 
+-- what holds of each edit holds with one where another was
+with_one : (P : MadeEdit → Type 0) (m by : MadeEdit) (later earlier : List MadeEdit) → P by
+    → All P (later ++ m ∷ earlier) → All P (later ++ by ∷ earlier)
+with_one P m by [] earlier its h = All-cons P by earlier its (All-tail P m earlier h)
+with_one P m by (x ∷ later) earlier its h =
+    All-cons P x (later ++ by ∷ earlier) (All-head P x (later ++ m ∷ earlier) h)
+    (with_one P m by later earlier its (All-tail P x (later ++ m ∷ earlier) h))
+
 -- what holds of each change holds with one where another was
 pub each_instead : (P : TextChange → Type 0) (old new : List TextChange) (c d : TextChange) → HasInstead old c d new
     → All P old → P d → All P new
@@ -93,7 +102,8 @@ module _ (s : Document) (edits : List Edit) (n : ℕ) (old now : ProfiledText) (
     (outlines : List Outline) (changes new : List TextChange) (adds : AddedLines) (read : IsTextOfTree now before)
     (h : IsRunTo s edits n old now before outlines changes adds) (d x : Edit) (lt : n < length edits)
     (here : get_or edits n d ≡ x) (was t : TextEdit) (again : InsertsAgainHere now x was t)
-    (alike : IsAlike outlines t) (replaced : HasInstead changes (change_of was) (change_of t) new)
+    (alike : IsAlike outlines t) (unfollowed : (i : ℕ) → ¬ IsFollowed adds i)
+    (replaced : HasInstead changes (change_of was) (change_of t) new)
     (utf8 : All (λ b. IsUtf8 b.new) new) (within : All (IsChangeIn now.text) new) where
   abbrev e : law.Edit
   e = law.set again.path again.more
@@ -102,11 +112,19 @@ module _ (s : Document) (edits : List Edit) (n : ℕ) (old now : ProfiledText) (
   plain (inl line) = inl line
   plain (inr all) = inr (h.inserts all)
 
+  -- no edit follows a header
+  makes_own : (m : MadeEdit) → MakesOrFollows now before adds m
+      → MakesChange now.profile limit before m.edit m.change
+  makes_own m (inl makes) = makes
+  makes_own m (inr follows) = absurd (unfollowed m.change.at follows)
+
   r : IsRunInsertedAgain now.profile limit before h.ms again.path again.more replaced.before (change_of was)
       (change_of t) replaced.after
   r =
       run_goes_on_inserted now.profile limit before h.ms again.path again.value again.more again.kind replaced.before
-      (change_of was) (change_of t) replaced.after (editable now before read) h.at_once (again.added before read)
+      (change_of was) (change_of t) replaced.after (editable now before read) h.at_once
+      (All-weaker (MakesOrFollows now before adds) (λ m. MakesChange now.profile limit before m.edit m.change)
+      (λ m. makes_own m) h.ms h.followed) (again.added before read)
       (h.changes_are ∙ replaced.was) (again.adds before read) (plain alike)
 
   abbrev ms : List MadeEdit
@@ -193,13 +211,12 @@ module _ (s : Document) (edits : List Edit) (n : ℕ) (old now : ProfiledText) (
       r.exchanged.earlier (subst (IsRenameIn q) r.exchanged.all there))
 
   -- the line is at its place, and of its table
-  lines_known : All (IsKnownAt adds) (lines_of before ms)
-  lines_known =
-      subst (All (IsKnownAt adds))
-      (ap (lines_of before) r.exchanged.all
+  lines_same : lines_of before h.ms ≡ lines_of before ms
+  lines_same =
+      ap (lines_of before) r.exchanged.all
       ∙ lines_more before again.path r.value again.more (change_of was) (change_of t) r.at r.exchanged.later
       r.exchanged.earlier
-      ∙ ap (lines_of before) (sym r.exchanged.other)) h.lines
+      ∙ ap (lines_of before) (sym r.exchanged.other)
 
   pub made_again : IsRunTo s edits (suc n) old now before outlines new adds
   made_again = record {
@@ -213,7 +230,12 @@ module _ (s : Document) (edits : List Edit) (n : ℕ) (old now : ProfiledText) (
     sets = λ q any. set_in q (h.sets q any);
     renames = λ q name any. rename_in q (h.renames q name any);
     allow = λ q name all. all_again (AllowsKey q name) (λ its. its) (h.allow q name all);
-    lines = lines_known;
+    lines = subst (All (IsKnownAt adds)) lines_same h.lines;
+    followed = subst (All (MakesOrFollows now before adds)) (sym r.exchanged.other)
+        (with_one (MakesOrFollows now before adds) first one r.exchanged.later r.exchanged.earlier
+        (inl (again.kind, again.adds before read))
+        (subst (All (MakesOrFollows now before adds)) r.exchanged.all h.followed));
+    headed = λ i table there. subst (Any (IsHeaderAt i)) lines_same (h.headed i table there);
     headers_known = all_again (IsHeaderKnown adds) (λ its. its) h.headers_known;
     at_once = r.still;
     changes_are = sym new_is;
@@ -247,9 +269,10 @@ line_here now x path given value was t kind is added (v, given_is) adds (w, valu
 pub inserted_again : (edits : List Edit) (first end : ℕ) (now : ProfiledText) (outlines : List Outline)
     (changes new : List TextChange) (adds : AddedLines) (d x : Edit) (was t : TextEdit)
     → AreMadeTo edits first end now outlines changes adds → end < length edits → get_or edits end d ≡ x
-    → InsertsAgainHere now x was t → IsAlike outlines t → HasInstead changes (change_of was) (change_of t) new
+    → InsertsAgainHere now x was t → IsAlike outlines t → ((i : ℕ) → ¬ IsFollowed adds i)
+    → HasInstead changes (change_of was) (change_of t) new
     → AreMadeTo edits first (suc end) now outlines new adds
-inserted_again edits first end now outlines changes new adds d x was t so_far lt here again alike replaced =
+inserted_again edits first end now outlines changes new adds d x was t so_far lt here again alike unfollowed replaced =
     let utf8 =
     each_instead (λ b. IsUtf8 b.new) changes new (change_of was) (change_of t) replaced so_far.utf8
     (IsUtf8-string_bytes t.new) in
@@ -258,7 +281,7 @@ inserted_again edits first end now outlines changes new adds d x was t so_far lt
     (change_in now.text t again.within) in
     record {
       made = λ s old h. made_again s edits end old now h.tree outlines changes new adds h.read (so_far.made s old
-          h) d x lt here was t again alike replaced utf8 within;
+          h) d x lt here was t again alike unfollowed replaced utf8 within;
       within = within;
       utf8 = utf8;
     }

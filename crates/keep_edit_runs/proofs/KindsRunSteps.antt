@@ -6,13 +6,15 @@
 -- Theorems: `run_begins`: no edits; `run_longer`: one more; `added_too`: what was opened and planned does not matter.
 use Rattle.std.proofs.Common.{◌≡◌, ◌<◌, [], ℕ, suc, All, List, length, get_or, inl, inr, refl, subst}
 use Rattle.std.proofs.Common.{subst₂, sym}
-use Rattle.std.specs.Prelude.{◌⊎◌}
+use Rattle.std.specs.Prelude.{◌⊎◌, Bool, true}
 use Rattle.std.proofs.lemmas.List.Elements.{All-nil}
 use Rattle.keep_edit_spec.specs.Runs.{IsPlain}
 use Rattle.keep_edit_spec.specs.TextChanges.{TextChange}
 use Rattle.keep_edit_plan.specs.declared.edit.Edit.{Edit}
 use Rattle.keep_edit_runs.specs.GoneBetween.{AreElsewhere}
+use Rattle.keep_edit_plan.specs.TextEdits.{change_of}
 use Rattle.keep_edit_runs.specs.KindsRun.{AddsOne, GoesOn, IsRunOn, PutsOne, StartsAt, TakesOne}
+use Rattle.keep_edit_runs.specs.Runs.{IsAddedInOrder}
 use Rattle.keep_edit_plan.specs.Reading.{ProfiledText}
 use Rattle.keep_edit_runs.specs.SeenPaths.{IsArraySeen, IsSeen}
 use Rattle.keep_edit_runs.specs.declared.added_lines.AddedLines.{AddedLines}
@@ -21,8 +23,10 @@ use Rattle.keep_edit_runs.specs.declared.kinds_run.KindsRun.{KindsRun}
 use Rattle.keep_edit_runs.specs.declared.opened.OpenValues.{OpenValues}
 use Rattle.keep_edit_runs.specs.declared.outline.Outline.{Outline}
 use Rattle.keep_edit_runs.proofs.AgainSteps.{made_once_more}
-use Rattle.keep_edit_runs.proofs.ElementSteps.{AreMadeAmong, less_among, more_among, none_gone}
-use Rattle.keep_edit_runs.proofs.RunSteps.{no_changes}
+use Rattle.keep_edit_runs.proofs.AheadSteps.{more_ahead}
+use Rattle.keep_edit_runs.proofs.ElementSteps.{AreMadeAmong, less_among, more_among, none_gone, placed_too}
+use Rattle.keep_edit_runs.proofs.FollowSteps.{more_following}
+use Rattle.keep_edit_runs.proofs.RunSteps.{IsPlaced, no_changes}
 
 -- the edits up to this number are made by the run's changes
 abbrev pub AreMadeIn : List Edit → ℕ → ℕ → ProfiledText → KindsRun → Type 0
@@ -45,11 +49,37 @@ module _ (edits : List Edit) (first end : ℕ) (now : ProfiledText) (old new : K
     (so_far : AreMadeIn edits first end now old) (lt : end < length edits) (d x : Edit)
     (here : get_or edits end d ≡ x) where
   adds_one : AddsOne now old x new → AreMadeIn edits first (suc end) now new
-  adds_one h =
-      made_as edits first (suc end) now
-      (more_among edits first end now old.so_far.outlines.items old.so_far.changes old.lines new.lines old.gone d x
-      h.outline h.change h.line so_far lt here h.makes h.alone h.elsewhere h.beside h.placed h.kept)
-      h.outlines h.changes refl h.gone
+  adds_one h = by h.added.0 h.added.1.0 h.added.1.1
+    where
+      placed_here : IsPlaced old.so_far.outlines.items now.text old.so_far.changes h.outline (change_of h.change).at
+      placed_here =
+          placed_too old.so_far.outlines.items now.text old.so_far.changes h.outline (change_of h.change).at h.placed
+
+      by : (alone : Bool) → (alone ≡ true → old.gone.arrays.items ≡ [])
+          → IsAddedInOrder now x old.lines old.so_far.changes h.outline (change_of h.change) h.line alone new.lines
+          new.so_far.changes
+          → AreMadeIn edits first (suc end) now new
+      by alone empties (inl behind) =
+          made_as edits first (suc end) now
+          (more_among edits first end now old.so_far.outlines.items old.so_far.changes old.lines new.lines old.gone d x
+          h.outline h.change h.line so_far lt here h.makes h.alone h.elsewhere behind.beside h.placed behind.kept)
+          h.outlines behind.changes_are refl h.gone
+      by alone empties (inr (sure, inl ahead)) =
+          let (no_elements, none) = so_far.none (empties sure) in
+          made_as edits first (suc end) now
+          (none_gone edits first (suc end) now _ new.so_far.changes new.lines old.gone
+          (more_ahead edits first end now old.so_far.outlines.items old.so_far.changes new.so_far.changes old.lines
+          new.lines d x h.outline h.change h.line none lt here h.makes h.alone placed_here ahead)
+          (empties sure) no_elements)
+          h.outlines refl refl h.gone
+      by alone empties (inr (sure, inr follows)) =
+          let (no_elements, none) = so_far.none (empties sure) in
+          made_as edits first (suc end) now
+          (none_gone edits first (suc end) now _ new.so_far.changes new.lines old.gone
+          (more_following edits first end now old.so_far.outlines.items old.so_far.changes new.so_far.changes old.lines
+          new.lines d x h.outline h.change h.line none lt here h.makes h.alone placed_here follows)
+          (empties sure) no_elements)
+          h.outlines refl refl h.gone
 
   puts_one : All (IsSeen old.paths) old.so_far.outlines.items → PutsOne now old x new
       → AreMadeIn edits first (suc end) now new
@@ -58,7 +88,7 @@ module _ (edits : List Edit) (first end : ℕ) (now : ProfiledText) (old new : K
       made_as edits first (suc end) now
       (none_gone edits first (suc end) now _ new.so_far.changes old.lines old.gone
       (made_once_more edits first end now old.so_far.outlines.items old.so_far.changes new.so_far.changes old.lines d x
-      h.again (IsSeen old.paths) none lt here h.is h.does.allowed seen h.does.put)
+      h.again (IsSeen old.paths) none lt here h.is h.does.allowed h.does.lets seen h.does.put)
       h.none no_elements)
       h.does.outlines refl h.does.lines h.does.gone
 
@@ -88,8 +118,8 @@ pub run_begins : (edits : List Edit) (first : ℕ) (now : ProfiledText) (run : K
     → AreMadeIn edits first first now run × IsRunOn now run
 run_begins edits first now run h = (
   made_as edits first first now
-      (none_gone edits first first now [] [] run.lines run.gone (no_changes edits first now run.lines) h.arrays
-      h.elements)
+      (none_gone edits first first now [] [] run.lines run.gone (no_changes edits first now run.lines h.brought)
+      h.arrays h.elements)
       h.outlines h.changes refl refl,
   record {
     seen = (
@@ -114,10 +144,8 @@ added_too now old x new opened planner h = record {
   makes = h.makes;
   alone = h.alone;
   elsewhere = h.elsewhere;
-  beside = h.beside;
   placed = h.placed;
-  kept = h.kept;
+  added = h.added;
   outlines = h.outlines;
-  changes = h.changes;
   gone = h.gone;
 }

@@ -16,6 +16,8 @@ mod SetAgainSteps
 mod RenameAgainSteps
 mod InsertAgainSteps
 mod AgainSteps
+mod AheadSteps
+mod FollowSteps
 mod ItemSteps
 mod GoneLaws
 mod GoneFound

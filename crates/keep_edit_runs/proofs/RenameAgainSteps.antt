@@ -11,7 +11,7 @@
 -- Theorem: `renamed_again`.
 use Rattle.std.proofs.Common.{◌≡◌, ◌<◌, ◌∷◌, ◌++◌, [], ℕ, suc, List, length, take, get_or, refl, sym}
 use Rattle.std.proofs.Common.{ap, subst, ◌∙◌, All, IsUtf8, inl, inr, false, true}
-use Rattle.std.specs.Prelude.{IsTrue}
+use Rattle.std.specs.Prelude.{Any, IsTrue}
 use Rattle.std.proofs.lemmas.List.Elements.{All-cons}
 use Rattle.std.proofs.lemmas.Str.{IsUtf8-string_bytes}
 use Rattle.keep_token.specs.Encoded.{encoded_key}
@@ -20,6 +20,7 @@ use Rattle.keep_path.specs.Path.{Part, beside}
 use Rattle.keep_edit_spec.specs.Changed.{put}
 use Rattle.keep_edit_spec.specs.Edits as law
 use Rattle.keep_edit_spec.specs.Edits.{edited_document, place}
+use Rattle.keep_edit_spec.specs.InsertKinds.{IsHeaderAt}
 use Rattle.keep_edit_spec.specs.Laws.{IsLawfulEdit}
 use Rattle.keep_edit_spec.specs.RenameLists.{AllowsKey, IsRenameIn, IsRunRenamedAgain}
 use Rattle.keep_edit_spec.specs.RenamedKeys.{RenamesKey}
@@ -44,6 +45,7 @@ use Rattle.keep_edit_runs.specs.declared.added_lines.AddedLines.{AddedLines}
 use Rattle.keep_edit_runs.specs.declared.outline.Outline.{Outline}
 use Rattle.keep_edit_runs.proofs.MadeMore.{more_made}
 use Rattle.keep_edit_runs.proofs.RunSteps.{AreMadeTo, one_or_more, parts, plain_alone, run_so_far, text_utf8}
+use Rattle.keep_edit_runs.proofs.RunSteps.{MakesOrFollows, made_of_others}
 use Rattle.keep_edit_runs.proofs.RunSteps.{tree_of_run}
 use Rattle.keep_edit_runs.proofs.SetAgainSteps.{each_replaced, rename_by_one, set_by_one}
 
@@ -177,12 +179,11 @@ module _ (s : Document) (edits : List Edit) (n : ℕ) (old now : ProfiledText) (
   ]
 
   -- a rename adds no line
-  lines_known : All (IsKnownAt adds) (lines_of before ms)
-  lines_known =
-      subst (All (IsKnownAt adds))
-      (ap (lines_of before) r.one.all
+  lines_same : lines_of before h.ms ≡ lines_of before ms
+  lines_same =
+      ap (lines_of before) r.one.all
       ∙ lines_apart before (made (law.rename again.path r.text) r.c) r.one.later r.one.earlier (λ lines. refl)
-      ∙ ap (lines_of before) (sym r.one.others)) h.lines
+      ∙ ap (lines_of before) (sym r.one.others)
 
   pub made_again : IsRunTo s edits (suc n) old now before (outlines ++ o ∷ []) new adds
   made_again = record {
@@ -210,7 +211,11 @@ module _ (s : Document) (edits : List Edit) (n : ℕ) (old now : ProfiledText) (
     allow = λ q name all.
         let (all_before, its) = parts (λ y. AllowsKey q name (outlined y)) outlines o all in
         all_again (AllowsKey q name) (subst (AllowsKey q name) again.outline_is its) (h.allow q name all_before);
-    lines = lines_known;
+    lines = subst (All (IsKnownAt adds)) lines_same h.lines;
+    followed = All-cons (MakesOrFollows now before adds) (made e c) r.rest (inl (again.renames before read))
+        (made_of_others (MakesOrFollows now before adds) (made (law.rename again.path r.text) r.c) h.ms r.rest r.one
+        h.followed).1;
+    headed = λ i table there. subst (Any (IsHeaderAt i)) lines_same (h.headed i table there);
     headers_known = all_again (IsHeaderKnown adds) tt h.headers_known;
     at_once = r.still;
     changes_are = sym new_is;

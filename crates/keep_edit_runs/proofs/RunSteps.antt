@@ -8,8 +8,8 @@
 -- Theorems: `no_changes`, `more_changes`: before the first edit, and with one more; `all_made`, `all_within`: so all
 -- are made; `text_utf8`: the text with the changes; `change_made`, `tree_made`: an edit that puts one change more into
 -- it; `tree_of_run`: the document after a run; `run_so_far`: the run of the edits so far; `order`, `passes`,
--- `known_with`, `headers_with`: a line or a header comes in order, and is known; `unadded`, `added`: what is added to a
--- list.
+-- `known_with`, `headers_with`, `headed_with`: a line or a header comes in order, and is known; `still_follows`,
+-- `made_of_others`: of lines behind headers; `unadded`, `added`: what is added to a list.
 use Rattle.std.proofs.Common.{◌≡◌, ◌≢◌, ◌<◌, ◌≤◌, ◌+◌, ◌∷◌, ◌++◌, [], ℕ, zero, suc, List, length, take, drop}
 use Rattle.std.proofs.Common.{get_or, refl, sym, ap, subst, subst₂, ◌∙◌, arith, All, IsUtf8, IsCharBoundary, inl, inr}
 use Rattle.std.specs.Prelude.{◌⊎◌, Any, Bool, Err, IfOk, IsTrue, None, Ok, OnErr, Option, Result, Some, false}
@@ -30,27 +30,30 @@ use Rattle.keep_edit_spec.specs.Changed.{put}
 use Rattle.keep_edit_spec.specs.Edits as law
 use Rattle.keep_edit_spec.specs.Edits.{edited_document, place}
 use Rattle.keep_edit_spec.specs.EntryEdits.{IsRunLongerByEntry, MakesSet}
-use Rattle.keep_edit_spec.specs.InsertKinds.{Added, IsAfterLine, added_as, kind_of}
+use Rattle.keep_edit_spec.specs.InsertKinds.{Added, IsAfterLine, IsHeaderAt, added_as, kind_of}
 use Rattle.keep_edit_spec.specs.Laws.{IsLawfulEdit}
 use Rattle.keep_edit_spec.specs.Refusals.{refusal}
 use Rattle.keep_edit_spec.specs.RenameLists.{AllowsKey, IsRenameIn}
 use Rattle.keep_edit_spec.specs.Runs as runs
-use Rattle.keep_edit_spec.specs.RunLists.{AreAtOnce, IsSetIn, MadeEdit, changes_of, document_after, lines_of}
+use Rattle.keep_edit_spec.specs.RunLists.{AreAtOnce, IsOneOf, IsSetIn, MadeEdit, changes_of, document_after}
+use Rattle.keep_edit_spec.specs.RunLists.{lines_of}
 use Rattle.keep_edit_spec.specs.RunLists.{seen_of}
 use Rattle.keep_edit_spec.specs.Runs.{ArePlain, IsBeforeHeaders, IsInOrder, IsPlainBefore, IsRun, IsRunLonger}
 use Rattle.keep_edit_spec.specs.Runs.{KeepsPlace, LetsCome, LetsTable, MakesChange, with_line}
 use Rattle.keep_edit_spec.specs.TextChanges.{Follow, IsBeside, TextChange, moved_past, text_with, with_change}
 use Rattle.keep_edit_spec.specs.declared.line_kind.LineKind.{LineKind}
+use Rattle.keep_edit_spec.specs.declared.line_kind.LineKind.TheVariants.{WithHeader}
 use Rattle.keep_edit_spec.proofs.Shared.{all_with, change_lawful, change_put, run_goes_on}
 use Rattle.keep_edit_spec.proofs.Shared.{run_goes_on_by_entry, run_is_known}
 use Rattle.keep_edit_plan.proofs.Shared.{change_in, editable, one_tree}
 use Rattle.keep_edit_plan.specs.TextEdits.{IsChangeIn, change_of}
 use Rattle.keep_edit_plan.specs.declared.edit.Edit.{Edit}
 use Rattle.keep_edit_plan.specs.declared.text_edit.TextEdit.{TextEdit}
-use Rattle.keep_edit_runs.specs.AddedLines.{IsHeaderKnown, IsKnownAt}
+use Rattle.keep_edit_runs.specs.AddedLines.{IsFollowed, IsHeaderKnown, IsKnownAt, brought_at}
 use Rattle.keep_edit_runs.specs.Lists.{IsEdit, AreMade}
 use Rattle.keep_edit_plan.specs.Reading.{limit, IsTextOfTree, ProfiledText}
-use Rattle.keep_edit_runs.specs.Runs.{IsKnownThen, IsLineKept, IsOfKind, IsRunTo, LeavesAlone, MakeChanges, MakesInRun}
+use Rattle.keep_edit_runs.specs.Runs.{IsBroughtThen, IsKnownThen, IsLineKept, IsNoSecondOf, IsOfKind, IsRunTo}
+use Rattle.keep_edit_runs.specs.Runs.{LeavesAlone, MakeChanges, MakesInRun}
 use Rattle.keep_edit_runs.specs.Runs.{IsRenamedBy, IsSetBy, MakesInRunHere, changed_text, no_value, outlined}
 use Rattle.keep_edit_runs.specs.Runs.{plain}
 use Rattle.keep_edit_runs.specs.declared.added_lines.AddedLines.{AddedLines}
@@ -115,7 +118,7 @@ plain_header (law.append_table ks) = refl
 plain_header (law.append_element ks) = refl
 
 -- What a key is allowed by does not hang on values.
-plain_allows : (path : List Part) (name : List ℕ) (e : law.Edit) → AllowsKey path name (plain e)
+pub plain_allows : (path : List Part) (name : List ℕ) (e : law.Edit) → AllowsKey path name (plain e)
     → AllowsKey path name e
 plain_allows path name (law.set p v) h = h
 plain_allows path name (law.insert p v) h = h
@@ -124,16 +127,16 @@ plain_allows path name (law.remove p) h = h
 plain_allows path name (law.append_table ks) h = h
 plain_allows path name (law.append_element ks) h = h
 
--- whether a header passes by a table, and is known, neither
-plain_lets : (l : Added) (e : law.Edit) → LetsTable l (plain e) → LetsTable l e
-plain_lets l (law.set p v) h = h
-plain_lets l (law.insert p v) h = h
-plain_lets l (law.rename p more) h = h
-plain_lets l (law.remove p) h = h
-plain_lets l (law.append_table ks) h = h
-plain_lets l (law.append_element ks) h = h
+-- whether a header is a second one, and is known, neither
+plain_second : (l : Added) (e : law.Edit) → IsNoSecondOf l (plain e) → IsNoSecondOf l e
+plain_second l (law.set p v) h = h
+plain_second l (law.insert p v) h = h
+plain_second l (law.rename p more) h = h
+plain_second l (law.remove p) h = h
+plain_second l (law.append_table ks) h = h
+plain_second l (law.append_element ks) h = h
 
-plain_known : (added : AddedLines) (e : law.Edit) → IsHeaderKnown added (plain e) → IsHeaderKnown added e
+pub plain_known : (added : AddedLines) (e : law.Edit) → IsHeaderKnown added (plain e) → IsHeaderKnown added e
 plain_known added (law.set p v) h = h
 plain_known added (law.insert p v) h = h
 plain_known added (law.rename p more) h = h
@@ -297,7 +300,37 @@ rename_seen s (law.remove p) path name is = absurd cc
 rename_seen s (law.append_table ks) path name is = absurd cc
 rename_seen s (law.append_element ks) path name is = absurd cc
 
+-- ---- lines behind headers
+
+-- the edit makes its own change, or a line comes behind a header at its byte
+abbrev pub MakesOrFollows : ProfiledText → Document → AddedLines → MadeEdit → Type 0
+MakesOrFollows now before adds m = MakesChange now.profile limit before m.edit m.change ⊎ IsFollowed adds m.change.at
+
+pub still_follows : (now : ProfiledText) (before : Document) (old new : AddedLines)
+    → ((n : ℕ) → IsFollowed old n → IsFollowed new n) → (m : MadeEdit) → MakesOrFollows now before old m
+    → MakesOrFollows now before new m
+still_follows now before old new more m (inl makes) = inl makes
+still_follows now before old new more m (inr follows) = inr (more m.change.at follows)
+
+-- what holds of all edits holds of one of them, and of the others
+pub made_apart : (P : MadeEdit → Type 0) (m : MadeEdit) (later earlier : List MadeEdit)
+    → All P (later ++ m ∷ earlier) → P m × All P (later ++ earlier)
+made_apart P m [] earlier h = (All-head P m earlier h, All-tail P m earlier h)
+made_apart P m (x ∷ later) earlier h =
+    let (one, rest) = made_apart P m later earlier (All-tail P x (later ++ m ∷ earlier) h) in
+    (one, All-cons P x (later ++ earlier) (All-head P x (later ++ m ∷ earlier) h) rest)
+
+pub made_of_others : (P : MadeEdit → Type 0) (m : MadeEdit) (ms rest : List MadeEdit) → IsOneOf m ms rest → All P ms
+    → P m × All P rest
+made_of_others P m ms rest one h =
+    let (its, others) = made_apart P m one.later one.earlier (subst (All P) one.all h) in
+    (its, subst (All P) (sym one.others) others)
+
 -- ---- a new line or header more
+
+-- what holds of one of the lines does so with one more before them
+pub any_later : (P : Added → Type 0) (l : Added) (lines : List Added) → Any P lines → Any P (l ∷ lines)
+any_later P l lines (k, it, less, is, holds) = (suc k, it, omega (arith, less), is, holds)
 
 -- The line of an insert, or a header, comes in order after edits that are seen so, and add lines and headers that are
 -- known.
@@ -325,11 +358,11 @@ module _ (before : Document) (es : List law.Edit) (changes : List TextChange) (l
     passed = All-weaker (IsHeaderKnown adds) (LetsTable (line_then p)) (known_then p v is of).passed es headers_known;
   }
 
-  -- a header that is appended passes by the tables of the lines with headers
-  pub passes : All (λ l. LetsTable l a) lines
+  -- a header that is appended is no second one of the tables of the lines with headers
+  pub passes : All (λ l. IsNoSecondOf l a) lines
   passes =
-      All-weaker (IsKnownAt adds) (λ l. LetsTable l a)
-      (λ l its. plain_lets l a (subst (LetsTable l) (sym plain_is) (kept.passes l its))) lines known
+      All-weaker (IsKnownAt adds) (λ l. IsNoSecondOf l a)
+      (λ l its. plain_second l a (subst (IsNoSecondOf l) (sym plain_is) (kept.passes l its))) lines known
 
   -- and is known too
   pub headers_with : All (IsHeaderKnown next_adds) (a ∷ es)
@@ -351,6 +384,36 @@ module _ (before : Document) (es : List law.Edit) (changes : List TextChange) (l
   known_with (law.remove p) same of = others_known
   known_with (law.append_table ks) same of = others_known
   known_with (law.append_element ks) same of = others_known
+
+  -- and its header comes there, if it brings one
+  pub headed_with : (f : law.Edit) → runs.seen before f ≡ a → IsOfKind before f line → (n : ℕ) (table : List Part)
+      → ((q : List Part) → brought_at adds n ≡ Some q → Any (IsHeaderAt n) lines)
+      → brought_at next_adds n ≡ Some table → Any (IsHeaderAt n) (with_line before f c lines)
+  headed_with f same of n table headed there = by f same of (kept.brought n table there)
+    where
+      other : {A : Type 0} (g : law.Edit) → runs.seen before g ≡ a → (first : List Part)
+          → outlined o ≡ law.insert first no_value → (plain (runs.seen before g) ≡ law.insert first no_value → ⊥) → A
+      other g own first is never = absurd (never (ap plain own ∙ plain_is ∙ is))
+
+      by : (g : law.Edit) → runs.seen before g ≡ a → IsOfKind before g line → IsBroughtThen adds o c.at line n table
+          → Any (IsHeaderAt n) (with_line before g c lines)
+      by (law.insert p v) own of (inl was) = any_later (IsHeaderAt n) (line_then p) lines (headed table was)
+      by (law.insert p v) own of (inr (at, (with_it, (first, is)))) =
+          let both : Some (kind_of before p) ≡ Some WithHeader = sym of ∙ with_it in
+          (zero, line_then p, omega arith, refl, (sym at, cc))
+      by (law.set p v) own of (inl was) = headed table was
+      by (law.rename p name) own of (inl was) = headed table was
+      by (law.remove p) own of (inl was) = headed table was
+      by (law.append_table ks) own of (inl was) = headed table was
+      by (law.append_element ks) own of (inl was) = headed table was
+      by (law.set p v) own of (inr (at, (with_it, (first, is)))) = other (law.set p v) own first is (λ e. cc)
+      by (law.rename p name) own of (inr (at, (with_it, (first, is)))) =
+          other (law.rename p name) own first is (λ e. cc)
+      by (law.remove p) own of (inr (at, (with_it, (first, is)))) = other (law.remove p) own first is (λ e. cc)
+      by (law.append_table ks) own of (inr (at, (with_it, (first, is)))) =
+          other (law.append_table ks) own first is (λ e. cc)
+      by (law.append_element ks) own of (inr (at, (with_it, (first, is)))) =
+          other (law.append_element ks) own first is (λ e. cc)
 
 -- one edit more, which others see so: another edit, which makes this change, makes of the first document what it makes
 record IsLonger (profile : Profile) (s : Document) (es : List law.Edit) (changes : List TextChange)
@@ -447,9 +510,9 @@ module _ (s : Document) (edits : List Edit) (n : ℕ) (old now : ProfiledText) (
       → IsInOrder es changes lines (added_as before p c)
   in_order = order before es changes lines adds next_adds o a plain_is c line kept h.headers_known h.lines
 
-  pass : (f : law.Edit) → a ≡ f → All (λ l. LetsTable l f) lines
+  pass : (f : law.Edit) → a ≡ f → All (λ l. IsNoSecondOf l f) lines
   pass f same =
-      subst (λ (g : law.Edit). All (λ l. LetsTable l g) lines) same
+      subst (λ (g : law.Edit). All (λ l. IsNoSecondOf l g) lines) same
       (passes before es changes lines adds next_adds o a plain_is c line kept h.headers_known h.lines)
 
   keeps : a ≡ runs.seen before e → IsOfKind before e line → KeepsPlace before es changes lines e c
@@ -505,17 +568,13 @@ module _ (s : Document) (edits : List Edit) (n : ℕ) (old now : ProfiledText) (
 
   at_once : AreAtOnce now.profile limit before ms
   at_once = (
-    longer.makes,
+    inl (
+      longer.makes,
+      subst (λ (cs : List TextChange). KeepsPlace before es cs lines longer.edit c) (sym h.changes_are) longer.keeps,
+    ),
     (
       subst (λ (g : law.Edit). All (λ f. runs.LeavesAlone f g) es) (sym longer.seen_is) others,
-      (
-        subst (All (λ b. IsBeside b c)) (sym h.changes_are) beside,
-        (
-          subst (λ (cs : List TextChange). KeepsPlace before es cs lines longer.edit c) (sym h.changes_are)
-              longer.keeps,
-          h.at_once,
-        ),
-      ),
+      (subst (All (λ b. IsBeside b c)) (sym h.changes_are) beside, h.at_once),
     ),
   )
 
@@ -569,6 +628,13 @@ module _ (s : Document) (edits : List Edit) (n : ℕ) (old now : ProfiledText) (
         all_seen (AllowsKey path name)
         (plain_allows path name a (subst (AllowsKey path name) (sym plain_is) its)) (h.allow path name all_before);
     lines = lines_known;
+    followed = All-cons (MakesOrFollows now before next_adds) (record { edit = longer.edit; change = c }) h.ms
+        (inl longer.makes)
+        (All-weaker (MakesOrFollows now before adds) (MakesOrFollows now before next_adds)
+        (still_follows now before adds next_adds kept.followed) h.ms h.followed);
+    headed = λ i table there.
+        headed_with before es changes lines adds next_adds o a plain_is c line kept h.headers_known h.lines longer.edit
+        longer.seen_is longer.of i table (h.headed i) there;
     headers_known = subst (λ (g : law.Edit). All (IsHeaderKnown next_adds) (g ∷ es)) (sym longer.seen_is)
         (headers_with before es changes lines adds next_adds o a plain_is c line kept h.headers_known h.lines);
     at_once = at_once;
@@ -589,8 +655,8 @@ pub record AreMadeTo (edits : List Edit) (first end : ℕ) (now : ProfiledText) 
   pub utf8 : All (λ c. IsUtf8 c.new) changes
 
 pub no_changes : (edits : List Edit) (first : ℕ) (now : ProfiledText) (adds : AddedLines)
-    → AreMadeTo edits first first now [] [] adds
-no_changes edits first now adds = record {
+    → ((n : ℕ) → brought_at adds n ≡ None) → AreMadeTo edits first first now [] [] adds
+no_changes edits first now adds free = record {
   made = λ s old h. record {
     made = h;
     ms = [];
@@ -602,6 +668,8 @@ no_changes edits first now adds = record {
     renames = λ path name (k, x, less, is, holds). absurd (omega (arith, less));
     allow = λ path name all. All-nil (AllowsKey path name);
     lines = All-nil (IsKnownAt adds);
+    headed = λ n table there. absurd (let both : None ≡ Some table = sym (free n) ∙ there in cc);
+    followed = All-nil (MakesOrFollows now h.tree adds);
     headers_known = All-nil (IsHeaderKnown adds);
     at_once = tt;
     changes_are = refl;

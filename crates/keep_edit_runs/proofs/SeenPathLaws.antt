@@ -83,7 +83,7 @@ keys_hashed_alike h (key text ∷ path) = keys_hashed_alike (write h text) path
 keys_hashed_alike h (index n ∷ path) = keys_hashed_alike h path
 
 -- the path of the keys alone has the same number
-keys_alike : (path : List Part) → keys_number (map key (keys_in path)) ≡ keys_number path
+pub keys_alike : (path : List Part) → keys_number (map key (keys_in path)) ≡ keys_number path
 keys_alike path = ap finish (keys_hashed_alike initial path)
 
 abbrev HasSomeKey : List Part → Type 0

@@ -11,7 +11,7 @@
 -- `changes_again`.
 use Rattle.std.proofs.Common.{◌≡◌, ◌<◌, ◌∷◌, ◌++◌, [], ℕ, suc, List, length, take, drop, get_or, refl, sym}
 use Rattle.std.proofs.Common.{ap, subst, ◌∙◌, All, IsUtf8, inl, inr, None, false}
-use Rattle.std.specs.Prelude.{◌⊎◌, IsTrue}
+use Rattle.std.specs.Prelude.{◌⊎◌, Any, IsTrue}
 use Rattle.std.proofs.lemmas.List.Elements.{All-cons, All-head, All-tail}
 use Rattle.std.proofs.lemmas.Str.{IsUtf8-string_bytes}
 use Rattle.keep_syntax.specs.Tree.{Document, Value, text}
@@ -20,6 +20,7 @@ use Rattle.keep_edit_spec.specs.Changed.{put}
 use Rattle.keep_edit_spec.specs.Edits as law
 use Rattle.keep_edit_spec.specs.Edits.{edited_document, place}
 use Rattle.keep_edit_spec.specs.EntryEdits.{MakesSet}
+use Rattle.keep_edit_spec.specs.InsertKinds.{IsHeaderAt}
 use Rattle.keep_edit_spec.specs.Laws.{IsLawfulEdit}
 use Rattle.keep_edit_spec.specs.Refusals.{refusal}
 use Rattle.keep_edit_spec.specs.RenameLists.{AllowsKey, IsRenameIn, IsRenameOf}
@@ -43,6 +44,7 @@ use Rattle.keep_edit_runs.specs.declared.added_lines.AddedLines.{AddedLines}
 use Rattle.keep_edit_runs.specs.declared.outline.Outline.{Outline}
 use Rattle.keep_edit_runs.proofs.MadeMore.{more_made}
 use Rattle.keep_edit_runs.proofs.RunSteps.{AreMadeTo, run_so_far, text_utf8, tree_of_run}
+use Rattle.keep_edit_runs.proofs.RunSteps.{MakesOrFollows, made_of_others}
 
 -- ---- the edits in the list
 
@@ -208,12 +210,11 @@ module _ (s : Document) (edits : List Edit) (n : ℕ) (old now : ProfiledText) (
       ]
 
   -- a set adds no line
-  lines_known : All (IsKnownAt adds) (lines_of before ms)
-  lines_known =
-      subst (All (IsKnownAt adds))
-      (ap (lines_of before) r.one.all
+  lines_same : lines_of before h.ms ≡ lines_of before ms
+  lines_same =
+      ap (lines_of before) r.one.all
       ∙ lines_apart before (made (law.set again.path r.value) r.c) r.one.later r.one.earlier (λ lines. refl)
-      ∙ ap (lines_of before) (sym r.one.others)) h.lines
+      ∙ ap (lines_of before) (sym r.one.others)
 
   pub made_again : IsRunTo s edits (suc n) old now before outlines new adds
   made_again = record {
@@ -227,7 +228,11 @@ module _ (s : Document) (edits : List Edit) (n : ℕ) (old now : ProfiledText) (
     sets = λ q any. set_in q (h.sets q any);
     renames = λ q name any. rename_in q (h.renames q name any);
     allow = λ q name all. all_again (AllowsKey q name) (λ its. its) (h.allow q name all);
-    lines = lines_known;
+    lines = subst (All (IsKnownAt adds)) lines_same h.lines;
+    followed = All-cons (MakesOrFollows now before adds) (made e c) r.rest (inl (again.sets before read))
+        (made_of_others (MakesOrFollows now before adds) (made (law.set again.path r.value) r.c) h.ms r.rest r.one
+        h.followed).1;
+    headed = λ i table there. subst (Any (IsHeaderAt i)) lines_same (h.headed i table there);
     headers_known = all_again (IsHeaderKnown adds) (λ its. its) h.headers_known;
     at_once = r.still;
     changes_are = sym new_is;

@@ -1,6 +1,6 @@
 -- Edits of a list that are made at once, and one more that does again what one of them did: its change comes in the
 -- place of that one's.
-use Rattle.std.specs.Prelude.{◌≡◌, ◌⊎◌, ⊤, true, List, [], ◌∷◌, string_bytes}
+use Rattle.std.specs.Prelude.{◌≡◌, ◌⊎◌, ⊤, ℕ, true, List, [], ◌∷◌, string_bytes}
 use Rattle.keep_syntax.specs.Tree.{Document, Value}
 use Rattle.keep_path.specs.Path.{Part}
 use Rattle.keep_edit_spec.specs.Edits as law
@@ -13,9 +13,11 @@ use Rattle.keep_edit_plan.specs.TextEdits.{HasInstead, IsReplaced, change_of}
 use Rattle.keep_edit_plan.specs.declared.edit.Edit.{Edit}
 use Rattle.keep_edit_plan.specs.declared.text_edit.TextEdit.{TextEdit}
 use Rattle.keep_edit_plan.specs.Answers.{IsSpanOf}
+use Rattle.keep_edit_runs.specs.AddedLines.{IsFollowed}
 use Rattle.keep_edit_runs.specs.Lists.{IsEdit}
 use Rattle.keep_edit_plan.specs.Reading.{IsTextOfTree, ProfiledText, limit}
 use Rattle.keep_edit_runs.specs.Runs.{Allows, RenamesAgainHere, SetsAgainHere, outlined}
+use Rattle.keep_edit_runs.specs.declared.added_lines.AddedLines.{AddedLines}
 use Rattle.keep_edit_runs.specs.declared.again.Again.{Again}
 use Rattle.keep_edit_runs.specs.declared.again.Again.TheVariants as again
 use Rattle.keep_edit_runs.specs.declared.outline.Outline.{Outline}
@@ -63,3 +65,8 @@ AllowAgain P (again.Value t) = ⊤
 AllowAgain P (again.Key o t) = (other : Outline) → P other → Allows other o
 AllowAgain P (again.Line number was t) =
     IsPlain (string_bytes t.new) ⊎ ((other : Outline) → P other → runs.is_insert (outlined other) ≡ true)
+
+-- A line is put in the place of another only where none comes behind a header's.
+abbrev pub LetsAgain : AddedLines → Again → Type 0
+LetsAgain added (again.Line number was t) = (at : ℕ) → ¬ IsFollowed added at
+LetsAgain added a = ⊤

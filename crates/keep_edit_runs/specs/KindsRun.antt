@@ -1,25 +1,27 @@
 -- A run of edits of several kinds that are made at once, between which elements of arrays of tables are removed: what
 -- is known of it, and what one edit more does to it.
-use Rattle.std.specs.Prelude.{◌≡◌, ◌≢◌, ◌⊎◌, ℕ, Bool, All, List, [], ◌∷◌, ◌++◌, Option, false, get_or, length, true}
+use Rattle.std.specs.Prelude.{◌≡◌, ◌≢◌, ◌⊎◌, ℕ, Bool, All, List, [], ◌∷◌, ◌++◌, None, Option, false, get_or}
+use Rattle.std.specs.Prelude.{length, true}
 use Rattle.keep_edit_spec.specs.ElementRuns.{IsElsewhere}
 use Rattle.keep_edit_spec.specs.Runs as runs
 use Rattle.keep_edit_spec.specs.Runs.{ArePlain, IsPlain, IsPlainBefore, LetsCome}
-use Rattle.keep_edit_spec.specs.TextChanges.{IsBeside, TextChange, with_change}
+use Rattle.keep_edit_spec.specs.TextChanges.{TextChange}
 use Rattle.keep_edit_spec.specs.declared.line_kind.LineKind.{LineKind}
 use Rattle.keep_edit_plan.specs.TextEdits.{change_of}
 use Rattle.keep_edit_plan.specs.declared.edit.Edit.{Edit}
 use Rattle.keep_edit_plan.specs.declared.text_edit.TextEdit.{TextEdit}
-use Rattle.keep_edit_runs.specs.Again.{AllowAgain, IsAgainHere, IsPutAgain, outlines_of}
+use Rattle.keep_edit_runs.specs.Again.{AllowAgain, IsAgainHere, IsPutAgain, LetsAgain, outlines_of}
 use Rattle.keep_edit_runs.specs.GoneBetween.{AreElsewhere, HasArray, RemovesElementHere, TakesElement}
 use Rattle.keep_edit_plan.specs.Reading.{ProfiledText}
 use Rattle.keep_path.specs.Path.{Part}
-use Rattle.keep_edit_runs.specs.Runs.{IsLineKept, LeavesAlone, MakesInRunHere, outlined}
+use Rattle.keep_edit_runs.specs.Runs.{IsAddedInOrder, LeavesAlone, MakesInRunHere, outlined}
 use Rattle.keep_edit_runs.specs.SeenPaths.{IsArraySeen, IsSeen}
 use Rattle.keep_edit_runs.specs.declared.again.Again.{Again}
 use Rattle.keep_edit_runs.specs.declared.gone_between.GoneBetween.{GoneBetween}
 use Rattle.keep_edit_runs.specs.declared.kinds_run.KindsRun.{KindsRun}
 use Rattle.keep_edit_runs.specs.declared.outline.Outline.{Outline}
 use Rattle.keep_edit_runs.specs.declared.seen_paths.SeenPaths.{SeenPaths}
+use Rattle.keep_edit_runs.specs.AddedLines.{brought_at}
 
 -- the paths of its edits are known, and those of the arrays
 abbrev pub AreSeen : KindsRun → Type 0
@@ -32,6 +34,7 @@ pub record StartsAt (now : ProfiledText) (run : KindsRun) : Type 0 where
   pub arrays : run.gone.arrays.items ≡ []
   pub elements : run.gone.elements ≡ []
   pub text : run.is_text_plain ≡ false
+  pub brought : (n : ℕ) → brought_at run.lines n ≡ None
   pub planner : run.planner ≡ now
 
 -- Its edits are of the document of this text, and their paths are known. If the text, or what they write, is known to
@@ -82,6 +85,12 @@ pub record IsPlacedAmong (outlines : List Outline) (bytes : List ℕ) (changes :
 
 -- ---- one edit more
 
+-- Its change comes in order with the lines. Behind all others where it begins, if elements went.
+abbrev pub IsAddedTo : ProfiledText → Edit → KindsRun → Outline → TextChange → Option LineKind → KindsRun → Type 0
+IsAddedTo now x old o c line new =
+    (none_gone : Bool) × ((none_gone ≡ true → old.gone.arrays.items ≡ [])
+    × IsAddedInOrder now x old.lines old.so_far.changes o c line none_gone new.lines new.so_far.changes)
+
 -- It makes its own change, beside the others.
 pub record AddsOne (now : ProfiledText) (old : KindsRun) (edit : Edit) (new : KindsRun) : Type 0 where
   pub outline : Outline
@@ -90,16 +99,15 @@ pub record AddsOne (now : ProfiledText) (old : KindsRun) (edit : Edit) (new : Ki
   pub makes : MakesInRunHere now edit (outlined outline) change line
   pub alone : All (λ y. LeavesAlone y outline) old.so_far.outlines.items
   pub elsewhere : All (λ array. IsElsewhere array (outlined outline)) old.gone.arrays.items
-  pub beside : All (λ c. IsBeside c (change_of change)) old.so_far.changes
   pub placed : IsPlacedAmong old.so_far.outlines.items now.text old.so_far.changes outline (change_of change).at
-  pub kept : IsLineKept old.lines old.so_far.changes outline (change_of change).at line new.lines
+  pub added : IsAddedTo now edit old outline (change_of change) line new
   pub outlines : new.so_far.outlines.items ≡ old.so_far.outlines.items ++ outline ∷ []
-  pub changes : new.so_far.changes ≡ with_change old.so_far.changes (change_of change)
   pub gone : new.gone ≡ old.gone
 
 -- what is done again is put in the place of what was done
 pub record DoesAgain (old : KindsRun) (again : Again) (new : KindsRun) : Type 0 where
   pub allowed : AllowAgain (IsSeen old.paths) again
+  pub lets : LetsAgain old.lines again
   pub put : IsPutAgain again old.so_far.changes new.so_far.changes
   pub outlines : new.so_far.outlines.items ≡ old.so_far.outlines.items ++ outlines_of again
   pub lines : new.lines ≡ old.lines

@@ -9,10 +9,12 @@ use Rattle.keep_token.specs.Encoded.{encoded_key}
 use Rattle.keep_syntax.specs.Tree.{Document, Value, inline, none, text}
 use Rattle.keep_path.specs.Path.{Part, beside, key, strip, without_last}
 use Rattle.keep_meaning.specs.Meaning.{mentions_in}
+use Rattle.keep_types.specs.declared.leaf.Profile.TheVariants.{Wide}
+use Rattle.keep_edit_spec.specs.BroughtHeaders.{BringsLine}
 use Rattle.keep_edit_spec.specs.AddedItems.{AddsNextItem, IsItemRun, item_path}
 use Rattle.keep_edit_spec.specs.Edits as law
 use Rattle.keep_edit_spec.specs.EntryEdits.{MakesSet}
-use Rattle.keep_edit_spec.specs.InsertKinds.{Added, IsAfterLine, kind_of}
+use Rattle.keep_edit_spec.specs.InsertKinds.{Added, IsAfterLine, IsHeaderAt, kind_of}
 use Rattle.keep_edit_spec.specs.Laws.{IsEditable}
 use Rattle.keep_edit_spec.specs.Look.{holder, keys_in}
 use Rattle.keep_edit_spec.specs.RemovedHeaders.{IsHeaderRun, RemovesHeader, first_path}
@@ -21,18 +23,20 @@ use Rattle.keep_edit_spec.specs.RenamedKeys.{RenamesKey}
 use Rattle.keep_edit_spec.specs.Runs as runs
 use Rattle.keep_edit_spec.specs.RunLists.{AreAtOnce, IsSetIn, MadeEdit, changes_of, document_after, lines_of}
 use Rattle.keep_edit_spec.specs.RunLists.{seen_of}
-use Rattle.keep_edit_spec.specs.Runs.{LetsCome, LetsTable, MakesChange, takes_up_to}
+use Rattle.keep_edit_spec.specs.Runs.{IsNoSecond, IsPlain, LetsCome, LetsTable, MakesChange, takes_up_to}
 use Rattle.keep_edit_spec.specs.SetValues.{SetsValue}
-use Rattle.keep_edit_spec.specs.TextChanges.{TextChange, change_at, text_with}
+use Rattle.keep_edit_spec.specs.TextChanges.{IsBeside, TextChange, change_at, text_with, with_change}
 use Rattle.keep_edit_spec.specs.declared.line_kind.LineKind.{LineKind}
-use Rattle.keep_edit_spec.specs.declared.line_kind.LineKind.TheVariants.{LastInBody}
+use Rattle.keep_edit_spec.specs.declared.line_kind.LineKind.TheVariants.{LastInBody, WithHeader}
 use Rattle.keep_edit_plan.specs.Headers.{key_texts}
-use Rattle.keep_edit_plan.specs.TextEdits.{HasChange, MakesChangeHere, change_of}
-use Rattle.keep_edit_runs.specs.AddedLines.{IsHeaderKnown, IsKnownAt}
+use Rattle.keep_edit_plan.specs.TextEdits.{HasChange, IsPutAhead, MakesChangeHere, change_of}
+use Rattle.keep_edit_runs.specs.AddedLines.{IsFollowed, IsHeaderKnown, IsKnownAt, IsSameOfHeaders}
+use Rattle.keep_edit_runs.specs.AddedLines.{brought_at}
 use Rattle.keep_edit_plan.specs.Answers.{IsSpanOf}
 use Rattle.keep_edit_runs.specs.Gone.{IsGoneWith}
 use Rattle.keep_edit_runs.specs.Lists.{AreMade, IsEdit}
-use Rattle.keep_edit_plan.specs.Reading.{IsTextOfTree, ProfiledText, limit, text_in}
+use Rattle.keep_edit_plan.specs.Reading.{IsAcceptedValue, IsTextOfTree, IsTextOfValue, ProfiledText}
+use Rattle.keep_edit_plan.specs.Reading.{limit, text_in}
 use Rattle.keep_edit_plan.specs.declared.edit.Edit.{Edit}
 use Rattle.keep_edit_plan.specs.declared.text_edit.TextEdit.{TextEdit}
 use Rattle.keep_edit_plan.specs.declared.edit.Edit.TheVariants.{Element, Insert, Remove, Rename, Set, Table}
@@ -41,6 +45,7 @@ use Rattle.keep_edit_runs.specs.declared.outline.Outline.{Outline}
 use Rattle.keep_edit_runs.specs.declared.outline.Outline.TheVariants as kind
 use Rattle.keep_edit_runs.specs.declared.outline.SeenAs.{SeenAs}
 use Rattle.keep_edit_runs.specs.declared.outline.SeenAs.TheVariants.{Entry, FirstKey, Itself}
+use Rattle.keep_edit_runs.specs.SeenHeaders.{HasAppended}
 
 -- a value that stands for any
 abbrev pub no_value : Value
@@ -131,17 +136,114 @@ pub record IsKnownThen (old : AddedLines) (changes : List TextChange) (line : Ad
   pub after : (l : Added) → IsKnownAt old l → IsAfterLine l line
   pub here : IsKnownAt new line
 
+-- the header that the edit appends, if it does, is no second one of the table of such a line
+abbrev pub IsNoSecondOf : Added → law.Edit → Type 0
+IsNoSecondOf l (law.append_table keys) = IsNoSecond keys l
+IsNoSecondOf l (law.append_element keys) = IsNoSecond keys l
+IsNoSecondOf l e = ⊤
+
+-- The header of a table came at a byte, or comes there with the line that an edit with this outline adds.
+abbrev pub IsBroughtThen : AddedLines → Outline → ℕ → Option LineKind → ℕ → List Part → Type 0
+IsBroughtThen old x at line n table =
+    (brought_at old n ≡ Some table)
+    ⊎ ((n ≡ at) × ((line ≡ Some WithHeader) × ((first : List Part) × (outlined x ≡ law.insert first no_value))))
+
 -- An edit with this outline comes after these changes, with the line of this kind that it adds at this byte, if it adds
--- one. All lines and headers that were known are known then. If it appends a header, that passes by the tables of those
--- lines with headers, and is known.
+-- one. All lines and headers that were known are known then, and headers come where they came, or with that line. If it
+-- appends a header, that is no second one of a table of those lines with headers, and is known.
 pub record IsLineKept (old : AddedLines) (changes : List TextChange) (x : Outline) (at : ℕ) (line : Option LineKind)
     (new : AddedLines) : Type 0 where
   pub others : (l : Added) → IsKnownAt old l → IsKnownAt new l
   pub headers : (e : law.Edit) → IsHeaderKnown old e → IsHeaderKnown new e
   pub own : (first : List Part) (kind : LineKind) → outlined x ≡ law.insert first no_value → line ≡ Some kind
       → IsKnownThen old changes (line_of first at kind) new
-  pub passes : (l : Added) → IsKnownAt old l → LetsTable l (outlined x)
+  pub brought : (n : ℕ) (table : List Part) → brought_at new n ≡ Some table → IsBroughtThen old x at line n table
+  pub followed : (n : ℕ) → IsFollowed old n → IsFollowed new n
+  pub passes : (l : Added) → IsKnownAt old l → IsNoSecondOf l (outlined x)
   pub header : IsHeaderKnown new (outlined x)
+
+-- An edit with this outline adds a line of this kind, without a header, at this byte, where a header comes: it comes
+-- before that, after all other lines there. No header that is known to be appended is of that header's table or goes
+-- through it, and no change takes the byte before. The line is known then, and all that were known.
+pub record IsKeptAhead (old : AddedLines) (changes : List TextChange) (x : Outline) (at : ℕ) (line : Option LineKind)
+    (new : AddedLines) : Type 0 where
+  pub table : List Part
+  pub header : brought_at old at ≡ Some table
+  pub unfollowed : ¬ IsFollowed old at
+  pub passed : ¬ HasAppended old.headers table
+  pub clear : list_any (takes_up_to at) changes ≡ false
+  pub first : List Part
+  pub is : outlined x ≡ law.insert first no_value
+  pub kind : LineKind
+  pub line_is : line ≡ Some kind
+  pub headless : kind ≢ WithHeader
+  pub after : (l : Added) → IsKnownAt old l → l.kind ≢ WithHeader → IsAfterLine l (line_of first at kind)
+  pub here : IsKnownAt new (line_of first at kind)
+  pub others : (l : Added) → IsKnownAt old l → IsKnownAt new l
+  pub same : IsSameOfHeaders old new
+
+-- An edit with this outline, this change and a line of this kind is added to edits with these changes and lines: behind
+-- all others where it begins,
+pub record IsAddedBehind (old : AddedLines) (changes : List TextChange) (x : Outline) (c : TextChange)
+    (line : Option LineKind) (new : AddedLines) (with_it : List TextChange) : Type 0 where
+  pub kept : IsLineKept old changes x c.at line new
+  pub beside : All (λ d. IsBeside d c) changes
+  pub changes_are : with_it ≡ with_change changes c
+
+-- or before a header that comes there.
+pub record IsAddedAhead (old : AddedLines) (changes : List TextChange) (x : Outline) (c : TextChange)
+    (line : Option LineKind) (new : AddedLines) (with_it : List TextChange) : Type 0 where
+  pub kept : IsKeptAhead old changes x c.at line new
+  pub put : IsPutAhead changes c with_it
+  pub plain : IsPlain c.new
+
+-- An edit with this outline inserts a new key of the table whose header comes at that byte.
+pub record IsOfBrought (added : AddedLines) (x : Outline) (at : ℕ) : Type 0 where
+  pub table : List Part
+  pub header : brought_at added at ≡ Some table
+  pub first : List Part
+  pub is : outlined x ≡ law.insert first no_value
+  pub table_is : table ≡ without_last first
+
+-- Its line comes behind that of the header, where no change takes the byte before. All that was known is known then.
+pub record IsKeptBehind (old : AddedLines) (changes : List TextChange) (x : Outline) (at : ℕ) (new : AddedLines)
+    : Type 0 where
+  pub of : IsOfBrought old x at
+  pub clear : list_any (takes_up_to at) changes ≡ false
+  pub here : IsFollowed new at
+  pub more : (n : ℕ) → IsFollowed old n → IsFollowed new n
+  pub rest : new ≡ record old { followed = new.followed }
+
+-- This is the line alone of the edit, which is an insert that would bring the header of its table to the document of
+-- this text.
+pub record AddsLineAlone (now : ProfiledText) (x : Edit) (t : TextEdit) : Type 0 where
+  pub path : List Part
+  pub given : List ℕ
+  pub is : x ≡ Insert path given
+  pub accepted : IsAcceptedValue Wide given
+  pub adds : (s : Document) → IsTextOfTree now s → (v : Value) → IsTextOfValue given v
+      → BringsLine now.profile limit s path v (change_of t)
+  pub within : IsSpanOf now.text t.place
+
+-- An edit with this outline is added to edits with these changes and lines by its line alone, which comes at this byte
+-- behind the header there.
+pub record IsAddedFollowing (now : ProfiledText) (x : Edit) (old : AddedLines) (changes : List TextChange) (o : Outline)
+    (at : ℕ) (new : AddedLines) (with_it : List TextChange) : Type 0 where
+  pub line : TextEdit
+  pub alone : AddsLineAlone now x line
+  pub place : (change_of line).at ≡ at
+  pub kept : IsKeptBehind old changes o at new
+  pub beside : All (λ d. IsBeside d (change_of line)) changes
+  pub changes_are : with_it ≡ with_change changes (change_of line)
+
+-- It is added in one of these three ways; behind all others, if elements went.
+abbrev pub IsAddedInOrder : ProfiledText → Edit → AddedLines → List TextChange → Outline → TextChange
+    → Option LineKind → Bool → AddedLines → List TextChange → Type 0
+IsAddedInOrder now x old changes o c line none_gone new with_it =
+    IsAddedBehind old changes o c line new with_it
+    ⊎ ((none_gone ≡ true)
+    × (IsAddedAhead old changes o c line new with_it
+    ⊎ IsAddedFollowing now x old changes o c.at new with_it))
 
 -- what is left of keys after so many, and after those of the steps of a path
 abbrev pub rest_from : List (String Global) → ℕ → List Part
@@ -266,6 +368,9 @@ pub record IsRunTo (s : Document) (edits : List Edit) (end : ℕ) (old now : Pro
   pub allow : (path : List Part) (name : List ℕ) → All (λ x. AllowsKey path name (outlined x)) outlines
       → All (AllowsKey path name) (seen_of before ms)
   pub lines : All (IsKnownAt added) (lines_of before ms)
+  pub followed : All (λ m. MakesChange now.profile limit before m.edit m.change ⊎ IsFollowed added m.change.at) ms
+  pub headed : (n : ℕ) (table : List Part) → brought_at added n ≡ Some table
+      → Any (IsHeaderAt n) (lines_of before ms)
   pub headers_known : All (IsHeaderKnown added) (seen_of before ms)
   pub at_once : AreAtOnce now.profile limit before ms
   pub changes_are : changes_of ms ≡ changes

@@ -38,6 +38,12 @@ pub record IsHeaderAppended (old : SeenHeaders) (keys : List Part) (new : SeenHe
   pub here : HasHeader new keys
   pub more : HasMore old new
 
+-- A header more is appended, whose keys are those of no table whose header came with a line.
+pub record IsHeaderAppendedLater (old : SeenHeaders) (keys : List Part) (new : SeenHeaders) : Type 0 where
+  pub other : ¬ HasBrought old keys
+  pub here : HasHeader new keys
+  pub more : HasMore old new
+
 -- The header of one table more comes with a line, with whose keys those of no appended header begin.
 pub record IsHeaderBrought (old : SeenHeaders) (table : List Part) (new : SeenHeaders) : Type 0 where
   pub passes : ¬ HasAppended old table

@@ -1,11 +1,13 @@
 //! Edits of those that are made at once that do again what one before them did.
 ghost use Rattle.std.specs.Prelude.{◌≡◌, ◌++◌, All, IfSome, IsTrue, false, string_bytes, true};
-ghost use Rattle.keep_edit_runs.specs.Again.{AllowAgain, IsAgainHere, IsPutAgain, edit_of, outlines_of};
+ghost use Rattle.keep_edit_runs.specs.Again.{AllowAgain, IsAgainHere, IsPutAgain, LetsAgain, edit_of};
+ghost use Rattle.keep_edit_runs.specs.Again.{outlines_of};
 ghost use Rattle.keep_edit_runs.specs.Seen.{IsSeen};
 ghost use Rattle.keep_edit_runs.specs.SeenPaths as paths;
 ghost use Rattle.keep_edit_runs.specs.declared.outline.Outline.{Outline};
 ghost use Rattle.keep_edit_spec.specs.Runs.{IsPlain};
 
+use crate::added_lines::AddedLines;
 use crate::at_once::{AtOnce, is_plain};
 use crate::before::Before;
 use crate::opened::OpenValues;
@@ -54,8 +56,10 @@ impl Before<'_> {
 
 impl<'a> AtOnce<'a> {
     /// Puts the change of an edit, which has this number in the list, in the place of an earlier one. Returns whether
-    /// it did; if not, no change has come in the place of one.
-    pub fn put_again(&mut self, number: usize, again: Again<'a>) -> bool
+    /// it did; if not, no change has come in the place of one. A line is put in the place of none where lines come
+    /// behind headers, since one of these may be like that of an earlier edit.
+    pub fn put_again(&mut self, lines: &AddedLines, number: usize, again: Again<'a>) -> bool
+        ensures lines { IsTrue result → LetsAgain lines.now again.entry }
         ensures changes { IsTrue result → IsPutAgain again.entry self.old.changes self.new.changes }
         ensures outlines { IsTrue result
             → self.new.outlines.items ≡ self.old.outlines.items ++ outlines_of again.entry }
@@ -66,7 +70,9 @@ impl<'a> AtOnce<'a> {
         match again {
             Again::Value(change) => self.overwrite(change),
             Again::Key(outline, change) => self.rename(number, outline, change),
-            Again::Line(path, earlier, change) => self.exchange(number, path, &earlier, change),
+            Again::Line(path, earlier, change) => {
+                lines.has_no_follower() && self.exchange(number, path, &earlier, change)
+            }
         }
     }
 }

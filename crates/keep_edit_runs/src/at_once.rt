@@ -3,7 +3,7 @@ ghost use Rattle.std.specs.Prelude.{◌≡◌, ◌++◌, ◌∷◌, [], All, IfS
 ghost use Rattle.std.specs.Bool.{Decides};
 ghost use Rattle.keep_edit_spec.specs.Runs.{IsPlain};
 ghost use Rattle.keep_edit_spec.specs.TextChanges.{IsBeside, with_change};
-ghost use Rattle.keep_edit_plan.specs.TextEdits.{HasChange, HasInstead, IsOrdered, IsReplaced, change_of};
+ghost use Rattle.keep_edit_plan.specs.TextEdits.{HasChange, HasInstead, IsOrdered, IsPutAhead, IsReplaced, change_of};
 ghost use Rattle.keep_path.specs.Path.{beside};
 ghost use Rattle.keep_edit_runs.specs.Runs.{IsRenamedBy, IsSetBy};
 
@@ -240,5 +240,21 @@ impl<'a> AtOnce<'a> {
             return false;
         }
         self.add_change(change)
+    }
+
+    /// Adds an edit that adds a line, which has this number in the list, with its change right before the last of those
+    /// that begin where it does. Returns whether it was added: it is not where none begins there, or that one takes
+    /// bytes, nor if it writes a carriage return, nor where memory is refused. Then no change was added.
+    pub fn add_ahead(&mut self, number: usize, outline: Outline<'a>, change: TextEdit) -> bool
+        ensures changes { IsTrue result → IsPutAhead self.old.changes (change_of change) self.new.changes }
+        ensures outlines { IsTrue result → self.new.outlines.items ≡ self.old.outlines.items ++ outline.entry ∷ [] }
+        ensures plain { IsTrue result → IsPlain (string_bytes change.new) }
+        ensures are_plain { self.new.are_plain ≡ self.old.are_plain }
+        ensures refused { result ≡ false → self.new.changes ≡ self.old.changes }
+    {
+        if !is_plain(change.new.as_str()) || !self.add_outline(number, outline) {
+            return false;
+        }
+        self.changes.add_ahead(change).unwrap_or(false)
     }
 }

@@ -99,13 +99,12 @@ impl Before<'_> {
         else {
             return false;
         };
-        if !run.lines.keep_line(&run.so_far, &outline, &made) {
-            return false;
-        }
         if !self.keeps_place_in(run, &outline, made.change.place.start) {
             return false;
         }
-        run.so_far.add(number, outline, made.change)
+        let is_none_gone = run.gone.is_empty();
+        let (so_far, lines) = (&mut run.so_far, &mut run.lines);
+        self.add_in_order(so_far, lines, number, edit, outline, made, is_none_gone)
     }
 
     /// Whether an edit writes no line and no header, or the one that it writes at a byte can come there after a run's

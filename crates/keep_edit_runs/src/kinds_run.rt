@@ -64,7 +64,7 @@ impl<'a> KindsRun<'a> {
         ensures run { (now : ProfiledText) → IsRunOn now self.old → IsTrue result → IsRunOn now self.new }
         ensures refused { result ≡ false → self.new.so_far.changes ≡ self.old.so_far.changes }
     {
-        self.paths.allow_again(&again) && self.so_far.put_again(number, again)
+        self.paths.allow_again(&again) && self.so_far.put_again(&self.lines, number, again)
     }
 
     /// Whether an edit is known to be left alone by those before it and elsewhere than in the arrays of which elements

@@ -21,6 +21,7 @@ mod filled_tables;
 mod gone;
 mod gone_between;
 mod holders;
+mod in_order;
 mod in_run;
 mod inserted;
 mod items;

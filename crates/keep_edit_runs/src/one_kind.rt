@@ -34,7 +34,7 @@ impl Before<'_> {
                 if !keys.allow_again(&again) {
                     return so_far.up_to(number);
                 }
-                if !so_far.put_again(number, again) {
+                if !so_far.put_again(&lines, number, again) {
                     return so_far.up_to(number);
                 }
                 continue;
@@ -48,10 +48,7 @@ impl Before<'_> {
             let Some(made) = self.change_in_run(&mut planner, &mut opened, edit, next, seen) else {
                 return so_far.up_to(number);
             };
-            if !lines.keep_line(&so_far, &outline, &made) {
-                return so_far.up_to(number);
-            }
-            if !so_far.add(number, outline, made.change) {
+            if !self.add_in_order(&mut so_far, &mut lines, number, edit, outline, made, true) {
                 return so_far.up_to(number);
             }
         }

@@ -1,10 +1,12 @@
 //! The keys of headers that edits of a list append which are made at once, and of the tables whose headers come with a
-//! line: no appended header is of such a table or goes through it, wherever it comes in the list. `FilledTables` keeps
-//! the paths of inserted keys in place of those of such tables, and those of arrays of tables.
+//! line: no appended header is of such a table, and none goes through one whose header comes later in the list.
+//! `FilledTables` keeps the paths of inserted keys in place of those of such tables, and those of arrays of tables;
+//! there no header goes through one, wherever it comes.
 ghost use Rattle.std.specs.Prelude.{◌≡◌, ◌<◌, ◌+◌, ℕ, IsTrue, List, false, length, map, take};
 ghost use Rattle.keep_edit_plan.specs.Headers.{key_texts};
-ghost use Rattle.keep_edit_runs.specs.SeenHeaders.{HasAppended, HasBrought, IsArrayAppended, IsBeginningAppended};
-ghost use Rattle.keep_edit_runs.specs.SeenHeaders.{IsHeaderAppended, IsHeaderBrought};
+ghost use Rattle.keep_edit_runs.specs.SeenHeaders.{HasAppended, HasBrought, HasHeader, HasMore, IsArrayAppended};
+ghost use Rattle.keep_edit_runs.specs.SeenHeaders.{IsBeginningAppended, IsHeaderAppended, IsHeaderAppendedLater};
+ghost use Rattle.keep_edit_runs.specs.SeenHeaders.{IsHeaderBrought};
 ghost use Rattle.keep_path.specs.Path.{Part, key};
 
 use crate::outline::Steps;
@@ -43,6 +45,30 @@ impl SeenHeaders {
         for key in keys {
             hasher.write(key.as_bytes());
             if !self.append_beginning(hasher.finish()) {
+                return false;
+            }
+        }
+        true
+    }
+
+    /// Adds the keys of a header that is appended after the lines with headers so far, with each list that they begin
+    /// with. Returns whether they were added: not those of a table whose header came with a line, nor any where memory
+    /// was refused.
+    pub fn append_later(&mut self, keys: &[String]) -> bool
+        ensures { IsTrue result → IsHeaderAppendedLater self.old (map key (key_texts keys.now)) self.new }
+    {
+        !self.brought.contains(&number_of_header(keys)) && self.add_beginnings(keys)
+    }
+
+    /// Adds each list that the keys of an appended header begin with. Returns whether they were added: none is where
+    /// memory was refused.
+    fn add_beginnings(&mut self, keys: &[String]) -> bool
+        ensures { IsTrue result → HasHeader self.new (map key (key_texts keys.now)) × HasMore self.old self.new }
+    {
+        let mut hasher = FoldHasher::default();
+        for own in keys {
+            hasher.write(own.as_bytes());
+            if self.appended.insert(hasher.finish()).is_err() {
                 return false;
             }
         }
@@ -103,5 +129,13 @@ impl SeenHeaders {
         ensures { result ≡ false → ¬ HasAppended self.now (map key (key_texts keys.now)) }
     {
         self.appended.contains(&number_of_header(keys))
+    }
+
+    /// Whether these may be keys that an appended header's keys begin with, those of a table's path; if not, no such
+    /// header is that of the table, or goes through it.
+    pub fn has_appended_table(&self, table: &Steps) -> bool
+        ensures { result ≡ false → ¬ HasAppended self.now table.now }
+    {
+        self.appended.contains(&number_of_keys(table))
     }
 }

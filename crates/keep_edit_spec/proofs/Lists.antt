@@ -37,6 +37,7 @@ pub mod RenameLineGone
 pub mod EndsWithout
 pub mod SetAfterRemove
 pub mod AddsAgain
+pub mod AheadOfHeader
 pub mod InsertAfterRemove
 pub mod RenameAfterRemove
 pub mod LineMore
@@ -180,6 +181,8 @@ pub mod LineOnWay
 pub mod SaidOnWay
 pub mod AddedKeys
 pub mod LinesAfterBody
+pub mod HeaderLast
+pub mod LinesAhead
 pub mod LinesBehind
 pub mod BroughtLines
 pub mod BroughtWay
@@ -189,6 +192,8 @@ pub mod BroughtAllowed
 pub mod BroughtBodies
 pub mod BroughtEnds
 pub mod BroughtFound
+pub mod BroughtOpens
+pub mod BehindHeaders
 pub mod StillBringsHeader
 pub mod BroughtKinds
 pub mod BroughtAgain

@@ -84,6 +84,8 @@ pub use Rattle.keep_edit_spec.proofs.Common.Texts.{put_item-is, put_named-is, re
 pub use Rattle.keep_edit_spec.proofs.Touched.FitLaws.{touched_lines_are_lines}
 pub use Rattle.keep_edit_spec.proofs.Touched.TouchedCuts.{IsCut, touched_in_new_cut}
 pub use Rattle.keep_edit_spec.proofs.Lists.TextChanges.{all_with, follow_with, length_with, one_of_all, rest_of_all}
+pub use Rattle.keep_edit_spec.proofs.Lists.LinesAhead.{run_goes_on_ahead}
+pub use Rattle.keep_edit_spec.proofs.Lists.BehindHeaders.{run_goes_on_behind}
 pub use Rattle.keep_edit_spec.proofs.Lists.MadeChanges.{change_lawful}
 pub use Rattle.keep_edit_spec.proofs.Lists.ChangeOrder.{beside_back, one_in_place, put_in_place, with_both}
 pub use Rattle.keep_edit_spec.proofs.Lists.RunLaws.{none_is_run, run_goes_on}

@@ -15,7 +15,7 @@ use Rattle.keep_edit_spec.specs.RemovedHeaders.{RemovesHeader, first_path}
 use Rattle.keep_edit_spec.specs.RunLists.{AreAtOnce, MadeEdit, changes_of, document_after, lines_of, seen_of}
 use Rattle.keep_edit_spec.specs.Runs.{AreApart, ArePlain, IsBeforeHeaders, IsInOrder, IsNoStep}
 use Rattle.keep_edit_spec.specs.Runs.{IsPlainBefore, IsSeenStill, IsStillPlaced, LeavesAlone, LetsCome, MakesChange}
-use Rattle.keep_edit_spec.specs.Runs.{PassesBy, PassesTable, path_of, seen, with_line}
+use Rattle.keep_edit_spec.specs.Runs.{IsNoSecond, PassesBy, path_of, seen, with_line}
 use Rattle.keep_edit_spec.specs.TextChanges.{Follow, IsBeside, TextChange, moved, moved_by_all, moved_past}
 use Rattle.keep_edit_spec.specs.TextChanges.{text_with, with_change}
 
@@ -62,9 +62,9 @@ KeepsPlaceAmong s edits changes lines (insert path value) c =
     × (ArePlain (text s) changes
     × (All (LetsCome (text s) changes c.at) changes × IsBeforeHeaders (text s) edits c.at))
 KeepsPlaceAmong s edits changes lines (append_table keys) c =
-    All (PassesTable keys) lines × IsPlainBefore (text s) changes c.at
+    All (IsNoSecond keys) lines × IsPlainBefore (text s) changes c.at
 KeepsPlaceAmong s edits changes lines (append_element keys) c =
-    All (PassesTable keys) lines × IsPlainBefore (text s) changes c.at
+    All (IsNoSecond keys) lines × IsPlainBefore (text s) changes c.at
 KeepsPlaceAmong s edits changes lines e c = ⊤
 
 -- The document after these edits, and after elements at the paths `gone` were removed between them, one after another.

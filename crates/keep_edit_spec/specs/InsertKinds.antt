@@ -47,6 +47,10 @@ pub record Added : Type 0 where
 abbrev pub added_as : Document → List Part → TextChange → Added
 added_as s path c = record { first = first_new s path; at = c.at; kind = kind_of s path }
 
+-- one with a header, at that byte
+abbrev pub IsHeaderAt : ℕ → Added → Type 0
+IsHeaderAt at l = (l.at ≡ at) × (l.kind ≡ WithHeader)
+
 -- the path of the table in which it is new
 abbrev pub table_of : Added → List Part
 table_of l = without_last l.first

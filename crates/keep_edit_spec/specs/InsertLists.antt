@@ -9,7 +9,7 @@ use Rattle.keep_edit_spec.specs.InsertKinds.{AddsAs}
 use Rattle.keep_edit_spec.specs.Laws.{IsEditable}
 use Rattle.keep_edit_spec.specs.Refusals.{refusal}
 use Rattle.keep_edit_spec.specs.RunLists.{AreAtOnce, MadeEdit, changes_of, document_after, made, seen_of}
-use Rattle.keep_edit_spec.specs.Runs.{IsPlain, is_insert}
+use Rattle.keep_edit_spec.specs.Runs.{IsPlain, MakesChange, is_insert}
 use Rattle.keep_edit_spec.specs.TextChanges.{TextChange}
 use Rattle.keep_edit_spec.specs.declared.line_kind.LineKind.{LineKind}
 
@@ -34,12 +34,13 @@ pub record IsRunInsertedAgain (profile : Profile) (limit : ℕ) (s : Document) (
   pub still : AreAtOnce profile limit s others
 
 -- One of the changes is that of an insert that adds a line; another value there adds a line as well, and its newlines
--- are alike, or all edits add lines.
+-- are alike, or all edits add lines. No edit follows a header.
 abbrev pub RunGoesOnInserted : Type 0
 RunGoesOnInserted =
     (profile : Profile) (limit : ℕ) (s : Document) (ms : List MadeEdit) (path : List Part) (value more : Value)
     (kind : LineKind) (before : List TextChange) (c d : TextChange) (after : List TextChange)
     → IsEditable profile limit s → AreAtOnce profile limit s ms
+    → All (λ m. MakesChange profile limit s m.edit m.change) ms
     → AddsAs kind profile limit s path value c → changes_of ms ≡ before ++ c ∷ after
     → AddsAs kind profile limit s path more d
     → IsPlain d.new ⊎ All (λ e. IsTrue (is_insert e)) (seen_of s ms)

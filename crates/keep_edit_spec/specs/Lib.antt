@@ -2,6 +2,7 @@ pub mod Look
 pub mod Changed
 pub mod Values
 pub mod Lines
+pub mod LinesAhead
 pub mod Edits
 pub mod Refusals
 pub mod Trees

@@ -1,14 +1,19 @@
 -- Lists of edits that are made at once: each makes a change of the first document's text. A value that is set again is
 -- set once, by the later edit.
-use Rattle.std.specs.Prelude.{◌≡◌, ◌⊎◌, ⊤, ℕ, ◌<◌, List, [], ◌∷◌, ◌++◌, length, map, All}
+use Rattle.std.specs.Prelude.{◌≡◌, ◌⊎◌, ⊤, ℕ, ◌<◌, false, IsTrue, List, [], ◌∷◌, ◌++◌, length, map, All, Any}
+use Rattle.std.specs.List.{list_any}
 use Rattle.keep_types.specs.declared.leaf.Profile.{Profile}
 use Rattle.keep_syntax.specs.Tree as tree
-use Rattle.keep_syntax.specs.Tree.{Document, Value}
+use Rattle.keep_syntax.specs.Tree.{Document, Value, text}
 use Rattle.keep_path.specs.Path.{Part}
-use Rattle.keep_edit_spec.specs.InsertKinds.{Added}
-use Rattle.keep_edit_spec.specs.Edits.{Edit, edited_document, set}
+use Rattle.keep_meaning.specs.Meaning.{mentions_in}
+use Rattle.keep_edit_spec.specs.BroughtHeaders.{BringsLine}
+use Rattle.keep_edit_spec.specs.InsertKinds.{Added, IsHeaderAt, table_of}
+use Rattle.keep_edit_spec.specs.Edits.{Edit, edited_document, insert, set}
 use Rattle.keep_edit_spec.specs.Laws.{IsEditable}
-use Rattle.keep_edit_spec.specs.Runs.{IsRun, KeepsPlace, LeavesAlone, MakesChange, seen, with_line}
+use Rattle.keep_edit_spec.specs.Look.{holder}
+use Rattle.keep_edit_spec.specs.Runs.{ArePlain, IsBeforeHeaders, IsRun, IsRunLonger, KeepsPlace, LeavesAlone}
+use Rattle.keep_edit_spec.specs.Runs.{MakesChange, is_insert, seen, takes_up_to, with_line}
 use Rattle.keep_edit_spec.specs.SetValues.{SetsValue}
 use Rattle.keep_edit_spec.specs.TextChanges.{Follow, IsBeside, TextChange, change_at, moved_by_all, text_with}
 use Rattle.keep_edit_spec.specs.TextChanges.{with_change}
@@ -40,15 +45,38 @@ abbrev pub document_after : Document → List MadeEdit → Document
 document_after s [] = s
 document_after s (m ∷ ms) = edited_document (document_after s ms) m.edit
 
--- Each makes its change of the first document beside those before it, which leave it alone.
+-- An insert into a table whose header one of these lines brings. By the first document it would bring that header, too;
+-- now its line alone comes, behind what comes at that byte.
+pub record FollowsHeader (profile : Profile) (limit : ℕ) (s : Document) (lines : List Added) (path : List Part)
+    (value : Value) (c : TextChange) : Type 0 where
+  pub alone : BringsLine profile limit s path value c
+  pub header : Any (λ l. IsHeaderAt c.at l × (table_of l ≡ holder path (mentions_in s))) lines
+
+abbrev pub Follows : Profile → ℕ → Document → List Added → Edit → TextChange → Type 0
+Follows profile limit s lines (insert path value) c = FollowsHeader profile limit s lines path value c
+Follows profile limit s lines e c = ⊥
+
+-- No edit takes the byte before it; and either all of them add lines, or each newline is alike, and no header is
+-- appended there.
+abbrev pub KeepsBehind : Document → List Edit → List TextChange → TextChange → Type 0
+KeepsBehind s edits changes c =
+    (list_any (takes_up_to c.at) changes ≡ false)
+    × (All (λ e. IsTrue (is_insert e)) edits ⊎ (ArePlain (text s) changes × IsBeforeHeaders (text s) edits c.at))
+
+-- An edit makes its change of the first document in its place, or follows a header.
+abbrev pub MakesInPlace : Profile → ℕ → Document → List Edit → List TextChange → List Added → Edit → TextChange → Type 0
+MakesInPlace profile limit s edits changes lines e c =
+    (MakesChange profile limit s e c × KeepsPlace s edits changes lines e c)
+    ⊎ (Follows profile limit s lines e c × KeepsBehind s edits changes c)
+
+-- Each does so beside those before it, which leave it alone.
 abbrev pub AreAtOnce : Profile → ℕ → Document → List MadeEdit → Type 0
 AreAtOnce profile limit s [] = ⊤
 AreAtOnce profile limit s (m ∷ ms) =
-    MakesChange profile limit s m.edit m.change
+    MakesInPlace profile limit s (seen_of s ms) (changes_of ms) (lines_of s ms) m.edit m.change
     × (All (λ e. LeavesAlone e (seen s m.edit)) (seen_of s ms)
     × (All (λ d. IsBeside d m.change) (changes_of ms)
-    × (KeepsPlace s (seen_of s ms) (changes_of ms) (lines_of s ms) m.edit m.change
-    × AreAtOnce profile limit s ms)))
+    × AreAtOnce profile limit s ms))
 
 -- So they are a run.
 abbrev pub RunIsKnown : Type 0
@@ -56,6 +84,18 @@ RunIsKnown =
     (profile : Profile) (limit : ℕ) (s : Document) (ms : List MadeEdit)
     → IsEditable profile limit s → AreAtOnce profile limit s ms
     → IsRun profile limit s (seen_of s ms) (changes_of ms) (lines_of s ms) (document_after s ms)
+
+-- And such an insert that follows a header makes the run longer, too.
+abbrev pub RunGoesOnBehind : Type 0
+RunGoesOnBehind =
+    (profile : Profile) (limit : ℕ) (s : Document) (ms : List MadeEdit) (path : List Part) (value : Value)
+    (c : TextChange)
+    → IsEditable profile limit s → AreAtOnce profile limit s ms
+    → FollowsHeader profile limit s (lines_of s ms) path value c
+    → All (λ e. LeavesAlone e (seen s (insert path value))) (seen_of s ms)
+    → All (λ d. IsBeside d c) (changes_of ms) → KeepsBehind s (seen_of s ms) (changes_of ms) c
+    → IsRunLonger profile limit s (seen_of s ms) (changes_of ms) (lines_of s ms) (document_after s ms)
+    (insert path value) c
 
 -- ---- a value that is set again
 

@@ -134,23 +134,27 @@ StaysPlaced s e c f d =
 abbrev pub is_new_after : Edit → Edit → Bool
 is_new_after e f = (is_insert f && not (is_insert e)) || (is_header f && not (is_header e))
 
--- A header that is appended passes by the table of a line with a header of its own.
+-- A header that is appended passes by the table of a line with a header of its own that comes later.
 abbrev pub PassesTable : List (List ℕ) → Added → Type 0
 PassesTable keys l = l.kind ≡ WithHeader → PassesBy keys (table_of l)
 
+-- One that is appended after such a line is no second header of its table; it may be of a table below that.
+abbrev pub IsNoSecond : List (List ℕ) → Added → Type 0
+IsNoSecond keys l = l.kind ≡ WithHeader → keys ≢ keys_in (table_of l)
+
 -- and so of that which an edit adds
-abbrev pub PassesLine : Document → List (List ℕ) → Edit → TextChange → Type 0
-PassesLine s keys (insert path value) c = PassesTable keys (added_as s path c)
-PassesLine s keys e c = ⊤
+abbrev pub IsNoSecondAfter : Document → List (List ℕ) → Edit → TextChange → Type 0
+IsNoSecondAfter s keys (insert path value) c = IsNoSecond keys (added_as s path c)
+IsNoSecondAfter s keys e c = ⊤
 
 -- The first edit leaves the second alone, where it comes after it, by the lines that they add: such a line comes after
--- that of the other, and a header passes by the table of one that has a header.
+-- that of the other, and a header that came before passes by the table of one that has a header.
 abbrev pub ComesInOrder : Document → Edit → TextChange → Edit → TextChange → Type 0
 ComesInOrder s (insert other more) d (insert path value) c = IsAfterLine (added_as s path c) (added_as s other d)
 ComesInOrder s (insert other more) d (append_table keys) c = PassesTable keys (added_as s other d)
 ComesInOrder s (insert other more) d (append_element keys) c = PassesTable keys (added_as s other d)
-ComesInOrder s (append_table keys) d e c = PassesLine s keys e c
-ComesInOrder s (append_element keys) d e c = PassesLine s keys e c
+ComesInOrder s (append_table keys) d e c = IsNoSecondAfter s keys e c
+ComesInOrder s (append_element keys) d e c = IsNoSecondAfter s keys e c
 ComesInOrder s f d e c = ⊤
 
 abbrev pub IsStillPlaced : Document → Edit → TextChange → Edit → TextChange → Type 0
@@ -223,9 +227,9 @@ KeepsPlace s edits changes lines (insert path value) c =
     ⊎ (ArePlain (text s) changes
     × (All (LetsCome (text s) changes c.at) changes × IsBeforeHeaders (text s) edits c.at)))
 KeepsPlace s edits changes lines (append_table keys) c =
-    All (PassesTable keys) lines × (All (λ e. IsTrue (is_header e)) edits ⊎ IsPlainBefore (text s) changes c.at)
+    All (IsNoSecond keys) lines × (All (λ e. IsTrue (is_header e)) edits ⊎ IsPlainBefore (text s) changes c.at)
 KeepsPlace s edits changes lines (append_element keys) c =
-    All (PassesTable keys) lines × (All (λ e. IsTrue (is_header e)) edits ⊎ IsPlainBefore (text s) changes c.at)
+    All (IsNoSecond keys) lines × (All (λ e. IsTrue (is_header e)) edits ⊎ IsPlainBefore (text s) changes c.at)
 KeepsPlace s edits changes lines e c = ⊤
 
 -- ---- a run of edits

@@ -12,6 +12,7 @@ ghost use Rattle.keep_edit_spec.specs.FilledTables as filled;
 ghost use Rattle.keep_edit_spec.specs.InsertLists as inserts;
 ghost use Rattle.keep_edit_spec.specs.KeyvalLines as keyvals;
 ghost use Rattle.keep_edit_spec.specs.Laws as spec;
+ghost use Rattle.keep_edit_spec.specs.LinesAhead as ahead;
 ghost use Rattle.keep_edit_spec.specs.RemovedHeaders as taken;
 ghost use Rattle.keep_edit_spec.specs.RemovedLines as removed;
 ghost use Rattle.keep_edit_spec.specs.RenamedKeys as keys;
@@ -108,11 +109,13 @@ pub fn append_adds_statement()
 /// An `insert` that adds a line to a document adds the same one after another, of another path, added its line. So it
 /// is if either line is of a table that dotted keys make, and the later one comes after the earlier where both come to
 /// one place. One that brings the header of its table, which is there because headers go through it, brings the same
-/// after another such insert, of another table and to another place, brought its own.
+/// after another such insert, of another table and to another place, brought its own. After an insert brought the
+/// header of its table, another into the table adds its line directly behind.
 pub fn inserts_add_lines()
     ensures line { added.StillAddsLine }
     ensures any { dotted.StillAddsLineTo }
     ensures header { brought.StillBringsHeader }
+    ensures opens { brought.OpensTable }
 {}
 
 /// A `remove` that takes a line takes the same one after another, of another path, took its line.
@@ -156,15 +159,24 @@ pub fn runs_are_known()
     ensures run { runs.RunGoesOn }
 {}
 
-/// A list of such edits is a run, if each makes its change beside those before it, which leave it alone. If one of them
+/// A list of such edits is a run, if each makes its change beside those before it, which leave it alone; and if an
+/// insert comes into a table whose header one of them brought, and adds its line alone behind that. If one of them
 /// sets a value, the run goes on by a set of that value, too: the later set takes the place of the earlier one. So it
 /// goes on where a key that one of them renames is renamed again, if the others leave the first key's rename alone; and
 /// where the value of a line that one of them adds is set: the line is added with the later value.
 pub fn runs_go_on_again()
     ensures known { lists.RunIsKnown }
+    ensures behind { lists.RunGoesOnBehind }
     ensures run { lists.RunGoesOnAgain }
     ensures renamed { renames.RunGoesOnRenamed }
     ensures inserted { inserts.RunGoesOnInserted }
+{}
+
+/// A line that comes to the byte at which an earlier edit of such a list brought a header comes before that header. The
+/// list goes on by it as if the header had come last.
+pub fn lines_come_ahead()
+    ensures line { ahead.StillAddsAhead }
+    ensures run { ahead.RunGoesOnAhead }
 {}
 
 /// So is a run of inserts that each add the next item of one array.

@@ -7,10 +7,11 @@
 -- (`dots_now`).
 --
 -- The body of another path ends where it did, or three lines later, if it does not end at the new lines; that of the
--- root ends before the first header (`end_moves`). The last line that leads through a path by dots is the same, or
--- three lines later, and in the same body (`dots_move`; LinesBehind).
+-- root ends before the first header (`end_moves`). If it ended at the new lines it ends there still (`end_stays`). The
+-- last line that leads through a path by dots is the same, or three lines later, and in the same body (`dots_move`;
+-- LinesBehind).
 --
--- Theorems: `bare_now`, `dots_now`, `end_moves`, `dots_move`.
+-- Theorems: `bare_now`, `dots_now`, `end_moves`, `end_stays`, `dots_move`.
 use Rattle.std.proofs.Common.{◌≡◌, ◌≢◌, ℕ, ◌+◌, ◌<◌, ◌≤◌, true, List, [], ◌∷◌, ◌++◌, length, map, take, refl}
 use Rattle.std.proofs.Common.{sym, ap, ap₂, subst, ◌∙◌, append_assoc, length-append, arith, Option, None, Some, ◌⊎◌}
 use Rattle.std.proofs.Common.{inl, inr, false}
@@ -35,13 +36,13 @@ use Rattle.keep_edit_spec.proofs.Insert.InsertDotted.{IsDotted, dotted_content}
 use Rattle.keep_edit_spec.proofs.Lists.BodyEnds.{end_at, header_few, header_same}
 use Rattle.keep_edit_spec.proofs.Lists.BroughtBodies as bodies
 use Rattle.keep_edit_spec.proofs.Lists.BroughtBodies.{are, behind_same, new_none, new_there, none_now, not_begun}
-use Rattle.keep_edit_spec.proofs.Lists.BroughtBodies.{still_last, were}
+use Rattle.keep_edit_spec.proofs.Lists.BroughtBodies.{still_before, still_last, were}
 use Rattle.keep_edit_spec.proofs.Lists.BroughtLines as brought
 use Rattle.keep_edit_spec.proofs.Lists.BroughtLines.{head, last, long, reading_is}
 use Rattle.keep_edit_spec.proofs.Lists.BroughtSaid.{run, under}
 use Rattle.keep_edit_spec.proofs.Lists.BroughtWay.{path_is}
 use Rattle.keep_edit_spec.proofs.Lists.DottedAfter.{bare_by}
-use Rattle.keep_edit_spec.proofs.Lists.LinesAfterBody.{IsStillLast, bodiless_begins, bodiless_dotted}
+use Rattle.keep_edit_spec.proofs.Lists.LinesAfterBody.{IsLastBefore, IsStillLast, bodiless_begins, bodiless_dotted}
 use Rattle.keep_edit_spec.proofs.Lists.LinesBehind.{IsBehind, last_place, reading_behind, same_reading}
 use Rattle.keep_edit_spec.proofs.Lists.OneLineMore.{reading_alike}
 
@@ -116,31 +117,41 @@ module _ (profile : Profile) (limit : ℕ) (s : Document) (path : List Part) (va
       (none_now profile limit s path value c fine h (begins b) (bodiless_begins b) (none_begun b differs))
 
   -- that of the root ends before the first header
-  root_stays : (m : ℕ) → end_of s [] ≡ Some m → IsEndMoved now [] n (length new) m
-  root_stays m ends =
-      let whole : (more : List Line) → first ++ more ≡ pre ++ here ∷ (body ++ more) =
-      append_assoc pre (here ∷ body) in
-      let is : is_header here.content ≡ true = head profile limit s path value c h in
-      let number : m ≡ body_length (pre ++ here ∷ (body ++ rest)) =
-      (let same : m ≡ body_length (lines s) = cc in
-      same ∙ ap body_length (were profile limit s path value c fine h ∙ whole rest)) in
-      record {
-        number = m;
-        ends = ap (λ (ls : List Line). Some (body_length ls))
-            (are profile limit s path value c fine h ∙ whole (new ++ rest))
-            ∙ ap (λ (k : ℕ). Some k)
-            (header_same pre here (body ++ (new ++ rest)) (body ++ rest) is ∙ sym number);
-        moves = inl (
-          refl,
-          omega (
-            arith,
-            number,
-            header_few pre here (body ++ rest) is,
-            length-append pre (here ∷ body),
-            long profile limit s path value c h,
-          ),
-        );
-      }
+  module _ (m : ℕ) (ends : end_of s [] ≡ Some m) where
+    whole : (more : List Line) → first ++ more ≡ pre ++ here ∷ (body ++ more)
+    whole = append_assoc pre (here ∷ body)
+
+    is : is_header here.content ≡ true
+    is = head profile limit s path value c h
+
+    number : m ≡ body_length (pre ++ here ∷ (body ++ rest))
+    number =
+        (let same : m ≡ body_length (lines s) = cc in same)
+        ∙ ap body_length (were profile limit s path value c fine h ∙ whole rest)
+
+    root_less : m < n
+    root_less =
+        omega (
+          arith,
+          number,
+          header_few pre here (body ++ rest) is,
+          length-append pre (here ∷ body),
+          long profile limit s path value c h,
+        )
+
+    root_stays : IsEndMoved now [] n (length new) m
+    root_stays = record {
+      number = m;
+      ends = ap (λ (ls : List Line). Some (body_length ls))
+          (are profile limit s path value c fine h ∙ whole (new ++ rest))
+          ∙ ap (λ (k : ℕ). Some k)
+          (header_same pre here (body ++ (new ++ rest)) (body ++ rest) is ∙ sym number);
+      moves = inl (refl, root_less);
+    }
+
+  -- a body begins with a header
+  heads : (b : List Part) (x : Reading) (l : Line) → begins b x l ≡ true → is_header l.content ≡ true
+  heads b x l begun = (and_parts (is_header l.content) (same_path (after_line x l).body b) begun).0
 
   pub end_moves : (b : List Part) → a ≢ b → (m : ℕ) → end_of s b ≡ Some m → (m ≡ n → ⊥)
       → IsEndMoved now b n (length new) m
@@ -157,14 +168,30 @@ module _ (profile : Profile) (limit : ℕ) (s : Document) (path : List Part) (va
           let is : body_end i (lines s) ≡ m = cc in
           let still : IsStillLast (begins b) (lines s) (lines now) n (length new) i =
           still_last profile limit s path value c fine h (begins b) (bodiless_begins b)
-          (λ x l begun. (and_parts (is_header l.content) (same_path (after_line x l).body b) begun).0)
-          (inr (new_there profile limit s path value c fine h (begins b) (none_begun b differs))) i found
+          (heads b) (inr (new_there profile limit s path value c fine h (begins b) (none_begun b differs))) i found
           (λ there. other (sym is ∙ there)) in
           record {
             number = body_end still.number (lines now);
             ends = ap (end_at (lines now)) still.last;
             moves = subst (λ (k : ℕ). IsMoved n (length new) k (body_end still.number (lines now))) is still.ends;
           }
+
+  -- where it ended at the new lines, it ends there still
+  pub end_stays : (b : List Part) → a ≢ b → end_of s b ≡ Some n → end_of now b ≡ Some n
+  end_stays [] differs ends = absurd (omega (arith, root_less n ends))
+  end_stays (p ∷ ps) differs ends = by (last_line (begins (p ∷ ps)) start (lines s)) refl ends
+    where
+      b : List Part
+      b = p ∷ ps
+
+      by : (o : Option ℕ) → last_line (begins b) start (lines s) ≡ o → end_at (lines s) o ≡ Some n
+          → end_of now b ≡ Some n
+      by None found e = absurd cc
+      by (Some i) found e =
+          let still : IsLastBefore (begins b) (lines now) n i =
+          still_before profile limit s path value c fine h (begins b) (bodiless_begins b) (heads b)
+          (none_begun b differs) i found (let is : body_end i (lines s) ≡ n = cc in is) in
+          ap (end_at (lines now)) still.last ∙ ap (λ (m : ℕ). Some m) still.ends
 
   -- ---- the last line that leads by dots through a path which is not under that of the first new key
 

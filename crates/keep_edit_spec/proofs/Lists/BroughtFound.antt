@@ -7,9 +7,9 @@
 -- them is the same (`alike_behind`). So a change that is found in another line is the one before, moved by the new
 -- lines (`found_stays`, by LineMore).
 --
--- Theorems: `own_place`, `its`, `path_clear`, `path_apart`, `path_differs`, `table_differs`; `made_place`, `to_is`,
--- `before_is`, `found_stays`; `act_none`, `still_nested`; `header_none`, `rename_none`; `kinds_stay`: at a path apart
--- from that of the first new key.
+-- Theorems: `none_left`; `own_place`, `its`, `path_clear`, `path_apart`, `path_differs`, `table_differs`;
+-- `made_place`, `to_is`, `before_is`, `found_stays`; `act_none`, `still_nested`; `header_none`, `rename_none`;
+-- `kinds_stay`: at a path apart from that of the first new key.
 use Rattle.std.proofs.Common.{◌≡◌, ◌≢◌, ℕ, zero, suc, ◌+◌, List, [], ◌∷◌, ◌++◌, map, take, drop, refl, sym, ap}
 use Rattle.std.proofs.Common.{ap₂, subst, ◌∙◌, arith, Option, Some, None, false}
 use Rattle.std.specs.Prelude.{position}
@@ -71,7 +71,7 @@ left_by (keyval name v) before after comment ls none = none
 left_by (header x k y) before after comment ls none = refl
 left_by (element x k y) before after comment ls none = refl
 
-none_left : (ls : List Line) → body_length (drop (body_length ls) ls) ≡ 0
+pub none_left : (ls : List Line) → body_length (drop (body_length ls) ls) ≡ 0
 none_left [] = refl
 none_left (l ∷ ls) = left_by l.content l.before l.after l.comment ls (none_left ls)
 

@@ -13,7 +13,7 @@ use Rattle.keep_edit_spec.specs.DottedLines.{AddsDotted, AddsLineTo, StillAdds}
 use Rattle.keep_edit_spec.specs.Edits.{append_element, append_table, edited_document, insert, remove, rename, set}
 use Rattle.keep_edit_spec.specs.Laws.{IsEditable}
 use Rattle.keep_edit_spec.specs.Lines.{newline_of}
-use Rattle.keep_edit_spec.specs.Look.{holder}
+use Rattle.keep_edit_spec.specs.Look.{holder, keys_in}
 use Rattle.keep_edit_spec.specs.RemovedLines.{RemovesLine}
 use Rattle.keep_edit_spec.specs.RenamedKeys.{RenamesKey}
 use Rattle.keep_edit_spec.specs.Runs.{AreApart, PassesBy}
@@ -59,7 +59,7 @@ TableAfterBrought =
     (profile : Profile) (limit : ℕ) (s : Document) (path : List Part) (value : Value) (c : TextChange)
     (more : List (List ℕ)) (d : TextChange)
     → IsEditable profile limit s → BringsHeader profile limit s path value c → AppendsTable profile limit s more d
-    → PassesBy more (first_new s path) → PassesBy more (holder path (mentions_in s))
+    → PassesBy more (first_new s path) → more ≢ keys_in (holder path (mentions_in s))
     → newline_of (edited_document s (insert path value)) ≡ newline_of s
     → AppendsTable profile limit (edited_document s (insert path value)) more (moved c d)
 
@@ -68,7 +68,7 @@ ElementAfterBrought =
     (profile : Profile) (limit : ℕ) (s : Document) (path : List Part) (value : Value) (c : TextChange)
     (more : List (List ℕ)) (d : TextChange)
     → IsEditable profile limit s → BringsHeader profile limit s path value c → AppendsElement profile limit s more d
-    → PassesBy more (first_new s path) → PassesBy more (holder path (mentions_in s))
+    → PassesBy more (first_new s path) → more ≢ keys_in (holder path (mentions_in s))
     → newline_of (edited_document s (insert path value)) ≡ newline_of s
     → AppendsElement profile limit (edited_document s (insert path value)) more (moved c d)
 

@@ -4,14 +4,15 @@
 -- defined; all else that is new is at the path of the first new key or under it (`now_is`). So a path that does not
 -- begin with that one is a node as before, and has the elements that it had (`node_stays`, `elements_stay`,
 -- `count_stays`); and any test of what is said of it passes as before, if it is not the table's (`any_stays`). By the
--- law of `insert` it has the fact that it had, if it is not the table's (`fact_stays`); and the table is neither an
--- array nor an inline table, as before (BracketsStay).
+-- law of `insert` it has the fact that it had, if it is not the table's (`fact_stays`), and a table is one still
+-- (`table_stays`); and the table whose header came is neither an array nor an inline table, as before (BracketsStay).
 --
 -- Theorems: `lawful`; `under`: what the keyval says is under the path of the first new key; `any_stays`,
--- `elements_stay`, `count_stays`, `node_stays`, `fact_stays`, `bracket_same`.
-use Rattle.std.proofs.Common.{◌≡◌, ◌≢◌, ℕ, Bool, true, false, ◌&&◌, ◌||◌, cond, List, [], ◌∷◌, ◌++◌, map}
-use Rattle.std.proofs.Common.{take, drop, refl, sym, ap, subst, ◌∙◌, append_assoc, arith, Some, None, inl, inr}
+-- `elements_stay`, `count_stays`, `node_stays`, `fact_stays`, `table_stays`, `bracket_same`.
+use Rattle.std.proofs.Common.{◌≡◌, ◌≢◌, ℕ, Bool, true, false, not, ◌&&◌, ◌||◌, cond, List, [], ◌∷◌, ◌++◌, map}
+use Rattle.std.proofs.Common.{take, drop, refl, sym, ap, ap₂, subst, ◌∙◌, append_assoc, arith, Some, None, inl, inr}
 use Rattle.std.specs.List.{count_by, list_any}
+use Rattle.std.proofs.lemmas.Bool.{and_parts}
 use Rattle.keep_types.specs.declared.leaf.Profile.{Profile}
 use Rattle.keep_syntax.specs.Tree.{Value, Document}
 use Rattle.keep_path.specs.Path.{Part, key, same_path, strip}
@@ -24,7 +25,7 @@ use Rattle.keep_edit_spec.specs.AddedLines.{first_new}
 use Rattle.keep_edit_spec.specs.BroughtHeaders.{BringsHeader}
 use Rattle.keep_edit_spec.specs.Edits.{edited_document, insert, name_with}
 use Rattle.keep_edit_spec.specs.Laws.{IsEditable, IsLawfulEdit}
-use Rattle.keep_edit_spec.specs.Look.{holder, is_bracket_at}
+use Rattle.keep_edit_spec.specs.Look.{holder, is_bracket_at, is_table, is_table_fact}
 use Rattle.keep_edit_spec.specs.Runs.{AreApart}
 use Rattle.keep_edit_spec.specs.TextChanges.{TextChange}
 use Rattle.keep_edit_spec.specs.Trees.{a_table, fact_from, from, is_through_alone, source}
@@ -242,6 +243,17 @@ module _ (profile : Profile) (limit : ℕ) (s : Document) (path : List Part) (va
             ≡ fact_at q ms
         by true e = absurd (differs (sym (same_path-sound q a e)))
         by false e = refl
+
+    pub table_stays : is_table q ms ≡ true → is_table q (mentions_in now) ≡ true
+    table_stays was =
+        let (known, single) = and_parts (is_table_fact (fact_at q ms)) (not (has is_element q ms)) was in
+        ap₂ (λ (x y : Bool). x && y) (ap is_table_fact fact_now ∙ by (same_path q a && is_through_alone q ms) known)
+        (ap not elements_stay ∙ single)
+      where
+        by : (b : Bool) → is_table_fact (fact_at q ms) ≡ true
+            → is_table_fact (fact_from ms (mentions_of_value value) (cond b a_table (from q))) ≡ true
+        by true known = refl
+        by false known = known
 
     pub bracket_same : is_bracket_at (mentions_in now) q ≡ is_bracket_at ms q
     bracket_same =

@@ -7,10 +7,11 @@
 -- three newlines differ. So where the whole is as long, each newline is, and what is before the value
 -- (`brought_as_long`).
 --
--- Theorems: `brought_text`; `brought_at_one`, `brought_alike`; `brought_as_long`.
+-- Theorems: `brought_text`, `more_than_line`; `brought_at_one`, `brought_alike`; `brought_as_long`, `keys_alike`,
+-- `newline_alike`.
 use Rattle.std.proofs.Common.{◌≡◌, ℕ, ◌+◌, List, [], ◌∷◌, ◌++◌, length, map, take, Some, refl, sym, ap, ◌∙◌}
-use Rattle.std.proofs.Common.{append_assoc, length-append, arith}
-use Rattle.std.proofs.lemmas.List.{append-nil}
+use Rattle.std.proofs.Common.{append_assoc, ap₂, ◌<◌, drop, length-append, arith}
+use Rattle.std.proofs.lemmas.List.{append-nil, drop_at}
 use Rattle.keep_types.specs.declared.leaf.Profile.{Profile}
 use Rattle.keep_syntax.specs.Tree.{Written, Content, Document, Value, blank, bom_leaves, content_leaves}
 use Rattle.keep_syntax.specs.Tree.{keyval, text_of, value_text}
@@ -19,11 +20,13 @@ use Rattle.keep_meaning.specs.Meaning.{lines, mentions_in}
 use Rattle.keep_edit_spec.specs.AddedLines.{first_new}
 use Rattle.keep_edit_spec.specs.BroughtHeaders.{BringsHeader}
 use Rattle.keep_edit_spec.specs.Edits.{name_with, new_header}
+use Rattle.keep_edit_spec.specs.Insertion.{keyed_text}
 use Rattle.keep_edit_spec.specs.Lines.{body_end, content_text, ended_text, new_line, newline_of}
 use Rattle.keep_edit_spec.specs.Look.{holder, keys_in}
 use Rattle.keep_edit_spec.specs.TextChanges.{TextChange}
 use Rattle.keep_edit_spec.specs.declared.line_kind.LineKind.TheVariants.{WithHeader}
 use Rattle.keep_edit_spec.proofs.Common.Texts.{text_of-append}
+use Rattle.keep_edit_spec.proofs.Insert.LineBefore.{new_line_text}
 use Rattle.keep_edit_spec.proofs.Touched.FitLaws.{ended_append}
 use Rattle.keep_edit_spec.proofs.Lists.AddedKeys.{keys_text, keyval_text, same_keys}
 use Rattle.keep_edit_spec.proofs.Lists.BroughtLines.{at_is, new_is}
@@ -76,6 +79,20 @@ module _ (profile : Profile) (limit : ℕ) (s : Document) (path : List Part) (va
       (one_text (new_line newline three) ∙ keyval_text keys value newline)
       ∙ sym (append_assoc (two_lines newline header) (keys_text keys) (value_text value ++ newline.text))
 
+  -- more than the line alone
+  pub more_than_line : length (keyed_text keys value ++ newline.text) < length c.new
+  more_than_line =
+      let two : List Content = blank ∷ header ∷ [] in
+      let line : List ℕ = ended_text (new_line newline (keyval (name_with keys) value) ∷ []) in
+      omega (
+        arith,
+        ap (λ (t : List ℕ). length t) (new_is profile limit s path value c h
+            ∙ ended_append (map (new_line newline) two) (new_line newline (keyval (name_with keys) value) ∷ [])),
+        length-append (two_lines newline header) line,
+        two_lines_long newline header,
+        ap (λ (t : List ℕ). length t) (new_line_text newline h.text h.more value),
+      )
+
   before_long : length before_value ≡ length (two_lines newline header) + length (keys_text keys)
   before_long = length-append (two_lines newline header) (keys_text keys)
 
@@ -122,7 +139,7 @@ module _ (profile : Profile) (limit : ℕ) (s now : Document) (path : List Part)
       ∙ ap without_last (sym first)
       ∙ table_is profile limit now path value d (keys_of_line WithHeader profile limit now path value d k)
 
-  keys_alike : h.text ∷ h.more ≡ k.text ∷ k.more
+  pub keys_alike : h.text ∷ h.more ≡ k.text ∷ k.more
   keys_alike =
       same_keys path table_here table_there (h.text ∷ h.more) (k.text ∷ k.more) h.new k.new
       (ap (λ (p : List Part). length p) same_table)
@@ -142,3 +159,17 @@ module _ (profile : Profile) (limit : ℕ) (s now : Document) (path : List Part)
         ap (λ (p : List Part). length (content_text (new_header (keys_in p)))) same_table,
         ap (λ (ks : List (List ℕ)). length (keys_text ks)) keys_alike,
       )
+
+  -- and with the same newline
+  pub newline_alike : (newline_of s).text ≡ (newline_of now).text
+  newline_alike =
+      let here : List ℕ = before_value profile limit s path value c h in
+      let there : List ℕ = before_value profile limit now path value d k in
+      let behind : List ℕ = value_text value in
+      sym (drop_at behind (newline_of s).text (length behind) refl)
+      ∙ ap (drop (length behind))
+      (sym (drop_at here (behind ++ (newline_of s).text) (length here) refl)
+      ∙ ap₂ (λ (n : ℕ) (t : List ℕ). drop n t) brought_as_long
+      (sym (brought_text profile limit s path value c h) ∙ new ∙ brought_text profile limit now path value d k)
+      ∙ drop_at there (behind ++ (newline_of now).text) (length there) refl)
+      ∙ drop_at behind (newline_of now).text (length behind) refl

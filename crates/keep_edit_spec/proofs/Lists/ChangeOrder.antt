@@ -2,14 +2,16 @@
 --
 -- Two that begin at two places can be put in either order (`with_both`), by induction on the changes. A change goes
 -- right before those that begin later (`is_put`). So another one that begins there goes there, too. In a list in which
--- each follows the one before, one that takes bytes at a place is the only one there (`one_there`).
+-- each follows the one before, one that takes bytes at a place is the only one there (`one_there`). Of two at a place
+-- the one that is put in later is the later one (`put_ahead`).
 --
--- Theorems: `with_both`, `beside_back`, `put_in_place`, `one_in_place`; `goes_before`, `goes_past`.
-use Rattle.std.proofs.Common.{◌≡◌, ◌≢◌, ℕ, ◌+◌, ◌<◌, ◌≤◌, List, [], ◌∷◌, ◌++◌, refl, sym, ap}
+-- Theorems: `with_both`, `beside_back`, `put_in_place`, `one_in_place`, `put_ahead`; `goes_before`, `goes_past`.
+use Rattle.std.proofs.Common.{◌≡◌, ◌≢◌, ℕ, ◌+◌, ◌<◌, ◌≤◌, List, [], ◌∷◌, ◌++◌, All, refl, sym, ap, ap₂}
 use Rattle.std.proofs.Common.{◌∙◌, arith, inl, inr, subst}
 use Rattle.std.specs.Prelude.{◌⊎◌}
 use Rattle.std.proofs.lemmas.Bool.{cases_lt, le-ltb, lt-ltb}
 use Rattle.keep_edit_spec.specs.TextChanges.{Follow, IsBeside, TextChange, with_change}
+use Rattle.keep_edit_spec.proofs.Lists.TextChanges.{one_of_all}
 
 -- ---- two changes
 
@@ -153,3 +155,47 @@ pub one_in_place : (before after rest : List TextChange) (x c : TextChange) → 
 one_in_place before after rest x c at some has follow is =
     let put : IsPut rest c = is_put rest c in
     same_there 0 before after put.before put.after x c at some has follow (is ∙ put.is c refl)
+
+-- ---- one before the last at a place
+
+-- The last change at the place of one that is put in is that one. Another there, which is put in before it, goes right
+-- before it.
+pub put_ahead : (from : ℕ) (before after cs : List TextChange) (x c d : TextChange) → Follow from cs → x.at ≡ c.at
+    → d.at ≡ c.at → All (λ y. c.at < y.at) after → with_change cs x ≡ before ++ d ∷ after
+    → with_change (with_change cs c) x ≡ before ++ c ∷ d ∷ after
+put_ahead from [] after [] x c d follow same there later is =
+    goes_past c [] x (omega (arith, same)) ∙ ap (λ (l : List TextChange). c ∷ l) is
+put_ahead from (z ∷ before) after [] x c d follow same there later is = absurd (no_more before is)
+  where
+    no_more : (l : List TextChange) → x ∷ [] ≡ z ∷ l ++ d ∷ after → ⊥
+    no_more [] e = absurd cc
+    no_more (y ∷ l) e = absurd cc
+put_ahead from before after (y ∷ cs) x c d follow same there later is =
+    by (cases_lt x.at y.at) before is (λ l. put_ahead (y.at + y.size) l after cs x c d follow.1 same there later)
+  where
+    by : (x.at < y.at) ⊎ (y.at ≤ x.at) → (l : List TextChange) → with_change (y ∷ cs) x ≡ l ++ d ∷ after
+        → ((m : List TextChange) → with_change cs x ≡ m ++ d ∷ after
+        → with_change (with_change cs c) x ≡ m ++ c ∷ d ∷ after)
+        → with_change (with_change (y ∷ cs) c) x ≡ l ++ c ∷ d ∷ after
+    by (inl less) [] e ih =
+        ap (λ (m : List TextChange). with_change m x) (goes_before y cs c (omega (arith, less, same)))
+        ∙ goes_past c (y ∷ cs) x (omega (arith, same))
+        ∙ ap (λ (m : List TextChange). c ∷ m) e
+    by (inl less) (z ∷ l) e ih =
+        let k : x ∷ y ∷ cs ≡ z ∷ l ++ d ∷ after = sym (goes_before y cs x less) ∙ e in
+        let rest : y ∷ cs ≡ l ++ d ∷ after = cc in
+        let low : y.at ≤ d.at = follow_low y.at l after d (subst (Follow y.at) rest (omega arith, follow.1)) in
+        absurd (omega (arith, low, less, same, there))
+    by (inr late) [] e ih =
+        let k : y ∷ with_change cs x ≡ d ∷ after = sym (goes_past y cs x late) ∙ e in
+        let rest : with_change cs x ≡ after = cc in
+        let past : c.at < x.at =
+        one_of_all (λ w. c.at < w.at) cs x (subst (All (λ w. c.at < w.at)) (sym rest) later) in
+        absurd (omega (arith, past, same))
+    by (inr late) (z ∷ l) e ih =
+        let k : y ∷ with_change cs x ≡ z ∷ l ++ d ∷ after = sym (goes_past y cs x late) ∙ e in
+        let first : y ≡ z = cc in
+        let rest : with_change cs x ≡ l ++ d ∷ after = cc in
+        ap (λ (m : List TextChange). with_change m x) (goes_past y cs c (omega (arith, late, same)))
+        ∙ goes_past y (with_change cs c) x late
+        ∙ ap₂ (λ (w : TextChange) (m : List TextChange). w ∷ m) first (ih l rest)

@@ -27,6 +27,7 @@ use Rattle.keep_edit_spec.specs.RunLists.{AreAtOnce, MadeEdit, changes_of, docum
 use Rattle.keep_edit_spec.specs.Runs.{IsRun, IsSeenStill, LeavesAlone, MakesChange, seen, with_line}
 use Rattle.keep_edit_spec.specs.TextChanges.{IsBeside, TextChange, moved_by_all, moved_past, with_change}
 use Rattle.keep_edit_spec.proofs.EditLaws.{remove_lawful}
+use Rattle.keep_edit_spec.proofs.Lists.BehindHeaders.{made_now}
 use Rattle.keep_edit_spec.proofs.Lists.ElsewherePaths.{elsewhere_before}
 use Rattle.keep_edit_spec.proofs.Lists.EntryEditRuns.{entry_lawful, entry_still}
 use Rattle.keep_edit_spec.proofs.Lists.HeaderRunLaws.{first_with, header_allowed, header_place, header_still}
@@ -46,17 +47,17 @@ use Rattle.keep_edit_spec.proofs.Lists.TextsAfter.{IsTextAfter, PutsChange, of_e
 -- What is removed after a run is removed after an edit elsewhere that comes then, too.
 removed_still : (profile : Profile) (limit : ℕ) (s : Document) (changes : List TextChange) (now : Document) (e : Edit)
     (c : TextChange) → IsTextAfter profile limit s changes now → All (λ x. IsBeside x c) changes
-    → MakesChange profile limit now e (moved_past changes c) → IsSeenStill s now e
+    → MakesChange profile limit now e (moved_past changes c) → seen now e ≡ seen s e
     → (path : List Part) (d : TextChange) → RemovesHeader profile limit now path (moved_past changes d)
     → IsElsewhere (changed_path path) (seen s e) → All (λ x. IsBeside x d) (with_change changes c)
     → RemovesHeader profile limit (edited_document now e) path (moved_past (with_change changes c) d)
-removed_still profile limit s changes now e c r beside is_now seen_now path d removes elsewhere beside' =
+removed_still profile limit s changes now e c r beside is_now same path d removes elsewhere beside' =
     let others : All (λ x. IsBeside x d) changes = rest_of_all (λ x. IsBeside x d) changes c beside' in
     let one : IsBeside c d = one_of_all (λ x. IsBeside x d) changes c beside' in
     subst (RemovesHeader profile limit (edited_document now e) path)
     (sym (moved_with changes c d r.follow beside others one))
     (still_removes_after profile limit now e (moved_past changes c) path (moved_past changes d) r.editable is_now
-    removes (subst (IsElsewhere (changed_path path)) (sym (same_seen s now e seen_now)) elsewhere)
+    removes (subst (IsElsewhere (changed_path path)) (sym same) elsewhere)
     (beside_past changes c d r.follow beside others one))
 
 pub element_run_goes_on : ElementRunGoesOn
@@ -85,7 +86,7 @@ element_run_goes_on profile limit s edits changes lines gone now e c r makes alo
             seen_there (All-head (λ x. LeavesAlone x (seen s f)) (seen s e) edits alone') beside'
             (keeps_place s (seen s e ∷ edits) (with_change changes c) (with_line s e c lines) f d placed');
         removes = λ path d removes' elsewhere' beside'.
-            removed_still profile limit s changes now e c before beside is_now seen_now path d
+            removed_still profile limit s changes now e c before beside is_now (same_seen s now e seen_now) path d
             (r.removes path d removes' (All-tail (IsElsewhere (changed_path path)) (seen s e) edits elsewhere')
             (rest_of_all (λ x. IsBeside x d) changes c beside'))
             (All-head (IsElsewhere (changed_path path)) (seen s e) edits elsewhere') beside';
@@ -102,14 +103,14 @@ module _ (profile : Profile) (limit : ℕ) (s : Document) (fine : IsEditable pro
   removed_after [] h path d removes elsewhere beside =
       subst (λ (at : ℕ). RemovesHeader profile limit s path (record d { at = at }))
       (let same : d.at ≡ moved_by_all [] d.at = omega arith in same) removes
-  removed_after (m ∷ ms) (makes, (alone, (beside, (placed, others)))) path d removes elsewhere beside' =
+  removed_after (m ∷ ms) (makes, (alone, (beside, others))) path d removes elsewhere beside' =
       let changes : List TextChange = changes_of ms in
       let now : Document = document_after s ms in
       let r : IsRun profile limit s (seen_of s ms) changes (lines_of s ms) now =
       run_is_known profile limit s ms fine others in
-      let (is_now, seen_now) = r.later m.edit m.change makes alone beside placed in
+      let (is_now, same) = made_now profile limit s m ms fine (makes, (alone, (beside, others))) in
       removed_still profile limit s changes now m.edit m.change
-      (of_run profile limit s (seen_of s ms) changes (lines_of s ms) now r) beside is_now seen_now path d
+      (of_run profile limit s (seen_of s ms) changes (lines_of s ms) now r) beside is_now same path d
       (removed_after ms others path d removes
       (All-tail (IsElsewhere (changed_path path)) (seen s m.edit) (seen_of s ms) elsewhere)
       (rest_of_all (λ x. IsBeside x d) changes m.change beside'))

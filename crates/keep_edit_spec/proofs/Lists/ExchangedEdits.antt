@@ -25,7 +25,7 @@ use Rattle.keep_edit_spec.specs.Look.{key_text, keys_in}
 use Rattle.keep_edit_spec.specs.RunLists.{MadeEdit, lines_of, made, seen_of}
 use Rattle.keep_edit_spec.specs.Runs.{AreApart, ArePlain, IsBeforeHeaders, IsInOrder, IsPlain, IsPlainBefore}
 use Rattle.keep_edit_spec.specs.Runs.{IsSeenStill, KeepsPlace, LeavesAlone, LetsCome, LetsTable, MakesChange}
-use Rattle.keep_edit_spec.specs.Runs.{PassesTable}
+use Rattle.keep_edit_spec.specs.Runs.{IsNoSecond}
 use Rattle.keep_edit_spec.specs.Runs.{PassesBy, is_header, is_insert, is_new_after, seen, takes_up_to, with_line}
 use Rattle.keep_edit_spec.specs.SetValues.{SetsValue}
 use Rattle.keep_edit_spec.specs.TextChanges.{IsBeside, TextChange, change_at, moved}
@@ -273,10 +273,10 @@ module _ (c d : TextChange) (at : c.at ≡ d.at) (none : c.size ≡ 0) (no_size 
         placed_line x (elim alike [ inl plain ↦ inl plain | inr (line, all) ↦ inr all ]) h,
       )
       placed_more (append_table keys) x (inl plain) h =
-          (each_line (PassesTable keys) h.0, placed_header x plain h.1)
+          (each_line (IsNoSecond keys) h.0, placed_header x plain h.1)
       placed_more (append_table keys) x (inr (own, all)) h = no_insert own
       placed_more (append_element keys) x (inl plain) h =
-          (each_line (PassesTable keys) h.0, placed_header x plain h.1)
+          (each_line (IsNoSecond keys) h.0, placed_header x plain h.1)
       placed_more (append_element keys) x (inr (own, all)) h = no_insert own
       placed_more (remove other) x alike h = tt
       placed_more (set other new) x alike h = tt

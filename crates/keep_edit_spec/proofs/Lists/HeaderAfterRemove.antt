@@ -60,7 +60,7 @@ module _ (profile : Profile) (limit : ℕ) (s : Document) (path : List Part) (n 
   pub lets_without : (now : List Mention) (more : List (List ℕ))
       → now ≡ line.without profile limit s path n fine own closed → LetsCome (mentions_in s) now more
   lets_without now more said = record {
-    lets = λ role q rest e free.
+    lets = λ role q rest e comes free.
         let T : Mark → Bool = refuses (record { role = role; path = q }) in
         any_made mark_of T now
         ∙ ap (list_any (λ (m : Mention). some_passes T (mark_of m))) said

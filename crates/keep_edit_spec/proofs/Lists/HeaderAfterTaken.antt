@@ -6,16 +6,13 @@
 -- is taken does not end where the header comes, so that is written as before (HeaderStays).
 --
 -- Theorems: `table_after_taken`, `element_after_taken`.
-use Rattle.std.proofs.Common.{◌≡◌, ℕ, Bool, true, false, cond, not, List, [], ◌∷◌, ◌++◌, refl, sym, ap, subst, ◌∙◌}
+use Rattle.std.proofs.Common.{◌≡◌, ℕ, Bool, true, false, cond, List, [], ◌∷◌, ◌++◌, refl, sym, ap, subst, ◌∙◌}
 use Rattle.std.proofs.Common.{arith, Option, Some, None}
 use Rattle.keep_types.specs.declared.leaf.Profile.{Profile}
-use Rattle.keep_types.specs.declared.role.Role.{Role}
 use Rattle.keep_syntax.specs.Tree.{Written, Gap, Content, blank, keyval, header, element, Line, Document}
 use Rattle.keep_path.specs.Path.{Part, index, same_path, strip}
-use Rattle.keep_meaning.specs.Marks.{MentionKind, Reading, elements_of, header_path, role_of, start}
+use Rattle.keep_meaning.specs.Marks.{Reading, elements_of, header_path, start}
 use Rattle.keep_meaning.specs.Meaning.{after_line, keys_of, lines, mentions_in, reading_after_lines}
-use Rattle.keep_meaning.specs.Nodes.{kinds_at}
-use Rattle.keep_meaning.specs.Rules.{allows}
 use Rattle.keep_edit_spec.specs.Edits.{edited_document, remove}
 use Rattle.keep_edit_spec.specs.ElementRuns.{changed_path}
 use Rattle.keep_edit_spec.specs.Laws.{IsEditable}
@@ -27,9 +24,8 @@ use Rattle.keep_edit_spec.specs.TextChanges.{TextChange}
 use Rattle.keep_edit_spec.proofs.EditLaws.{remove_lawful}
 use Rattle.keep_edit_spec.proofs.Append.AppendLaw.{reading_append}
 use Rattle.keep_edit_spec.proofs.Append.AppendTable.{tables_stated}
-use Rattle.keep_edit_spec.proofs.Append.HeaderMarks.{refused_roles}
 use Rattle.keep_edit_spec.proofs.Common.Runs.{same_path-sound}
-use Rattle.keep_edit_spec.proofs.Lists.HeaderSaid.{LetsCome, any_made, passes_clear, some_passes}
+use Rattle.keep_edit_spec.proofs.Lists.HeaderSaid.{LetsCome, passes_clear, refused_by, refuses_role}
 use Rattle.keep_edit_spec.proofs.Lists.HeaderStays.{element_stays, table_stays}
 use Rattle.keep_edit_spec.proofs.Lists.SectionAt.{IsSectionAt}
 use Rattle.keep_edit_spec.proofs.Lists.SectionsApart as sections
@@ -124,13 +120,10 @@ module _ (profile : Profile) (limit : ℕ) (s : Document) (path : List Part) (c 
   lets_come more passes =
       subst (λ (t : Document). LetsCome (mentions_in s) (mentions_in t) more)
       (sym (gone.is_now profile limit s path c fine h)) (record {
-        lets = λ role q rest e free.
-            let T : Role → Bool = λ r. not (allows r role) in
-            let test : MentionKind → Bool = λ kind. some_passes T (role_of kind) in
-            refused_roles role q (mentions_in now) ∙ any_made role_of T (kinds_at q (mentions_in now))
-            ∙ gone.kinds_unsaid profile limit s path c fine h test q
-            (passes_clear more (changed_path path) q rest passes e)
-            (sym (refused_roles role q (mentions_in s) ∙ any_made role_of T (kinds_at q (mentions_in s))) ∙ free);
+        lets = λ role q rest e comes free.
+            refused_by role q (mentions_in now)
+            ∙ gone.kinds_unsaid profile limit s path c fine h (refuses_role role) q
+            (passes_clear more (changed_path path) q rest passes e) (sym (refused_by role q (mentions_in s)) ∙ free);
         counts = λ q rest e. counts_without q (passes_clear more (changed_path path) q rest passes e);
       })
 

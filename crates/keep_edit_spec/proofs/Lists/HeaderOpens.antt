@@ -9,7 +9,8 @@
 -- line has no bytes, so the line comes at the end of the text (`place_now`).
 --
 -- Theorems: `header_opens`; `path_is`: where no array of tables is on the way of a header's keys, its path is theirs;
--- `way_says`: what it says on its way; `are_first`, `before_last`: prefixes of a path.
+-- `way_says`: what it says on its way; `are_first`, `before_last`: prefixes of a path; `end_below`: the end of a body
+-- that is not the root's.
 use Rattle.std.proofs.Common.{◌≡◌, ℕ, suc, ◌+◌, ◌-◌, Bool, true, false, not, cond, ◌&&◌, nat_lt, List, [], ◌∷◌, ◌++◌}
 use Rattle.std.proofs.Common.{length, map, take, drop, refl, sym, ap, ap₂, subst, ◌∙◌, append_assoc, length-append}
 use Rattle.std.proofs.Common.{arith, Option, Some, None, inl, IsUtf8}
@@ -230,7 +231,7 @@ key_allowed profile limit ms a name value holds new table flat fits =
 
 -- ---- after the header
 
-end_below : (s : Document) (a : List Part) → is_root a ≡ false → end_of s a ≡ end_in a start (lines s)
+pub end_below : (s : Document) (a : List Part) → is_root a ≡ false → end_of s a ≡ end_in a start (lines s)
 end_below s [] below = absurd cc
 end_below s (p ∷ ps) below = refl
 

@@ -1,15 +1,17 @@
 -- A header that is not refused is not refused after an edit, if the marks at the paths with its first keys refuse no
--- more than before, and those have as many elements (`LetsCome`).
+-- more than before, and those have as many elements (`LetsCome`). Its own role is asked for at the path with all of its
+-- keys only: before that it goes through a path.
 --
--- A header meets nothing else, and each path on its way has its first keys, so it passes key by key (`goes_on`). It is
--- so if the same is said of those paths (`same_lets`), and already if each test of what is said of one tells the same
--- and as many elements are said (`any_lets`): what the marks refuse at a path is known by what is said of it
--- (`refused_roles`), and so is how many elements it has (`element_count`). Such a path is not at or below one that the
--- header passes by (`passes_clear`).
+-- A header meets nothing else, and each path on its way has its first keys, so it passes key by key (`goes_on`). What
+-- the marks refuse at a path is known by what is said of it (`refused_by`), and so is how many elements it has
+-- (`element_count`). So it is enough that the test of what refuses the role tells the same of those paths, and as many
+-- elements are said (`told_lets`); then each test may tell the same (`any_lets`), or the same is said (`same_lets`).
+-- Such a path is not at or below one that the header passes by (`passes_clear`).
 --
--- Theorems: `any_made`; `passes_clear`, `any_lets`, `same_lets`, `table_unrefused`, `element_unrefused`.
+-- Theorems: `any_made`, `refused_by`; `passes_clear`, `told_lets`, `any_lets`, `same_lets`, `table_unrefused`,
+-- `element_unrefused`.
 use Rattle.std.proofs.Common.{◌≡◌, ℕ, ◌+◌, ◌-◌, Bool, true, false, cond, not, ◌&&◌, ◌||◌, ◌==◌, List, [], ◌∷◌, ◌++◌}
-use Rattle.std.proofs.Common.{map, refl, sym, ap, ap₂, ◌∙◌, append_assoc, arith, Option, Some, None, inl, inr}
+use Rattle.std.proofs.Common.{◌⊎◌, map, refl, sym, ap, ap₂, ◌∙◌, append_assoc, arith, Option, Some, None, inl, inr}
 use Rattle.std.specs.Prelude.{filter}
 use Rattle.std.specs.List.{cons_option, count_by, filter_map, list_any}
 use Rattle.std.specs.Option.{option_map}
@@ -103,28 +105,47 @@ element_count q (m ∷ ms) = by (is_element m.kind) refl (is_at q m) refl (eleme
 
 -- ---- what a header meets
 
--- at the paths with these first keys, the later marks let come what the earlier ones let come, and as many elements are
+-- what is said at a path that refuses the role there
+abbrev pub refuses_role : Role → MentionKind → Bool
+refuses_role role kind = some_passes (λ (r : Role). not (allows r role)) (role_of kind)
+
+pub refused_by : (role : Role) (q : List Part) (ms : List Mention)
+    → is_refused (marks ms) role q ≡ list_any (refuses_role role) (kinds_at q ms)
+refused_by role q ms =
+    refused_roles role q ms ∙ any_made role_of (λ (r : Role). not (allows r role)) (kinds_at q ms)
+
+-- at the paths with these first keys, the later marks let come what the earlier ones let come, and as many elements
+-- are; where more keys follow, a header only goes through the path
 pub record LetsCome (was now : List Mention) (keys : List (List ℕ)) : Type 0 where
   pub lets : (role : Role) (q : List Part) (rest : List (List ℕ)) → keys ≡ keys_in q ++ rest
+      → (rest ≡ []) ⊎ (role ≡ Through)
       → is_refused (marks was) role q ≡ false → is_refused (marks now) role q ≡ false
   pub counts : (q : List Part) (rest : List (List ℕ)) → keys ≡ keys_in q ++ rest
       → elements_of q (tables_in now) ≡ elements_of q (tables_in was)
 
--- where a test of what is said of such a path tells the same as before, and as many elements are said
+-- where the test of what refuses the role tells the same of such a path as before, and as many elements are said
+pub told_lets : (was now : List Mention) (keys : List (List ℕ))
+    → ((role : Role) (q : List Part) (rest : List (List ℕ)) → keys ≡ keys_in q ++ rest
+    → (rest ≡ []) ⊎ (role ≡ Through)
+    → list_any (refuses_role role) (kinds_at q now) ≡ list_any (refuses_role role) (kinds_at q was))
+    → ((q : List Part) (rest : List (List ℕ)) → keys ≡ keys_in q ++ rest
+    → count_by is_element (kinds_at q now) ≡ count_by is_element (kinds_at q was))
+    → LetsCome was now keys
+told_lets was now keys told elements = record {
+  lets = λ role q rest is comes h.
+      refused_by role q now ∙ told role q rest is comes ∙ sym (refused_by role q was) ∙ h;
+  counts = λ q rest is. element_count q now ∙ elements q rest is ∙ sym (element_count q was);
+}
+
+-- where each test of what is said of such a path does
 pub any_lets : (was now : List Mention) (keys : List (List ℕ))
     → ((test : MentionKind → Bool) (q : List Part) (rest : List (List ℕ)) → keys ≡ keys_in q ++ rest
     → list_any test (kinds_at q now) ≡ list_any test (kinds_at q was))
     → ((q : List Part) (rest : List (List ℕ)) → keys ≡ keys_in q ++ rest
     → count_by is_element (kinds_at q now) ≡ count_by is_element (kinds_at q was))
     → LetsCome was now keys
-any_lets was now keys tests elements = record {
-  lets = λ role q rest is h.
-      let T : Role → Bool = λ r. not (allows r role) in
-      refused_roles role q now ∙ any_made role_of T (kinds_at q now)
-      ∙ tests (λ (kind : MentionKind). some_passes T (role_of kind)) q rest is
-      ∙ sym (refused_roles role q was ∙ any_made role_of T (kinds_at q was)) ∙ h;
-  counts = λ q rest is. element_count q now ∙ elements q rest is ∙ sym (element_count q was);
-}
+any_lets was now keys tests elements =
+    told_lets was now keys (λ role q rest is comes. tests (refuses_role role) q rest is) elements
 
 -- where the same is said of each such path
 pub same_lets : (was now : List Mention) (keys : List (List ℕ))
@@ -140,7 +161,7 @@ module _ (was now : List Mention) (all : List (List ℕ)) (come : LetsCome was n
       → header_conflict (marks now) (tables_in now) at (k ∷ ks) role ≡ None
   goes_on at k [] e h =
       ap (λ (b : Bool). cond {A = Option Why} b (Some (why_of role)) None)
-      (come.lets role (at ++ key k ∷ []) [] (keys_split at k [] all e)
+      (come.lets role (at ++ key k ∷ []) [] (keys_split at k [] all e) (inl refl)
       (last_passes (marks was) (tables_in was) role at k [] h))
   goes_on at k (l ∷ ks) e h =
       let q : List Part = at ++ key k ∷ [] in
@@ -150,7 +171,7 @@ module _ (was now : List Mention) (all : List (List ℕ)) (come : LetsCome was n
       (header_conflict (marks now) (tables_in now) (cond (0 == n) q (q ++ index (n - 1) ∷ [])) (l ∷ ks) role))
       (come.counts q (l ∷ ks) whole)
       ∙ by (0 == elements_of q (tables_in was)) (is_refused (marks was) Through q) refl h
-      (come.lets Through q (l ∷ ks) whole)
+      (come.lets Through q (l ∷ ks) whole (inr refl))
       (goes_on (entered_path (tables_in was) q) l ks
       (ap (λ (x : List (List ℕ)). x ++ l ∷ ks) (entered_keys (tables_in was) q) ∙ sym whole))
     where

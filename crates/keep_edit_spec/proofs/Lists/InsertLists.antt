@@ -5,12 +5,13 @@
 -- (GivenTexts). The insert leaves each later edit alone, whose change is beside the whole line, so the set
 -- makes its change still (`set_there`, by induction on the later edits). With the later value in the text of the line
 -- this is the text that the other edits make, and a text is that of one document (`same_document`). The insert is found
--- by its change, which no other edit makes (`found_there`, by OneInsert).
+-- by its change, which no other edit makes (`found_there`, by OneInsert). Each edit makes its change of the first
+-- document, so none follows a header, and each has its place (`all_made`).
 --
 -- Theorem: `run_goes_on_inserted`.
 use Rattle.std.proofs.Common.{◌≡◌, ◌≢◌, ℕ, ◌+◌, ◌≤◌, List, [], ◌∷◌, ◌++◌, length, take, All}
 use Rattle.std.proofs.Common.{refl, sym, ap, ap₂, subst, subst₂, ◌∙◌, arith, length-append, None, ◌⊎◌, inl, inr}
-use Rattle.std.specs.Prelude.{IsTrue}
+use Rattle.std.specs.Prelude.{IsTrue, ⊤}
 use Rattle.std.proofs.lemmas.List.Elements.{All-head, All-nil, All-tail, All-weaker}
 use Rattle.keep_types.specs.declared.leaf.Profile.{Profile}
 use Rattle.keep_syntax.specs.Tree.{Document, Value, text, value_text}
@@ -32,6 +33,7 @@ use Rattle.keep_edit_spec.specs.TextChanges.{Follow, IsBeside, TextChange, chang
 use Rattle.keep_edit_spec.specs.TextChanges.{place_of_change, text_with, with_change}
 use Rattle.keep_edit_spec.specs.declared.line_kind.LineKind.{LineKind}
 use Rattle.keep_edit_spec.proofs.EditLaws.{change_put, set_lawful}
+use Rattle.keep_edit_spec.proofs.Lists.BehindHeaders.{not_both}
 use Rattle.keep_edit_spec.proofs.Lists.ExchangedChanges.{IsAmong, IsAmongFirst, IsAmongMore, IsFoundThere}
 use Rattle.keep_edit_spec.proofs.Lists.ExchangedChanges.{found_other, found_own, goes_among, moved_there, put_among}
 use Rattle.keep_edit_spec.proofs.Lists.ExchangedChanges.{put_part, starts_there, text_after, text_parts, text_to}
@@ -44,6 +46,53 @@ use Rattle.keep_edit_spec.proofs.Lists.MadeChanges.{added, within_text}
 use Rattle.keep_edit_spec.proofs.Lists.OneInsert.{only_insert}
 use Rattle.keep_edit_spec.proofs.Lists.RunLists.{run_is_known}
 use Rattle.keep_edit_spec.proofs.Lists.TextChanges.{all_with}
+
+-- ---- edits that follow no header
+
+-- Each makes its change of the first document in its place.
+abbrev AreMade : Profile → ℕ → Document → List MadeEdit → Type 0
+AreMade profile limit s [] = ⊤
+AreMade profile limit s (m ∷ ms) =
+    MakesChange profile limit s m.edit m.change
+    × (All (λ e. LeavesAlone e (seen s m.edit)) (seen_of s ms)
+    × (All (λ d. IsBeside d m.change) (changes_of ms)
+    × (KeepsPlace s (seen_of s ms) (changes_of ms) (lines_of s ms) m.edit m.change
+    × AreMade profile limit s ms)))
+
+all_made : (profile : Profile) (limit : ℕ) (s : Document) (ms : List MadeEdit) → AreAtOnce profile limit s ms
+    → All (λ m. MakesChange profile limit s m.edit m.change) ms → AreMade profile limit s ms
+all_made profile limit s [] h make = tt
+all_made profile limit s (m ∷ ms) (in_place, (alone, (beside, others))) make =
+    let P : MadeEdit → Type 0 = λ m. MakesChange profile limit s m.edit m.change in
+    let its : MakesChange profile limit s m.edit m.change = All-head P m ms make in (
+      its,
+      (
+        alone,
+        (
+          beside,
+          (
+            elim in_place [
+              | inl (makes, placed) ↦ placed
+              | inr (follows, keeps) ↦ absurd (not_both profile limit s (lines_of s ms) m.edit m.change its follows)
+            ],
+            all_made profile limit s ms others (All-tail P m ms make),
+          ),
+        ),
+      ),
+    )
+
+made_at_once : (profile : Profile) (limit : ℕ) (s : Document) (ms : List MadeEdit) → AreMade profile limit s ms
+    → AreAtOnce profile limit s ms
+made_at_once profile limit s [] h = tt
+made_at_once profile limit s (m ∷ ms) (makes, (alone, (beside, (placed, others)))) =
+    (inl (makes, placed), (alone, (beside, made_at_once profile limit s ms others)))
+
+made_run : (profile : Profile) (limit : ℕ) (s : Document) (ms : List MadeEdit) → IsEditable profile limit s
+    → AreMade profile limit s ms
+    → IsRun profile limit s (seen_of s ms) (changes_of ms) (lines_of s ms) (document_after s ms)
+made_run profile limit s ms fine h = run_is_known profile limit s ms fine (made_at_once profile limit s ms h)
+
+-- ---- the insert and another value
 
 -- what holds of all holds of the one
 of_one : (s : Document) (P : Edit → Type 0) (m : MadeEdit) (later earlier : List MadeEdit)
@@ -126,12 +175,12 @@ module _ (profile : Profile) (limit : ℕ) (s : Document) (path : List Part) (va
     among : IsAmong c d (changes_of ms) (changes_of others)
     sets : SetsValue profile limit (document_after s ms) path more (there (moved_by_all among.before c.at))
 
-  set_first : (earlier : List MadeEdit) → AreAtOnce profile limit s (m ∷ earlier)
+  set_first : (earlier : List MadeEdit) → AreMade profile limit s (m ∷ earlier)
       → IsSetThere (m ∷ earlier) (by ∷ earlier)
   set_first earlier (makes, (alone, (beside, (placed, others)))) =
       let run : IsRun profile limit s (seen_of s earlier) (changes_of earlier) (lines_of s earlier)
       (document_after s earlier) =
-      run_is_known profile limit s earlier fine others in
+      made_run profile limit s earlier fine others in
       let first : IsAmongFirst (changes_of earlier) c d = put_among (changes_of earlier) c d run.follow at in
       let now : Document = document_after s earlier in
       let moved : TextChange = moved_past (changes_of earlier) c in
@@ -162,14 +211,14 @@ module _ (profile : Profile) (limit : ℕ) (s : Document) (path : List Part) (va
         length-append (value_text value) newline,
       )
 
-  set_there : (later earlier : List MadeEdit) → AreAtOnce profile limit s (later ++ m ∷ earlier)
+  set_there : (later earlier : List MadeEdit) → AreMade profile limit s (later ++ m ∷ earlier)
       → IsSetThere (later ++ m ∷ earlier) (later ++ by ∷ earlier)
   set_there [] earlier all = set_first earlier all
   set_there (x ∷ later) earlier (makes, (alone, (beside, (placed, others)))) =
       let ms : List MadeEdit = later ++ m ∷ earlier in
       let now : Document = document_after s ms in
       let run : IsRun profile limit s (seen_of s ms) (changes_of ms) (lines_of s ms) now =
-      run_is_known profile limit s ms fine others in
+      made_run profile limit s ms fine others in
       let before : IsSetThere ms (later ++ by ∷ earlier) = set_there later earlier others in
       let start : ℕ = moved_by_all before.among.before c.at in
       let e : TextChange = moved_past (changes_of ms) x.change in
@@ -193,7 +242,7 @@ module _ (profile : Profile) (limit : ℕ) (s : Document) (path : List Part) (va
 
   at_once : (later earlier : List MadeEdit)
       → IsPlain d.new ⊎ All (λ e. IsTrue (is_insert e)) (seen_of s (later ++ m ∷ earlier))
-      → AreAtOnce profile limit s (later ++ m ∷ earlier) → AreAtOnce profile limit s (later ++ by ∷ earlier)
+      → AreMade profile limit s (later ++ m ∷ earlier) → AreMade profile limit s (later ++ by ∷ earlier)
   at_once [] earlier plain (makes, (alone, (beside, (placed, others)))) = (
     (kind, k),
     (alone_first earlier alone, (beside_first earlier beside, (placed_first earlier placed, others))),
@@ -235,17 +284,17 @@ module _ (profile : Profile) (limit : ℕ) (s : Document) (path : List Part) (va
 
   -- ---- the document
 
-  module _ (ms others : List MadeEdit) (it : IsSetThere ms others) (all : AreAtOnce profile limit s ms)
-      (still : AreAtOnce profile limit s others) where
+  module _ (ms others : List MadeEdit) (it : IsSetThere ms others) (all : AreMade profile limit s ms)
+      (still : AreMade profile limit s others) where
     abbrev now : Document
     now = document_after s ms
 
     run : IsRun profile limit s (seen_of s ms) (changes_of ms) (lines_of s ms) now
-    run = run_is_known profile limit s ms fine all
+    run = made_run profile limit s ms fine all
 
     other_run : IsRun profile limit s (seen_of s others) (changes_of others) (lines_of s others)
         (document_after s others)
-    other_run = run_is_known profile limit s others fine still
+    other_run = made_run profile limit s others fine still
 
     -- the text on both sides of the line
     abbrev left : List ℕ
@@ -305,7 +354,7 @@ module _ (profile : Profile) (limit : ℕ) (s : Document) (path : List Part) (va
     (more : Value) (d : TextChange) (fine : IsEditable profile limit s)
     (its : MakesChange profile limit s (insert path value) c) (same : c.at ≡ d.at) where
   -- edits that leave an insert of the path alone make other changes
-  others_differ : (ms : List MadeEdit) (new : Value) → AreAtOnce profile limit s ms
+  others_differ : (ms : List MadeEdit) (new : Value) → AreMade profile limit s ms
       → All (λ e. LeavesAlone e (seen s (insert path new))) (seen_of s ms) → All (λ x. x ≢ c) (changes_of ms)
   others_differ [] new all alone = All-nil (λ x. x ≢ c)
   others_differ (x ∷ ms) new (makes, (own, (beside, (placed, others)))) alone =
@@ -321,7 +370,7 @@ module _ (profile : Profile) (limit : ℕ) (s : Document) (path : List Part) (va
       by (inl (w, is)) apart = λ e.
           subst (λ (f : Edit). LeavesAlone (seen s f) (seen s (insert path new))) is apart refl
 
-  found_there : (ms : List MadeEdit) (before after : List TextChange) → AreAtOnce profile limit s ms
+  found_there : (ms : List MadeEdit) (before after : List TextChange) → AreMade profile limit s ms
       → changes_of ms ≡ before ++ c ∷ after → IsFound path more ms before c d after
   found_there [] before after all is = absurd (no_more before is)
     where
@@ -363,17 +412,18 @@ module _ (profile : Profile) (limit : ℕ) (s : Document) (path : List Part) (va
           }
 
 pub run_goes_on_inserted : RunGoesOnInserted
-run_goes_on_inserted profile limit s ms path value more kind before c d after fine all adds is makes plain =
+run_goes_on_inserted profile limit s ms path value more kind before c d after fine were make adds is makes plain =
+    let all : AreMade profile limit s ms = all_made profile limit s ms were make in
     let same : c.at ≡ d.at = same_place profile limit s path value more c d kind adds makes in
     let found : IsFound path more ms before c d after =
     found_there profile limit s path value c more d fine (kind, adds) same ms before after all is in
     let own : Value = found.value in
     let others : List MadeEdit = found.later ++ made (insert path more) d ∷ found.earlier in
-    let ours : AreAtOnce profile limit s (found.later ++ made (insert path own) c ∷ found.earlier) =
-    subst (AreAtOnce profile limit s) found.all all in
+    let ours : AreMade profile limit s (found.later ++ made (insert path own) c ∷ found.earlier) =
+    subst (AreMade profile limit s) found.all all in
     let its : AddsAs kind profile limit s path own c =
     of_kind own (its_own found.later found.earlier own ours) in
-    let still : AreAtOnce profile limit s others =
+    let still : AreMade profile limit s others =
     at_once profile limit s path own c more d kind fine its makes found.later found.earlier
     (subst (λ (l : List MadeEdit). IsPlain d.new ⊎ All (λ e. IsTrue (is_insert e)) (seen_of s l)) found.all plain)
     ours in
@@ -389,7 +439,7 @@ run_goes_on_inserted profile limit s ms path value more kind before c d after fi
       same = ap (λ (l : List MadeEdit). edited_document (document_after s l) (set path more)) found.all
           ∙ same_document profile limit s path own c more d kind fine its makes
           (found.later ++ made (insert path own) c ∷ found.earlier) others there_set ours still;
-      still = still;
+      still = made_at_once profile limit s others still;
     }
   where
     -- an insert there adds its line to a table of the same kind
@@ -397,7 +447,7 @@ run_goes_on_inserted profile limit s ms path value more kind before c d after fi
     of_kind w = as_of_kind kind profile limit s path w c (kind_is kind profile limit s path value c adds)
 
     its_own : (later earlier : List MadeEdit) (w : Value)
-        → AreAtOnce profile limit s (later ++ made (insert path w) c ∷ earlier)
+        → AreMade profile limit s (later ++ made (insert path w) c ∷ earlier)
         → MakesChange profile limit s (insert path w) c
     its_own [] earlier w h = h.0
     its_own (x ∷ later) earlier w h = its_own later earlier w h.1.1.1.1

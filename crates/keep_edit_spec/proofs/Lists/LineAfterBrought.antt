@@ -1,13 +1,13 @@
 -- An insert that adds a line, at the end of a body or to a table which dotted keys make, adds the same one after an
 -- insert brought the header of its own table to another place.
 --
--- The tables are others, since nothing but headers makes the table whose header comes. So the document says of the
--- line's path what it said: its insert is not refused, and its holder is the same (BroughtAllowed). The holder's body
--- ends where it did, or three lines later (BroughtEnds), so the same line comes, at the moved place (AddsAgain). To a
--- table that dotted keys make it comes after the last line that leads through the holder, which is the same, or three
--- lines later (DottedAgain).
+-- The first new keys are others, so the line's insert is not refused, and its holder is the same (BroughtAllowed). The
+-- tables are others, too, since nothing but headers makes the table whose header comes. So the holder's body ends where
+-- it did, or three lines later (BroughtEnds), and the same line comes, at the moved place (AddsAgain). To a table that
+-- dotted keys make it comes after the last line that leads through the holder, which is the same, or three lines later
+-- (DottedAgain).
 --
--- Theorems: `line_after_brought`, `dotted_after_brought`.
+-- Theorems: `line_after_brought`, `dotted_after_brought`; `line_differs`, `dotted_differs`: the tables are others.
 use Rattle.std.proofs.Common.{◌≡◌, ◌≢◌, ℕ, suc, ◌+◌, ◌<◌, true, List, length, take, sym, ap, ◌∙◌, arith, None, Some}
 use Rattle.std.proofs.Common.{◌⊎◌, inl, inr}
 use Rattle.std.proofs.lemmas.Bool.{cases_lt}
@@ -16,7 +16,7 @@ use Rattle.keep_syntax.specs.Tree.{Document, Value, bom_leaves, text_of, value_d
 use Rattle.keep_path.specs.Path.{Part}
 use Rattle.keep_meaning.specs.Marks.{start}
 use Rattle.keep_meaning.specs.Meaning.{lines, mentions_in}
-use Rattle.keep_edit_spec.specs.AddedLines.{AddsLine, AddsLineStill}
+use Rattle.keep_edit_spec.specs.AddedLines.{AddsLine, AddsLineStill, first_new}
 use Rattle.keep_edit_spec.specs.BroughtHeaders.{BringsHeader}
 use Rattle.keep_edit_spec.specs.DottedLines.{AddsDotted, StillAdds}
 use Rattle.keep_edit_spec.specs.Edits.{edited_document, end_of, insert}
@@ -35,9 +35,33 @@ use Rattle.keep_edit_spec.proofs.Lists.DottedLine as dotted
 use Rattle.keep_edit_spec.proofs.Lists.NewPaths.{InsertsKeys, dotted_keys, line_keys}
 use Rattle.keep_edit_spec.proofs.Lists.Places.{at_is, width}
 
+-- ---- the tables
+
+module _ (profile : Profile) (limit : ℕ) (s : Document) (path : List Part) (value : Value) (c : TextChange)
+    (other : List Part) (more : Value) (d : TextChange) (h : BringsHeader profile limit s path value c) where
+  abbrev own : List Part
+  own = holder path (mentions_in s)
+
+  abbrev table : List Part
+  table = holder other (mentions_in s)
+
+  -- a header defines that of the line
+  pub line_differs : AddsLine profile limit s other more d → own ≢ table
+  line_differs k same = let no : None ≡ Some k.number = sym h.bare ∙ ap (end_of s) same ∙ k.ends in absurd cc
+
+  -- or dotted keys make it
+  pub dotted_differs : AddsDotted profile limit s other more d → own ≢ table
+  dotted_differs k same =
+      let no : None ≡ Some k.number =
+      sym h.no_dots ∙ ap (λ (q : List Part). last_line (leads_dotted q) start (lines s)) same ∙ k.last in
+      absurd cc
+
+-- ---- the line
+
 module _ (profile : Profile) (limit : ℕ) (s : Document) (path : List Part) (value : Value) (c : TextChange)
     (other : List Part) (more : Value) (d : TextChange) (fine : IsEditable profile limit s)
-    (h : BringsHeader profile limit s path value c) (apart : c.at ≢ d.at) where
+    (h : BringsHeader profile limit s path value c) (other_keys : first_new s path ≢ first_new s other)
+    (apart : c.at ≢ d.at) where
   abbrev now : Document
   now = edited_document s (insert path value)
 
@@ -70,7 +94,7 @@ module _ (profile : Profile) (limit : ℕ) (s : Document) (path : List Part) (va
     its = line_keys profile limit s other more d k
 
     differs : a ≢ b
-    differs same = let no : None ≡ Some k.number = sym h.bare ∙ ap (end_of s) same ∙ k.ends in absurd cc
+    differs = line_differs profile limit s path value c other more d h k
 
     d_at : d.at ≡ bom + width (take k.number s.ended)
     d_at = at_is profile limit s other more d k
@@ -91,8 +115,8 @@ module _ (profile : Profile) (limit : ℕ) (s : Document) (path : List Part) (va
         (enough profile limit s path value c h fine k.number end.number k.closed end.moves) c
         (starts_at profile limit s path value c h fine k.number end.number k.closed end.moves d d_at)
         (newline_stays profile limit s path value c h fine)
-        (holder_stays profile limit s path value c fine h other more its differs)
-        (refusal_stays profile limit s path value c fine h other more its differs) newline
+        (holder_stays profile limit s path value c fine h other more its other_keys)
+        (refusal_stays profile limit s path value c fine h other more its other_keys) newline
 
   -- ---- to a table that dotted keys make
 
@@ -101,10 +125,7 @@ module _ (profile : Profile) (limit : ℕ) (s : Document) (path : List Part) (va
     its_dotted = dotted_keys profile limit s other more d k
 
     differs_dotted : a ≢ b
-    differs_dotted same =
-        let no : None ≡ Some k.number =
-        sym h.no_dots ∙ ap (λ (q : List Part). last_line (leads_dotted q) start (lines s)) same ∙ k.last in
-        absurd cc
+    differs_dotted = dotted_differs profile limit s path value c other more d h k
 
     dotted_at : d.at ≡ bom + width (take (suc k.number) s.ended)
     dotted_at = dotted.at_is profile limit s other more d k
@@ -112,7 +133,7 @@ module _ (profile : Profile) (limit : ℕ) (s : Document) (path : List Part) (va
     lead : IsLeadMoved s now b n more_now k.number
     lead =
         dots_move profile limit s path value c fine h b
-        (holder_clear profile limit s path value c fine h other more its_dotted differs_dotted) k.number k.last
+        (holder_clear profile limit s path value c fine h other more its_dotted other_keys) k.number k.last
 
     -- the line after it
     after : IsMoved n more_now (suc k.number) (suc lead.number)
@@ -137,13 +158,13 @@ module _ (profile : Profile) (limit : ℕ) (s : Document) (path : List Part) (va
         dotted_again profile limit s now other more c d k lead.number there
         (starts_at profile limit s path value c h fine (suc k.number) (suc lead.number) k.closed after d dotted_at)
         (newline_stays profile limit s path value c h fine)
-        (holder_stays profile limit s path value c fine h other more its_dotted differs_dotted)
-        (refusal_stays profile limit s path value c fine h other more its_dotted differs_dotted)
+        (holder_stays profile limit s path value c fine h other more its_dotted other_keys)
+        (refusal_stays profile limit s path value c fine h other more its_dotted other_keys)
 
 pub line_after_brought : LineAfterBrought
 line_after_brought profile limit s path value c other more d fine h k other_keys apart =
-    adds_now profile limit s path value c other more d fine h apart k
+    adds_now profile limit s path value c other more d fine h other_keys apart k
 
 pub dotted_after_brought : DottedAfterBrought
 dotted_after_brought profile limit s path value c other more d fine h k other_keys apart =
-    adds_dotted_now profile limit s path value c other more d fine h apart k
+    adds_dotted_now profile limit s path value c other more d fine h other_keys apart k

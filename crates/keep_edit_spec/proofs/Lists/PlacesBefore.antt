@@ -3,7 +3,8 @@
 -- What is asked is asked of each edit, of each line and of each change, so of fewer too. Among edits of any kind more
 -- is asked (`keeps_place`), and nothing of a remove (`among_with_remove`).
 --
--- Theorems: `placed_before`, and among edits of any kind `among_before`; `keeps_place`, `among_with_remove`.
+-- Theorems: `placed_before`, and among edits of any kind `among_before`; `behind_before`: of a line behind a header
+-- that came; `keeps_place`, `among_with_remove`.
 use Rattle.std.proofs.Common.{◌≡◌, ℕ, ◌<◌, Bool, false, List, [], ◌∷◌, length, suc, All, ◌⊎◌, inl, inr}
 use Rattle.std.specs.Prelude.{IsTrue}
 use Rattle.std.specs.List.{list_any}
@@ -16,7 +17,8 @@ use Rattle.keep_edit_spec.specs.Edits.{Edit, append_element, append_table, inser
 use Rattle.keep_edit_spec.specs.ElementRuns.{KeepsPlaceAmong}
 use Rattle.keep_edit_spec.specs.InsertKinds.{Added, IsAfterLine, added_as}
 use Rattle.keep_edit_spec.specs.Runs.{ArePlain, IsBeforeHeaders, IsInOrder, IsPlain, IsPlainBefore, KeepsPlace}
-use Rattle.keep_edit_spec.specs.Runs.{LetsCome, LetsTable, PassesTable, is_header, is_insert, takes_up_to}
+use Rattle.keep_edit_spec.specs.Runs.{IsNoSecond, LetsCome, LetsTable, is_header, is_insert, takes_up_to}
+use Rattle.keep_edit_spec.specs.RunLists.{KeepsBehind}
 use Rattle.keep_edit_spec.specs.TextChanges.{IsBeside, TextChange, change_at, with_change}
 use Rattle.keep_edit_spec.proofs.Lists.TextChanges.{none_with, rest_of_all}
 
@@ -45,11 +47,11 @@ lets_before bytes changes c at all =
       alone = rest_of_all (λ y. y.at ≡ x.at → 0 < y.size) changes c h.alone;
     })
 
-each_none : (test : Edit → Bool) (edits : List Edit) → list_any test edits ≡ false → All (λ e. test e ≡ false) edits
-each_none test [] none = All-nil (λ e. test e ≡ false)
-each_none test (e ∷ edits) none =
-    let parts = or_parts (test e) (list_any test edits) none in
-    All-cons (λ x. test x ≡ false) e edits parts.0 (each_none test edits parts.1)
+pub each_none : {A : Type 0} (test : A → Bool) (xs : List A) → list_any test xs ≡ false → All (λ x. test x ≡ false) xs
+each_none test [] none = All-nil (λ x. test x ≡ false)
+each_none test (x ∷ xs) none =
+    let parts = or_parts (test x) (list_any test xs) none in
+    All-cons (λ y. test y ≡ false) x xs parts.0 (each_none test xs parts.1)
 
 -- what holds of each of the edits holds of each of the fewer, and of the lines
 module _ (s : Document) (edits fewer : List Edit) (are : (P : Edit → Type 0) → All P edits → All P fewer)
@@ -85,6 +87,15 @@ module _ (s : Document) (edits fewer : List Edit) (are : (P : Edit → Type 0) �
   let_before at (plain, (lets, before)) =
       (plain_before bytes changes c plain, (lets_before bytes changes c at lets, headers_before at before))
 
+  pub behind_before : (d : TextChange) → KeepsBehind s edits (with_change changes c) d → KeepsBehind s fewer changes d
+  behind_before d (clear, h) = (
+    (none_with (takes_up_to d.at) changes c clear).1,
+    elim h [
+      | inl all ↦ inl (are (λ x. IsTrue (is_insert x)) all)
+      | inr (plain, before) ↦ inr (plain_before bytes changes c plain, headers_before d.at before)
+    ],
+  )
+
   pub placed_before : (f : Edit) (d : TextChange) → KeepsPlace s edits (with_change changes c) lines f d
       → KeepsPlace s fewer changes less f d
   placed_before (insert path value) d (order, h) = (
@@ -94,8 +105,8 @@ module _ (s : Document) (edits fewer : List Edit) (are : (P : Edit → Type 0) �
       | inr lets ↦ inr (let_before d.at lets)
     ],
   )
-  placed_before (append_table keys) d (passed, h) = (each (PassesTable keys) passed, header_before d h)
-  placed_before (append_element keys) d (passed, h) = (each (PassesTable keys) passed, header_before d h)
+  placed_before (append_table keys) d (passed, h) = (each (IsNoSecond keys) passed, header_before d h)
+  placed_before (append_element keys) d (passed, h) = (each (IsNoSecond keys) passed, header_before d h)
   placed_before (remove path) d h = tt
   placed_before (set path value) d h = tt
   placed_before (rename path name) d h = tt
@@ -104,9 +115,9 @@ module _ (s : Document) (edits fewer : List Edit) (are : (P : Edit → Type 0) �
       → KeepsPlaceAmong s fewer changes less f d
   among_before (insert path value) d (order, lets) = (order_before (added_as s path d) order, let_before d.at lets)
   among_before (append_table keys) d (passed, plain) =
-      (each (PassesTable keys) passed, clear_before bytes changes c d plain)
+      (each (IsNoSecond keys) passed, clear_before bytes changes c d plain)
   among_before (append_element keys) d (passed, plain) =
-      (each (PassesTable keys) passed, clear_before bytes changes c d plain)
+      (each (IsNoSecond keys) passed, clear_before bytes changes c d plain)
   among_before (remove path) d h = tt
   among_before (set path value) d h = tt
   among_before (rename path name) d h = tt

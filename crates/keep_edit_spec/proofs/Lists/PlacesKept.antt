@@ -7,7 +7,8 @@
 -- still, since two changes begin at one place only where they did (`order_now`). Of the run only its text is asked
 -- (TextsAfter), and of the edit where it changes that (`IsPlacedChange`).
 --
--- Theorems: `still_placed`; `change_placed`: an edit whose change is known changes the text so.
+-- Theorems: `still_placed`, and without the order `stays_placed`; `stays_behind`: of a line behind a header that came;
+-- `change_placed`: an edit whose change is known changes the text so.
 use Rattle.std.proofs.Common.{◌≡◌, ◌≢◌, ℕ, ◌+◌, ◌<◌, Bool, List, [], ◌∷◌, length, refl, sym, ap, subst, ◌∙◌, arith, All}
 use Rattle.std.proofs.Common.{inl, inr, true, false, not, ◌&&◌, ◌||◌, ◌≤◌, suc}
 use Rattle.std.specs.Prelude.{IsTrue, ◌==◌, ◌⊎◌}
@@ -22,14 +23,16 @@ use Rattle.keep_edit_spec.specs.Edits.{Edit, append_element, append_table, edite
 use Rattle.keep_edit_spec.specs.Edits.{rename, set}
 use Rattle.keep_edit_spec.specs.Laws.{IsEditable}
 use Rattle.keep_edit_spec.specs.Lines.{newline_of}
+use Rattle.keep_edit_spec.specs.Look.{keys_in}
 use Rattle.keep_edit_spec.specs.AddedLines.{first_new}
 use Rattle.keep_edit_spec.specs.InsertKinds.{Added, IsAfterAs, IsAfterLine, added_as, is_last_in_body}
-use Rattle.keep_edit_spec.specs.InsertKinds.{kind_of}
+use Rattle.keep_edit_spec.specs.InsertKinds.{kind_of, table_of}
 use Rattle.keep_edit_spec.specs.AppendedHeaders.{AppendsElement, AppendsTable}
 use Rattle.keep_edit_spec.specs.Runs.{IsBeforeHeaders, IsPlain, IsPlainBefore, IsStillPlaced, KeepsPlace}
 use Rattle.keep_edit_spec.specs.Runs.{MakesChange, is_header, is_insert, is_new_after, takes_up_to, ArePlain}
 use Rattle.keep_edit_spec.specs.Runs.{ComesInOrder, ComesInPlace, IsSeenStill, LeavesPlace, LetsCome, StaysPlaced, seen}
-use Rattle.keep_edit_spec.specs.Runs.{LetsTable, PassesBy, PassesLine, PassesTable, with_line}
+use Rattle.keep_edit_spec.specs.Runs.{IsNoSecond, IsNoSecondAfter, LetsTable, PassesBy, with_line}
+use Rattle.keep_edit_spec.specs.RunLists.{KeepsBehind}
 use Rattle.keep_edit_spec.specs.TextChanges.{Follow, IsBeside, TextChange, moved_past, with_change}
 use Rattle.keep_edit_spec.specs.TextChanges.{change_at, moved_by_all}
 use Rattle.keep_edit_spec.proofs.Append.AppendPlace.{append_place}
@@ -252,12 +255,13 @@ order_now s changes now path other c d follow left right first kind first' kind'
         let was = h (sym kind ∙ is) in
         (λ same. was.0 (one same), λ same. was.1 (sym (ap without_last first) ∙ same ∙ ap without_last first'))
 
--- a header that passes by the table of a line with a header does so still
-passes_now : (s now : Document) (path : List Part) (value : Value) (c d : TextChange) (keys : List (List ℕ))
-    → IsSeenStill s now (insert path value) → PassesTable keys (added_as s path c)
-    → PassesTable keys (added_as now path d)
-passes_now s now path value c d keys (first, kind) passes = λ is.
-    subst (PassesBy keys) (sym (ap without_last first)) (passes (sym kind ∙ is))
+-- what holds of the table of a line with a header does so still
+table_now : (P : List Part → Type 0) (s now : Document) (path : List Part) (value : Value) (c d : TextChange)
+    → IsSeenStill s now (insert path value)
+    → (kind_of s path ≡ WithHeader → P (table_of (added_as s path c)))
+    → kind_of now path ≡ WithHeader → P (table_of (added_as now path d))
+table_now P s now path value c d (first, kind) holds is =
+    subst P (sym (ap without_last first)) (holds (sym kind ∙ is))
 
 -- ---- after an edit of a run
 
@@ -314,6 +318,35 @@ module _ (profile : Profile) (limit : ℕ) (s : Document) (edits : List Edit) (c
             (header_apart s changes c left r.follow zero_size end d right (before head))
       ]
 
+  -- and elsewhere than where a line comes, if none takes the byte before that
+  ends_away : IsPlacedChange s e c → All (λ x. IsBeside x c) changes → (d : TextChange)
+      → All (λ x. IsBeside x d) changes → IsBeside c d
+      → list_any (takes_up_to d.at) (with_change changes c) ≡ false
+      → IsBeforeHeaders (text s) (seen s e ∷ edits) d.at → is_insert e ≡ false
+      → (moved_past changes c).at + c.size ≢ (moved_past changes d).at
+  ends_away placed left d right beside none before other =
+      let clear = none_with (takes_up_to d.at) changes c none in
+      elim (placed.takes other) [
+        | inl some ↦ end_apart changes c d r.follow left right clear.1 beside (ends_elsewhere d.at c some clear.0)
+        | inr (head, (zero_size, end)) ↦
+            header_apart s changes c left r.follow zero_size end d right
+            (not_after (text s) (seen s e) edits d.at before (header_seen s e ∙ head))
+      ]
+
+  -- a line behind a header that came stays behind it
+  pub stays_behind : (path : List Part) (value : Value) (d : TextChange) → IsPlacedChange s e c
+      → All (λ x. IsBeside x c) changes → All (λ x. IsBeside x d) changes → IsBeside c d
+      → IsTextAfter profile limit s (with_change changes c) (edited_document now e)
+      → KeepsBehind s (seen s e ∷ edits) (with_change changes c) d → IsTrue (is_new_after e (insert path value))
+      → StaysPlaced now e (moved_past changes c) (insert path value) (moved_past changes d)
+  stays_behind path value d placed left right beside next (none, alike) new = elim alike [
+    | inl all ↦ absurd (none_other is_insert (seen s e) edits (insert_seen s e ∙ insert_other e path value new) all)
+    | inr (plain, before) ↦ (
+      same_newline next plain,
+      λ other. inl (ends_away placed left d right beside none before other),
+    )
+  ]
+
   -- an insert, of which it is known where it comes
   module _ (path : List Part) (value : Value) (d : TextChange) (placed : IsPlacedChange s e c)
       (left : All (λ x. IsBeside x c) changes) (right : All (λ x. IsBeside x d) changes) (beside : IsBeside c d)
@@ -333,14 +366,7 @@ module _ (profile : Profile) (limit : ℕ) (s : Document) (edits : List Edit) (c
         elsewhere : kind_of s path ≢ LastInBody
             → ((moved_past changes c).at + c.size ≢ (moved_past changes d).at)
             ⊎ ComesInPlace now (moved_past changes c) (insert path value) (moved_past changes d)
-        elsewhere differs =
-            let clear = none_with (takes_up_to d.at) changes c (k.0.stays differs) in
-            elim (placed.takes other) [
-              | inl some ↦ inl
-                  (end_apart changes c d r.follow left right clear.1 beside (ends_elsewhere d.at c some clear.0))
-              | inr (head, (zero_size, end)) ↦ inl
-                  (header_apart s changes c left r.follow zero_size end d right (not_last head))
-            ]
+        elsewhere differs = inl (ends_away placed left d right beside (k.0.stays differs) before other)
 
         by : (a : LineKind) → kind_of s path ≡ a
             → ((moved_past changes c).at + c.size ≢ (moved_past changes d).at)
@@ -371,51 +397,70 @@ module _ (profile : Profile) (limit : ℕ) (s : Document) (edits : List Edit) (c
         by (rename other name) is = tt
         by (remove other) is = tt
         by (append_table keys) is =
-            passes_now s now path value d (moved_past changes d) keys seen_there (passed (append_table keys) is)
+            table_now (PassesBy keys) s now path value d (moved_past changes d) seen_there
+            (passed (append_table keys) is)
         by (append_element keys) is =
-            passes_now s now path value d (moved_past changes d) keys seen_there (passed (append_element keys) is)
+            table_now (PassesBy keys) s now path value d (moved_past changes d) seen_there
+            (passed (append_element keys) is)
 
   -- a header after a line
-  line_passed : IsSeenStill s now e → (keys : List (List ℕ)) → All (PassesTable keys) (with_line s e c lines)
-      → PassesLine now keys e (moved_past changes c)
-  line_passed seen_now keys all = by e refl
+  no_second : IsSeenStill s now e → (keys : List (List ℕ)) → All (IsNoSecond keys) (with_line s e c lines)
+      → IsNoSecondAfter now keys e (moved_past changes c)
+  no_second seen_now keys all = by e refl
     where
-      by : (f : Edit) → f ≡ e → PassesLine now keys f (moved_past changes c)
+      by : (f : Edit) → f ≡ e → IsNoSecondAfter now keys f (moved_past changes c)
       by (insert other new) is =
-          passes_now s now other new c (moved_past changes c) keys (subst (IsSeenStill s now) (sym is) seen_now)
-          (All-head (PassesTable keys) (added_as s other c) lines
-          (subst (λ (f : Edit). All (PassesTable keys) (with_line s f c lines)) (sym is) all))
+          table_now (λ p. keys ≢ keys_in p) s now other new c (moved_past changes c)
+          (subst (IsSeenStill s now) (sym is) seen_now)
+          (All-head (IsNoSecond keys) (added_as s other c) lines
+          (subst (λ (f : Edit). All (IsNoSecond keys) (with_line s f c lines)) (sym is) all))
       by (set other new) is = tt
       by (rename other name) is = tt
       by (remove other) is = tt
       by (append_table more) is = tt
       by (append_element more) is = tt
 
-  -- what another writes anew keeps its place
+  -- what another writes anew stays where it is
+  pub stays_placed : (f : Edit) (d : TextChange)
+      → IsPlacedChange s e c → IsSeenStill s now f → All (λ x. IsBeside x c) changes → All (λ x. IsBeside x d) changes
+      → IsBeside c d → IsTextAfter profile limit s (with_change changes c) (edited_document now e)
+      → KeepsPlace s (seen s e ∷ edits) (with_change changes c) (with_line s e c lines) f d
+      → IsTrue (is_new_after e f) → StaysPlaced now e (moved_past changes c) f (moved_past changes d)
+  stays_placed (insert path value) d placed seen_f left right beside next k new = elim k.1 [
+    | inl all ↦ absurd (none_other is_insert (seen s e) edits (insert_seen s e ∙ insert_other e path value new) all)
+    | inr (plain, (lets, before)) ↦ (
+      same_newline next plain,
+      line_placed path value d placed left right beside seen_f k lets before,
+    )
+  ]
+  stays_placed (append_table keys) d placed seen_f left right beside next k new =
+      header_placed (append_table keys) refl refl placed left d right beside next k.1 new
+  stays_placed (append_element keys) d placed seen_f left right beside next k new =
+      header_placed (append_element keys) refl refl placed left d right beside next k.1 new
+  stays_placed (remove path) d placed seen_f left right beside next k new = absurd cc
+  stays_placed (set path value) d placed seen_f left right beside next k new = absurd cc
+  stays_placed (rename path name) d placed seen_f left right beside next k new = absurd cc
+
+  -- and comes in order
+  in_order : (f : Edit) (d : TextChange)
+      → IsPlacedChange s e c → IsSeenStill s now e → IsSeenStill s now f
+      → All (λ x. IsBeside x c) changes → All (λ x. IsBeside x d) changes → IsBeside c d
+      → KeepsPlace s (seen s e ∷ edits) (with_change changes c) (with_line s e c lines) f d
+      → ComesInOrder now f (moved_past changes d) e (moved_past changes c)
+  in_order (insert path value) d placed seen_e seen_f left right beside k =
+      lines_ordered path value d placed left right beside seen_f k seen_e
+  in_order (append_table keys) d placed seen_e seen_f left right beside k = no_second seen_e keys k.0
+  in_order (append_element keys) d placed seen_e seen_f left right beside k = no_second seen_e keys k.0
+  in_order (remove path) d placed seen_e seen_f left right beside k = tt
+  in_order (set path value) d placed seen_e seen_f left right beside k = tt
+  in_order (rename path name) d placed seen_e seen_f left right beside k = tt
+
+  -- so it keeps its place
   pub still_placed : (f : Edit) (d : TextChange)
       → IsPlacedChange s e c → IsSeenStill s now e → IsSeenStill s now f
       → All (λ x. IsBeside x c) changes → All (λ x. IsBeside x d) changes
       → IsBeside c d → IsTextAfter profile limit s (with_change changes c) (edited_document now e)
       → KeepsPlace s (seen s e ∷ edits) (with_change changes c) (with_line s e c lines) f d
       → IsStillPlaced now e (moved_past changes c) f (moved_past changes d)
-  still_placed (insert path value) d placed seen_e seen_f left right beside next k = (
-    λ new. elim k.1 [
-      | inl all ↦ absurd (none_other is_insert (seen s e) edits (insert_seen s e ∙ insert_other e path value new) all)
-      | inr (plain, (lets, before)) ↦ (
-        same_newline next plain,
-        line_placed path value d placed left right beside seen_f k lets before,
-      )
-    ],
-    lines_ordered path value d placed left right beside seen_f k seen_e,
-  )
-  still_placed (append_table keys) d placed seen_e seen_f left right beside next k = (
-    header_placed (append_table keys) refl refl placed left d right beside next k.1,
-    line_passed seen_e keys k.0,
-  )
-  still_placed (append_element keys) d placed seen_e seen_f left right beside next k = (
-    header_placed (append_element keys) refl refl placed left d right beside next k.1,
-    line_passed seen_e keys k.0,
-  )
-  still_placed (remove path) d placed seen_e seen_f left right beside next k = (λ new. absurd cc, tt)
-  still_placed (set path value) d placed seen_e seen_f left right beside next k = (λ new. absurd cc, tt)
-  still_placed (rename path name) d placed seen_e seen_f left right beside next k = (λ new. absurd cc, tt)
+  still_placed f d placed seen_e seen_f left right beside next k =
+      (stays_placed f d placed seen_f left right beside next k, in_order f d placed seen_e seen_f left right beside k)

@@ -22,7 +22,7 @@ use Rattle.keep_edit_spec.specs.RenameLists.{AllowsKey, IsRenameIn, RunGoesOnRen
 use Rattle.keep_edit_spec.specs.RenamedKeys.{IsRenamedAgain, RenamesKey}
 use Rattle.keep_edit_spec.specs.RunLists.{AreAtOnce, IsOneOf, MadeEdit, changes_of, document_after, lines_of}
 use Rattle.keep_edit_spec.specs.RunLists.{made, seen_of}
-use Rattle.keep_edit_spec.specs.Runs.{IsRun, KeepsPlace, LeavesAlone, MakesChange, seen, with_line}
+use Rattle.keep_edit_spec.specs.Runs.{IsRun, KeepsPlace, LeavesAlone, MakesChange, seen}
 use Rattle.keep_edit_spec.specs.TextChanges.{IsBeside, TextChange, change_at, moved_by_all, moved_past}
 use Rattle.keep_edit_spec.proofs.Lists.RenameTwice.{renames_again, same_places, wrote_key}
 use Rattle.keep_edit_spec.proofs.Lists.RunLists.{ComesLast, beside_rest, each_apart, each_of_others, last_of}
@@ -106,7 +106,7 @@ each_either : (profile : Profile) (limit : ℕ) (s : Document) (m : MadeEdit) (l
 each_either profile limit s m [] earlier (makes, (alone, more)) =
     All-weaker (λ f. LeavesAlone f (seen s m.edit)) (IsEither (seen s m.edit)) (λ f its. inl its) (seen_of s earlier)
     alone
-each_either profile limit s m (x ∷ later) earlier (makes, (alone, (beside, (placed, more)))) =
+each_either profile limit s m (x ∷ later) earlier (makes, (alone, (side, more))) =
     All-cons (IsEither (seen s m.edit)) (seen s x.edit) (seen_of s (later ++ earlier))
     (inr (each_apart s (λ f. LeavesAlone f (seen s x.edit)) m later earlier alone).0)
     (each_either profile limit s m later earlier more)
@@ -137,9 +137,6 @@ module _ (profile : Profile) (limit : ℕ) (s : Document) (ms rest : List MadeEd
       → KeepsPlace s edits changes lines e c
   any_place edits changes lines = tt
 
-  no_line : (lines : List Added) → with_line s e c lines ≡ lines
-  no_line lines = refl
-
   alone_rest : All (λ g. LeavesAlone g f) (seen_of s rest)
   alone_rest =
       all_both (IsEither e) (AllowsKey path more) (λ g. LeavesAlone g f) (alone_new path text more) (seen_of s rest)
@@ -147,37 +144,33 @@ module _ (profile : Profile) (limit : ℕ) (s : Document) (ms rest : List MadeEd
       (each_either profile limit s (made e c) one.later one.earlier (subst (AreAtOnce profile limit s) one.all h)))
       (each_of_others s (AllowsKey path more) (made e c) ms rest one allow).1
 
-  k : ComesLast profile limit s e c some_bytes any_place no_line ms rest
+  k : ComesLast profile limit s e c ms rest
   k =
-      last_of profile limit s e c some_bytes any_place no_line ms rest one
+      last_of profile limit s e c some_bytes (λ lines never. never) any_place ms rest one
       (All-weaker (λ g. LeavesAlone g f) (λ g. LeavesAlone e g → LeavesAlone g e) (left_back path text more)
       (seen_of s rest) alone_rest) h
 
   places : (d.at ≡ c.at) × (d.size ≡ c.size)
-  places = same_places profile limit s path text c more d fine k.last.0 makes
+  places = same_places profile limit s path text c more d fine k.makes makes
 
   before : IsRun profile limit s (seen_of s rest) (changes_of rest) (lines_of s rest) (document_after s rest)
-  before = run_before profile limit s e c some_bytes any_place no_line ms rest fine k
+  before = run_before profile limit s e c ms rest fine k
 
   beside_others : All (λ x. IsBeside x d) (changes_of rest)
-  beside_others =
-      beside_rest profile limit s e c some_bytes any_place no_line ms rest fine k d (sym places.0) (sym places.1)
+  beside_others = beside_rest profile limit s e c ms rest fine k d (sym places.0) (sym places.1)
 
   still : AreAtOnce profile limit s (made f d ∷ rest)
-  still = (
-    makes,
-    (alone_rest, (beside_others, (tt, others profile limit s e c some_bytes any_place no_line ms rest fine k))),
-  )
+  still = (inl (makes, tt), (alone_rest, (beside_others, others profile limit s e c ms rest fine k)))
 
   now : document_after s ms ≡ edited_document (document_after s rest) e
-  now = same_document profile limit s e c some_bytes any_place no_line ms rest fine k h
+  now = same_document profile limit s e c ms rest fine k h
 
   again : (text ≡ more → ⊥) → IsRenamedAgain profile limit (document_after s rest) path text
       (moved_past (changes_of rest) c) more (moved_past (changes_of rest) d)
   again =
       renames_again profile limit (document_after s rest) path text (moved_past (changes_of rest) c) more
       (moved_past (changes_of rest) d) before.editable
-      (moves_past profile limit s e c some_bytes any_place no_line ms rest fine k)
+      (moves_past profile limit s e c ms rest fine k).0
       (before.later f d makes alone_rest beside_others tt).0
 
   renames : (text ≡ more → ⊥) → RenamesKey profile limit (document_after s ms) (beside path text) more
@@ -193,10 +186,7 @@ run_goes_on_renamed profile limit s ms path more d fine h there allow makes =
     let rest : List MadeEdit = has.rest in
     let name : List ℕ = has.text in
     let c : TextChange = has.c in
-    let last : ComesLast profile limit s (rename path name) c
-    (some_bytes profile limit s ms rest path name c more d fine h has.one allow makes)
-    (any_place profile limit s ms rest path name c more d fine h has.one allow makes)
-    (no_line profile limit s ms rest path name c more d fine h has.one allow makes) ms rest =
+    let last : ComesLast profile limit s (rename path name) c ms rest =
     k profile limit s ms rest path name c more d fine h has.one allow makes in
     let same_place = places profile limit s ms rest path name c more d fine h has.one allow makes in
     let at_once : AreAtOnce profile limit s (made (rename path more) d ∷ rest) =
@@ -209,9 +199,9 @@ run_goes_on_renamed profile limit s ms path more d fine h there allow makes =
       changes = last.changes;
       at = sym same_place.0;
       size = sym same_place.1;
-      some = last.last.0.some;
-      utf8 = last.last.0.utf8;
-      wrote = wrote_key profile limit s path name c fine last.last.0;
+      some = last.makes.some;
+      utf8 = last.makes.utf8;
+      wrote = wrote_key profile limit s path name c fine last.makes;
       renames = renames profile limit s ms rest path name c more d fine h has.one allow makes;
       same = λ other.
           ap (λ (t : Document). edited_document t (rename (beside path name) more))

@@ -7,7 +7,8 @@
 -- (PlacesBefore).
 --
 -- Theorems: `none_is_run`, `run_goes_on`; `text_with_edit`, `later_still`: an edit that makes its change after a run,
--- and another after it; `seen_on`, `same_seen`: as others see an edit; `lines_before`.
+-- and another after it; `text_with_change`, `later_placed`: where it is known to be placed; `seen_on`, `same_seen`: as
+-- others see an edit; `lines_before`.
 use Rattle.std.proofs.Common.{◌≡◌, ℕ, List, [], ◌∷◌, refl, sym, ap, subst, subst₂, ◌∙◌, arith, All, take, drop}
 use Rattle.std.proofs.lemmas.List.Elements.{All-head, All-tail}
 use Rattle.keep_types.specs.declared.leaf.Profile.{Profile}
@@ -15,15 +16,15 @@ use Rattle.keep_syntax.specs.Tree.{Document, text}
 use Rattle.keep_path.specs.Path.{Part}
 use Rattle.keep_edit_spec.specs.InsertKinds.{Added, added_as}
 use Rattle.keep_edit_spec.specs.Edits.{Edit, append_element, append_table, edited_document, insert, remove, rename, set}
-use Rattle.keep_edit_spec.specs.Runs.{IsSeenStill, KeepsPlace, LeavesAlone, MakesChange, NoneIsRun, RunGoesOn, seen}
-use Rattle.keep_edit_spec.specs.Runs.{with_line}
+use Rattle.keep_edit_spec.specs.Runs.{IsSeenStill, IsStillPlaced, KeepsPlace, LeavesAlone, MakesChange, NoneIsRun}
+use Rattle.keep_edit_spec.specs.Runs.{RunGoesOn, seen, with_line}
 use Rattle.keep_edit_spec.specs.TextChanges.{IsBeside, TextChange, moved_by_all, moved_past, with_change}
 use Rattle.keep_edit_spec.proofs.Lists.TextChanges.{beside_past, moved_with, one_of_all, rest_of_all}
-use Rattle.keep_edit_spec.proofs.Lists.MadeChanges.{change_allowed, change_is_there, within_text}
+use Rattle.keep_edit_spec.proofs.Lists.MadeChanges.{change_allowed, change_is_there}
 use Rattle.keep_edit_spec.proofs.Lists.StillMakes.{still_makes}
 use Rattle.keep_edit_spec.proofs.Lists.TextsAfter.{IsTextAfter, made_puts, of_run, text_goes_on}
 use Rattle.keep_edit_spec.proofs.Lists.PlacesBefore.{placed_before}
-use Rattle.keep_edit_spec.proofs.Lists.PlacesKept.{change_placed, still_placed}
+use Rattle.keep_edit_spec.proofs.Lists.PlacesKept.{IsPlacedChange, change_placed, still_placed}
 
 -- ---- as others see an edit
 
@@ -79,15 +80,45 @@ none_is_run profile limit s editable = record {
 
 -- ---- one more
 
--- an edit that makes its change after a run, as before it
+-- an edit that makes its change after a run, where it changes the first text
+module _ (profile : Profile) (limit : ℕ) (s : Document) (changes : List TextChange) (now : Document) (e : Edit)
+    (c : TextChange) (r : IsTextAfter profile limit s changes now) (there : IsPlacedChange s e c)
+    (beside : All (λ d. IsBeside d c) changes) (is_now : MakesChange profile limit now e (moved_past changes c)) where
+  pub text_with_change : IsTextAfter profile limit s (with_change changes c) (edited_document now e)
+  text_with_change =
+      text_goes_on profile limit s changes now e c r there.within beside
+      (made_puts profile limit now e (moved_past changes c) r.editable is_now)
+
+  -- another that makes its change after the run does so after this one, too, if it is placed still
+  pub later_placed : (f : Edit) (d : TextChange) → seen now e ≡ seen s e
+      → MakesChange profile limit now f (moved_past changes d)
+      → seen now f ≡ seen s f → LeavesAlone (seen s e) (seen s f) → All (λ x. IsBeside x d) (with_change changes c)
+      → IsStillPlaced now e (moved_past changes c) f (moved_past changes d)
+      → MakesChange profile limit (edited_document now e) f (moved_past (with_change changes c) d)
+      × IsSeenStill now (edited_document now e) f
+  later_placed f d same_e makes_now same_f alone beside' placed =
+      let others : All (λ x. IsBeside x d) changes = rest_of_all (λ x. IsBeside x d) changes c beside' in
+      let one : IsBeside c d = one_of_all (λ x. IsBeside x d) changes c beside' in
+      let left : LeavesAlone (seen now e) (seen now f) =
+      subst₂ (λ (a b : Edit). LeavesAlone a b) (sym same_e) (sym same_f) alone in
+      let (still, same) =
+      still_makes profile limit now e (moved_past changes c) f (moved_past changes d) r.editable is_now makes_now
+      left (beside_past changes c d r.follow beside others one) placed in (
+        subst (MakesChange profile limit (edited_document now e) f)
+            (sym (moved_with changes c d r.follow beside others one)) still,
+        same,
+      )
+
+-- and as before it
 module _ (profile : Profile) (limit : ℕ) (s : Document) (edits : List Edit) (changes : List TextChange)
     (lines : List Added) (now : Document) (e : Edit) (c : TextChange) (r : IsTextAfter profile limit s changes now)
     (makes : MakesChange profile limit s e c) (beside : All (λ d. IsBeside d c) changes)
     (is_now : MakesChange profile limit now e (moved_past changes c)) (seen_now : IsSeenStill s now e) where
+  there : IsPlacedChange s e c
+  there = change_placed profile limit s e c r.first makes
+
   pub text_with_edit : IsTextAfter profile limit s (with_change changes c) (edited_document now e)
-  text_with_edit =
-      text_goes_on profile limit s changes now e c r (within_text profile limit s e c r.first makes) beside
-      (made_puts profile limit now e (moved_past changes c) r.editable is_now)
+  text_with_edit = text_with_change profile limit s changes now e c r there beside is_now
 
   -- another that makes its change after the run does so after this one, too
   pub later_still : (f : Edit) (d : TextChange) → MakesChange profile limit now f (moved_past changes d)
@@ -96,21 +127,13 @@ module _ (profile : Profile) (limit : ℕ) (s : Document) (edits : List Edit) (c
       → MakesChange profile limit (edited_document now e) f (moved_past (with_change changes c) d)
       × IsSeenStill s (edited_document now e) f
   later_still f d makes_now seen_there alone beside' placed =
-      let others : All (λ x. IsBeside x d) changes = rest_of_all (λ x. IsBeside x d) changes c beside' in
-      let one : IsBeside c d = one_of_all (λ x. IsBeside x d) changes c beside' in
-      let left : LeavesAlone (seen now e) (seen now f) =
-      subst₂ (λ (a b : Edit). LeavesAlone a b) (sym (same_seen s now e seen_now)) (sym (same_seen s now f seen_there))
-      alone in
       let (still, same) =
-      still_makes profile limit now e (moved_past changes c) f (moved_past changes d) r.editable is_now makes_now
-      left (beside_past changes c d r.follow beside others one)
-      (still_placed profile limit s edits changes lines now r e c f d
-      (change_placed profile limit s e c r.first makes) seen_now seen_there beside others one text_with_edit
-      placed) in (
-        subst (MakesChange profile limit (edited_document now e) f)
-            (sym (moved_with changes c d r.follow beside others one)) still,
-        seen_on s now (edited_document now e) f seen_there same,
-      )
+      later_placed profile limit s changes now e c r there beside is_now f d (same_seen s now e seen_now) makes_now
+      (same_seen s now f seen_there) alone beside'
+      (still_placed profile limit s edits changes lines now r e c f d there seen_now seen_there beside
+      (rest_of_all (λ x. IsBeside x d) changes c beside') (one_of_all (λ x. IsBeside x d) changes c beside')
+      text_with_edit placed) in
+      (still, seen_on s now (edited_document now e) f seen_there same)
 
 pub run_goes_on : RunGoesOn
 run_goes_on profile limit s edits changes lines now e c r makes alone beside placed =

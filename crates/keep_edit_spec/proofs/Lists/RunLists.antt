@@ -1,42 +1,47 @@
 -- Edits that are made at once are a run; and if one of them sets a value, so are the others with a later set of it.
 --
--- Each edit makes the run longer (`run_is_known`). One that takes bytes, and that is left alone by what it leaves
--- alone, could come last (`last_of`): the changes are the same list (ChangeOrder), so the text is the same, and a text
--- is that of one document (`same_document`). A set is such an edit. After the others the earlier set and the later one
--- each make their change (`moves_past`), so the law of a value that is set again says what they make one after the
--- other.
+-- Each edit makes the run longer (BehindHeaders). One could come last if each later edit leaves it alone and makes its
+-- change at another place (`can_come_last`), and if it has its place after the others (`comes_last`): the changes are
+-- the same list (ChangeOrder), so the text is the same, and a text is that of one document (`same_document`). An edit
+-- that follows a header at another place follows that of another edit (`other_line`, `follows_other`). So could one
+-- come last that takes bytes, and that is left alone by what it leaves alone (`last_of`). A set is such an edit. After
+-- the others the earlier set and the later one each make their change (`moves_past`), so the law of a value that is set
+-- again says what they make one after the other.
 --
--- Theorems: `run_is_known`, `run_goes_on_again`, `each_of_others`; of one of the edits that could come last: `last_of`,
--- `others`, `run_before`, `same_document`, `moves_past`, `beside_rest`.
-use Rattle.std.proofs.Common.{◌≡◌, ◌<◌, ℕ, List, [], ◌∷◌, ◌++◌, length, All, refl, sym, ap, subst, subst₂, ◌∙◌}
-use Rattle.std.proofs.Common.{arith, inl, inr}
+-- Theorems: `run_is_known`, `run_goes_on_again`, `each_of_others`; of one of the edits that could come last:
+-- `can_come_last`, `comes_last`, `last_of`, `other_lines`, `other_line`, `others`, `run_before`, `same_document`,
+-- `moves_past`, `beside_rest`.
+use Rattle.std.proofs.Common.{◌≡◌, ◌≢◌, ◌<◌, ℕ, List, [], ◌∷◌, ◌++◌, length, All, refl, sym, ap, subst, subst₂, ◌∙◌}
+use Rattle.std.proofs.Common.{arith, inl, inr, suc}
+use Rattle.std.specs.Prelude.{Any}
 use Rattle.std.proofs.lemmas.List.Elements.{All-cons, All-head, All-nil, All-tail, All-weaker}
 use Rattle.keep_types.specs.declared.leaf.Profile.{Profile}
 use Rattle.keep_syntax.specs.Tree.{Document, Value, text}
 use Rattle.keep_syntax.proofs.Shared.{one_document}
 use Rattle.keep_path.specs.Path.{Part}
-use Rattle.keep_edit_spec.specs.InsertKinds.{Added}
+use Rattle.keep_meaning.specs.Meaning.{mentions_in}
+use Rattle.keep_edit_spec.specs.InsertKinds.{Added, IsHeaderAt, added_as, table_of}
+use Rattle.keep_edit_spec.specs.Look.{holder}
 use Rattle.keep_edit_spec.specs.Edits.{Edit, append_element, append_table, edited_document, insert, remove, rename, set}
 use Rattle.keep_edit_spec.specs.Laws.{IsEditable}
-use Rattle.keep_edit_spec.specs.RunLists.{AreAtOnce, IsOneOf, IsSetIn, MadeEdit, RunGoesOnAgain}
+use Rattle.keep_edit_spec.specs.RunLists.{AreAtOnce, Follows, IsOneOf, IsSetIn, KeepsBehind, MadeEdit, MakesInPlace}
+use Rattle.keep_edit_spec.specs.RunLists.{RunGoesOnAgain}
 use Rattle.keep_edit_spec.specs.RunLists.{RunIsKnown, changes_of, document_after, lines_of, made, seen_of}
-use Rattle.keep_edit_spec.specs.Runs.{IsRun, KeepsPlace, LeavesAlone, MakesChange, seen, with_line}
+use Rattle.keep_edit_spec.specs.Runs.{IsRun, IsSeenStill, KeepsPlace, LeavesAlone, MakesChange, seen, with_line}
 use Rattle.keep_edit_spec.specs.SetValues.{IsSetAgain, SetsValue}
 use Rattle.keep_edit_spec.specs.TextChanges.{IsBeside, TextChange, change_at, moved_by_all, moved_past, text_with}
 use Rattle.keep_edit_spec.specs.TextChanges.{with_change}
 use Rattle.keep_edit_spec.proofs.Lists.ChangeOrder.{beside_back, with_both}
-use Rattle.keep_edit_spec.proofs.Lists.PlacesBefore.{placed_before}
-use Rattle.keep_edit_spec.proofs.Lists.RunLaws.{none_is_run, run_goes_on}
+use Rattle.keep_edit_spec.proofs.Lists.PlacesBefore.{behind_before, placed_before}
+use Rattle.keep_edit_spec.proofs.Lists.RunLaws.{lines_before}
+use Rattle.keep_edit_spec.proofs.Lists.BehindHeaders.{any_rest, run_behind}
 use Rattle.keep_edit_spec.proofs.Lists.SetTwice.{sets_again}
 use Rattle.keep_edit_spec.proofs.Lists.TextChanges.{all_with, one_of_all, rest_of_all}
 
 -- ---- edits that are made at once
 
 pub run_is_known : RunIsKnown
-run_is_known profile limit s [] fine h = none_is_run profile limit s fine
-run_is_known profile limit s (m ∷ ms) fine (makes, (alone, (beside, (placed, others)))) =
-    (run_goes_on profile limit s (seen_of s ms) (changes_of ms) (lines_of s ms) (document_after s ms) m.edit m.change
-    (run_is_known profile limit s ms fine others) makes alone beside placed).run
+run_is_known profile limit s ms fine h = (run_behind profile limit s ms fine h).run
 
 -- ---- one of them
 
@@ -97,7 +102,25 @@ lines_apart s m [] earlier none = none (lines_of s earlier)
 lines_apart s m (x ∷ later) earlier none =
     ap (with_line s x.edit x.change) (lines_apart s m later earlier none)
 
-all_hold : (P : Edit → Type 0) → ((e : Edit) → P e) → (es : List Edit) → All P es
+-- with the line of an edit, of fewer lines
+line_more : (P : Added → Type 0) (s : Document) (e : Edit) (c : TextChange) (lines less : List Added)
+    → (All P lines → All P less) → All P (with_line s e c lines) → All P (with_line s e c less)
+line_more P s (insert path value) c lines less are h =
+    All-cons P (added_as s path c) less (All-head P (added_as s path c) lines h)
+    (are (All-tail P (added_as s path c) lines h))
+line_more P s (set path value) c lines less are h = are h
+line_more P s (rename path name) c lines less are h = are h
+line_more P s (remove path) c lines less are h = are h
+line_more P s (append_table keys) c lines less are h = are h
+line_more P s (append_element keys) c lines less are h = are h
+
+any_first : (P : Added → Type 0) (l : Added) (ls : List Added) → P l → Any P (l ∷ ls)
+any_first P l ls h = (0, l, omega arith, refl, h)
+
+any_later : (P : Added → Type 0) (l : Added) (ls : List Added) → Any P ls → Any P (l ∷ ls)
+any_later P l ls (n, m, few, same, h) = (suc n, m, omega (arith, few), same, h)
+
+pub all_hold : (P : Edit → Type 0) → ((e : Edit) → P e) → (es : List Edit) → All P es
 all_hold P holds [] = All-nil P
 all_hold P holds (e ∷ es) = All-cons P e es (holds e) (all_hold P holds es)
 
@@ -130,12 +153,7 @@ beside_again x c d at size (inr (less, ends)) = inr (omega (arith, less, at), om
 
 -- ---- one of them as the last
 
--- an edit that takes bytes, and needs no place that is kept
-module _ (profile : Profile) (limit : ℕ) (s : Document) (e : Edit) (c : TextChange)
-    (some : MakesChange profile limit s e c → 0 < c.size)
-    (kept : (edits : List Edit) (changes : List TextChange) (lines : List Added)
-    → KeepsPlace s edits changes lines e c)
-    (none : (lines : List Added) → with_line s e c lines ≡ lines) where
+module _ (profile : Profile) (limit : ℕ) (s : Document) (e : Edit) (c : TextChange) where
   abbrev one : MadeEdit
   one = made e c
 
@@ -146,65 +164,194 @@ module _ (profile : Profile) (limit : ℕ) (s : Document) (e : Edit) (c : TextCh
   -- that edit after the others
   pub record ComesLast (ms rest : List MadeEdit) : Type 0 where
     pub changes : changes_of ms ≡ with_change (changes_of rest) c
+    pub makes : MakesChange profile limit s e c
+    pub placed : KeepsPlace s (seen_of s rest) (changes_of rest) (lines_of s rest) e c
     pub last : AreAtOnce profile limit s (one ∷ rest)
 
-  -- what it leaves alone leaves it alone
-  abbrev pub AreLeftBack : List MadeEdit → Type 0
-  AreLeftBack rest = All (λ f. LeavesAlone own f → LeavesAlone f own) (seen_of s rest)
+  -- A later edit leaves it alone, and makes its change beside, at another place.
+  abbrev pub LetsLast : MadeEdit → Type 0
+  LetsLast m = LeavesAlone (seen s m.edit) own × (IsBeside m.change c × (c.at ≢ m.change.at))
 
-  comes_last : (later earlier : List MadeEdit) → AreLeftBack (later ++ earlier)
-      → AreAtOnce profile limit s (later ++ one ∷ earlier) → ComesLast (later ++ one ∷ earlier) (later ++ earlier)
-  comes_last [] earlier alone_back h = record { changes = refl; last = h }
-  comes_last (m ∷ later) earlier alone_back (makes, (alone, (beside, (placed, others)))) =
-      let ms : List MadeEdit = later ++ one ∷ earlier in
-      let rest : List MadeEdit = later ++ earlier in
-      let before : ComesLast ms rest =
-      comes_last later earlier
-      (All-tail (λ f. LeavesAlone own f → LeavesAlone f own) (seen s m.edit) (seen_of s rest) alone_back) others in
-      let (its, (left, (apart, (place, more)))) = before.last in
-      let both = each_apart s (λ f. LeavesAlone f (seen s m.edit)) one later earlier alone in
-      let aside : All (λ x. IsBeside x m.change) (with_change (changes_of rest) c) =
-      subst (All (λ x. IsBeside x m.change)) before.changes beside in
-      let back =
-      beside_back c m.change (some its) (one_of_all (λ x. IsBeside x m.change) (changes_of rest) c aside) in
-      let beside_rest : All (λ x. IsBeside x m.change) (changes_of rest) =
-      rest_of_all (λ x. IsBeside x m.change) (changes_of rest) c aside in
-      let placed_rest : KeepsPlace s (seen_of s rest) (changes_of rest) (lines_of s rest) m.edit m.change =
-      placed_before s (seen_of s ms) (seen_of s rest) (λ P h. (each_apart s P one later earlier h).1)
-      (lines_of s ms) (lines_of s rest) (λ P. subst (All P) (lines_apart s one later earlier none))
-      (changes_of rest) c m.edit m.change
-      (subst (λ (l : List TextChange). KeepsPlace s (seen_of s ms) l (lines_of s ms) m.edit m.change) before.changes
-      placed) in
-      let without : AreAtOnce profile limit s (m ∷ rest) =
-      (makes, (both.1, (beside_rest, (placed_rest, more)))) in
-      let alone_last : All (λ f. LeavesAlone f own) (seen_of s (m ∷ rest)) =
-      All-cons (λ f. LeavesAlone f own) (seen s m.edit) (seen_of s rest)
-      (All-head (λ f. LeavesAlone own f → LeavesAlone f own) (seen s m.edit) (seen_of s rest) alone_back both.0)
-      left in
-      let beside_last : All (λ x. IsBeside x c) (changes_of (m ∷ rest)) =
-      all_with (λ x. IsBeside x c) (changes_of rest) m.change apart back.0 in
+  -- one that follows no header makes its change
+  own_change : ((lines : List Added) → Follows profile limit s lines e c → ⊥) → (later earlier : List MadeEdit)
+      → AreAtOnce profile limit s (later ++ one ∷ earlier) → MakesChange profile limit s e c
+  own_change none [] earlier (inl (makes, placed), rest) = makes
+  own_change none [] earlier (inr (follows, placed), rest) = absurd (none (lines_of s earlier) follows)
+  own_change none (m ∷ later) earlier h = own_change none later earlier h.1.1.1
+
+  one_of_changes : (P : TextChange → Type 0) (later earlier : List MadeEdit)
+      → All P (changes_of (later ++ one ∷ earlier)) → P c
+  one_of_changes P [] earlier h = one_of_all P (changes_of earlier) c h
+  one_of_changes P (m ∷ later) earlier h =
+      one_of_changes P later earlier (rest_of_all P (changes_of (later ++ one ∷ earlier)) m.change h)
+
+  -- the lines of the others are among all
+  pub other_lines : (P : Added → Type 0) (later earlier : List MadeEdit)
+      → All P (lines_of s (later ++ one ∷ earlier)) → All P (lines_of s (later ++ earlier))
+  other_lines P [] earlier = lines_before P s e c (lines_of s earlier)
+  other_lines P (m ∷ later) earlier =
+      line_more P s m.edit m.change (lines_of s (later ++ one ∷ earlier)) (lines_of s (later ++ earlier))
+      (other_lines P later earlier)
+
+  -- a line elsewhere than at its byte is one of the others
+  pub other_line : (P : Added → Type 0) → ((l : Added) → P l → l.at ≢ c.at) → (later earlier : List MadeEdit)
+      → Any P (lines_of s (later ++ one ∷ earlier)) → Any P (lines_of s (later ++ earlier))
+  other_line P apart [] earlier =
+      by e
+    where
+      by : (f : Edit) → Any P (with_line s f c (lines_of s earlier)) → Any P (lines_of s earlier)
+      by (insert path value) h = elim (any_rest P (added_as s path c) (lines_of s earlier) h) [
+        | inl here ↦ absurd (apart (added_as s path c) here refl)
+        | inr there ↦ there
+      ]
+      by (set path value) h = h
+      by (rename path name) h = h
+      by (remove path) h = h
+      by (append_table keys) h = h
+      by (append_element keys) h = h
+  other_line P apart (m ∷ later) earlier =
+      by m.edit (other_line P apart later earlier)
+    where
+      all : List Added
+      all = lines_of s (later ++ one ∷ earlier)
+
+      less : List Added
+      less = lines_of s (later ++ earlier)
+
+      by : (f : Edit) → (Any P all → Any P less) → Any P (with_line s f m.change all)
+          → Any P (with_line s f m.change less)
+      by (insert path value) ih h = elim (any_rest P (added_as s path m.change) all h) [
+        | inl here ↦ any_first P (added_as s path m.change) less here
+        | inr there ↦ any_later P (added_as s path m.change) less (ih there)
+      ]
+      by (set path value) ih h = ih h
+      by (rename path name) ih h = ih h
+      by (remove path) ih h = ih h
+      by (append_table keys) ih h = ih h
+      by (append_element keys) ih h = ih h
+
+  -- so an edit that follows the header of another does so without it
+  follows_other : (later earlier : List MadeEdit) (f : Edit) (d : TextChange) → c.at ≢ d.at
+      → Follows profile limit s (lines_of s (later ++ one ∷ earlier)) f d
+      → Follows profile limit s (lines_of s (later ++ earlier)) f d
+  follows_other later earlier (insert path value) d apart h = record {
+    alone = h.alone;
+    header = other_line (λ l. IsHeaderAt d.at l × (table_of l ≡ holder path (mentions_in s)))
+        (λ l there same. apart (sym same ∙ there.0.0)) later earlier h.header;
+  }
+  follows_other later earlier (set path value) d apart h = h
+  follows_other later earlier (rename path name) d apart h = h
+  follows_other later earlier (remove path) d apart h = h
+  follows_other later earlier (append_table keys) d apart h = h
+  follows_other later earlier (append_element keys) d apart h = h
+
+  -- what it needs to come last, but its place
+  pub record CanComeLast (ms rest : List MadeEdit) : Type 0 where
+    pub changes : changes_of ms ≡ with_change (changes_of rest) c
+    makes : MakesChange profile limit s e c
+    alone : All (λ f. LeavesAlone f own) (seen_of s rest)
+    beside : All (λ x. IsBeside x c) (changes_of rest)
+    others : AreAtOnce profile limit s rest
+
+  pub can_come_last : MakesChange profile limit s e c → (later earlier : List MadeEdit) → All LetsLast later
+      → AreAtOnce profile limit s (later ++ one ∷ earlier)
+      → CanComeLast (later ++ one ∷ earlier) (later ++ earlier)
+  can_come_last its_own [] earlier lets (makes, (alone, (beside, others))) =
+      record { changes = refl; makes = its_own; alone = alone; beside = beside; others = others }
+  can_come_last its_own (m ∷ later) earlier lets (makes, (alone, (beside, more))) =
+      let before : CanComeLast ms rest = can_come_last its_own later earlier (All-tail LetsLast m later lets) more in
+      let (left, (apart, place)) = All-head LetsLast m later lets in
       record {
         changes = ap (λ (l : List TextChange). with_change l m.change) before.changes
-            ∙ with_both (changes_of rest) c m.change back.1;
-        last = (
-          its,
+            ∙ with_both (changes_of rest) c m.change place;
+        makes = before.makes;
+        alone = All-cons (λ f. LeavesAlone f own) (seen s m.edit) (seen_of s rest) left before.alone;
+        beside = all_with (λ x. IsBeside x c) (changes_of rest) m.change before.beside apart;
+        others = (
+          in_place before.changes place makes,
           (
-            alone_last,
-            (beside_last, (kept (seen_of s (m ∷ rest)) (changes_of (m ∷ rest)) (lines_of s (m ∷ rest)), without)),
+            (each_apart s (λ f. LeavesAlone f (seen s m.edit)) one later earlier alone).1,
+            (
+              rest_of_all (λ x. IsBeside x m.change) (changes_of rest) c
+                  (subst (All (λ x. IsBeside x m.change)) before.changes beside),
+              before.others,
+            ),
           ),
         );
       }
+    where
+      ms : List MadeEdit
+      ms = later ++ one ∷ earlier
 
-  pub last_of : (ms rest : List MadeEdit) → IsOneOf one ms rest → AreLeftBack rest → AreAtOnce profile limit s ms
-      → ComesLast ms rest
-  last_of ms rest is alone_back h =
-      subst₂ (λ (a b : List MadeEdit). ComesLast a b) (sym is.all) (sym is.others)
-      (comes_last is.later is.earlier (subst AreLeftBack is.others alone_back)
-      (subst (AreAtOnce profile limit s) is.all h))
+      rest : List MadeEdit
+      rest = later ++ earlier
+
+      in_place : changes_of ms ≡ with_change (changes_of rest) c → c.at ≢ m.change.at
+          → MakesInPlace profile limit s (seen_of s ms) (changes_of ms) (lines_of s ms) m.edit m.change
+          → MakesInPlace profile limit s (seen_of s rest) (changes_of rest) (lines_of s rest) m.edit m.change
+      in_place same place (inl (its, placed)) = inl (
+        its,
+        placed_before s (seen_of s ms) (seen_of s rest) (λ P h. (each_apart s P one later earlier h).1)
+            (lines_of s ms) (lines_of s rest) (λ P. other_lines P later earlier) (changes_of rest) c m.edit m.change
+            (subst (λ (l : List TextChange). KeepsPlace s (seen_of s ms) l (lines_of s ms) m.edit m.change) same
+            placed),
+      )
+      in_place same place (inr (follows, keeps)) = inr (
+        follows_other later earlier m.edit m.change place follows,
+        behind_before s (seen_of s ms) (seen_of s rest) (λ P h. (each_apart s P one later earlier h).1) (lines_of s ms)
+            (lines_of s rest) (λ P. other_lines P later earlier) (changes_of rest) c m.change
+            (subst (λ (l : List TextChange). KeepsBehind s (seen_of s ms) l m.change) same keeps),
+      )
+
+  pub comes_last : (ms rest : List MadeEdit) → CanComeLast ms rest
+      → KeepsPlace s (seen_of s rest) (changes_of rest) (lines_of s rest) e c → ComesLast ms rest
+  comes_last ms rest can placed =
+      record {
+        changes = can.changes;
+        makes = can.makes;
+        placed = placed;
+        last = (inl (can.makes, placed), (can.alone, (can.beside, can.others)));
+      }
+
+  -- an edit that takes bytes, follows no header, and needs no place that is kept
+  module _ (some : MakesChange profile limit s e c → 0 < c.size)
+      (none : (lines : List Added) → Follows profile limit s lines e c → ⊥)
+      (kept : (edits : List Edit) (changes : List TextChange) (lines : List Added)
+      → KeepsPlace s edits changes lines e c) where
+    -- what it leaves alone leaves it alone
+    abbrev pub AreLeftBack : List MadeEdit → Type 0
+    AreLeftBack rest = All (λ f. LeavesAlone own f → LeavesAlone f own) (seen_of s rest)
+
+    each_lets : (later earlier : List MadeEdit) → AreLeftBack (later ++ earlier)
+        → AreAtOnce profile limit s (later ++ one ∷ earlier) → All LetsLast later
+    each_lets [] earlier alone_back h = All-nil LetsLast
+    each_lets (m ∷ later) earlier alone_back (makes, (alone, (beside, others))) =
+        let left : LeavesAlone own (seen s m.edit) =
+        (each_apart s (λ f. LeavesAlone f (seen s m.edit)) one later earlier alone).0 in
+        All-cons LetsLast m later (
+          All-head (λ f. LeavesAlone own f → LeavesAlone f own) (seen s m.edit) (seen_of s (later ++ earlier))
+              alone_back left,
+          beside_back c m.change (some (own_change none later earlier others))
+              (one_of_changes (λ x. IsBeside x m.change) later earlier beside),
+        )
+        (each_lets later earlier
+        (All-tail (λ f. LeavesAlone own f → LeavesAlone f own) (seen s m.edit) (seen_of s (later ++ earlier))
+        alone_back) others)
+
+    pub last_of : (ms rest : List MadeEdit) → IsOneOf one ms rest → AreLeftBack rest → AreAtOnce profile limit s ms
+        → ComesLast ms rest
+    last_of ms rest is alone_back h =
+        let there : AreAtOnce profile limit s (is.later ++ one ∷ is.earlier) =
+        subst (AreAtOnce profile limit s) is.all h in
+        comes_last ms rest
+        (subst₂ (λ (a b : List MadeEdit). CanComeLast a b) (sym is.all) (sym is.others)
+        (can_come_last (own_change none is.later is.earlier there) is.later is.earlier
+        (each_lets is.later is.earlier (subst AreLeftBack is.others alone_back) there) there))
+        (kept (seen_of s rest) (changes_of rest) (lines_of s rest))
 
   module _ (ms rest : List MadeEdit) (fine : IsEditable profile limit s) (k : ComesLast ms rest) where
     pub others : AreAtOnce profile limit s rest
-    others = k.last.1.1.1.1
+    others = k.last.1.1.1
 
     pub run_before : IsRun profile limit s (seen_of s rest) (changes_of rest) (lines_of s rest) (document_after s rest)
     run_before = run_is_known profile limit s rest fine others
@@ -223,9 +370,8 @@ module _ (profile : Profile) (limit : ℕ) (s : Document) (e : Edit) (c : TextCh
 
     -- where they make their changes still after the others
     pub moves_past : MakesChange profile limit (document_after s rest) e (moved_past (changes_of rest) c)
-    moves_past =
-        (run_before.later e c k.last.0 k.last.1.0 k.last.1.1.0
-        (kept (seen_of s rest) (changes_of rest) (lines_of s rest))).0
+        × IsSeenStill s (document_after s rest) e
+    moves_past = run_before.later e c k.makes k.last.1.0 k.last.1.1.0 k.placed
 
     -- a change of the same bytes
     pub beside_rest : (d : TextChange) → c.at ≡ d.at → c.size ≡ d.size → All (λ x. IsBeside x d) (changes_of rest)
@@ -246,25 +392,22 @@ module _ (profile : Profile) (limit : ℕ) (s : Document) (path : List Part) (va
       → KeepsPlace s edits changes lines e c
   any_place edits changes lines = tt
 
-  no_line : (lines : List Added) → with_line s e c lines ≡ lines
-  no_line lines = refl
-
   abbrev SetLast : List MadeEdit → List MadeEdit → Type 0
-  SetLast = ComesLast profile limit s e c some_bytes any_place no_line
+  SetLast = ComesLast profile limit s e c
 
   set_last : (ms rest : List MadeEdit) → IsOneOf (made e c) ms rest → AreAtOnce profile limit s ms → SetLast ms rest
   set_last ms rest is =
-      last_of profile limit s e c some_bytes any_place no_line ms rest is
+      last_of profile limit s e c some_bytes (λ lines never. never) any_place ms rest is
       (all_hold (λ f. LeavesAlone e f → LeavesAlone f e) (alone_back path value) (seen_of s rest))
 
   module _ (ms rest : List MadeEdit) (fine : IsEditable profile limit s) (k : SetLast ms rest) (more : Value)
       (d : TextChange) (makes : SetsValue profile limit s path more d) (at : c.at ≡ d.at) (size : c.size ≡ d.size)
     where
       before : IsRun profile limit s (seen_of s rest) (changes_of rest) (lines_of s rest) (document_after s rest)
-      before = run_before profile limit s e c some_bytes any_place no_line ms rest fine k
+      before = run_before profile limit s e c ms rest fine k
 
       beside_set : All (λ x. IsBeside x d) (changes_of rest)
-      beside_set = beside_rest profile limit s e c some_bytes any_place no_line ms rest fine k d at size
+      beside_set = beside_rest profile limit s e c ms rest fine k d at size
 
       alone_rest : All (λ f. LeavesAlone f (set path more)) (seen_of s rest)
       alone_rest =
@@ -272,17 +415,13 @@ module _ (profile : Profile) (limit : ℕ) (s : Document) (path : List Part) (va
           (seen_of s rest) k.last.1.0
 
       still_at_once : AreAtOnce profile limit s (made (set path more) d ∷ rest)
-      still_at_once = (
-        makes,
-        (alone_rest, (beside_set, (tt, others profile limit s e c some_bytes any_place no_line ms rest fine k))),
-      )
+      still_at_once = (inl (makes, tt), (alone_rest, (beside_set, others profile limit s e c ms rest fine k)))
 
       set_again : IsSetAgain profile limit (document_after s rest) path value (moved_past (changes_of rest) c) more
           (moved_past (changes_of rest) d)
       set_again =
           sets_again profile limit (document_after s rest) path value (moved_past (changes_of rest) c) more
-          (moved_past (changes_of rest) d) before.editable
-          (moves_past profile limit s e c some_bytes any_place no_line ms rest fine k)
+          (moved_past (changes_of rest) d) before.editable (moves_past profile limit s e c ms rest fine k).0
           (before.later (set path more) d makes alone_rest beside_set tt).0
 
 pub run_goes_on_again : RunGoesOnAgain
@@ -293,12 +432,11 @@ run_goes_on_again profile limit s ms path more d fine h there makes =
     let rest : List MadeEdit = has.rest in
     let k : SetLast profile limit s path value c ms rest = set_last profile limit s path value c ms rest has.one h in
     let first : IsSetAgain profile limit s path value c more d =
-    sets_again profile limit s path value c more d fine k.last.0 makes in
+    sets_again profile limit s path value c more d fine k.makes makes in
     let at : c.at ≡ d.at = sym first.at in
     let size : c.size ≡ d.size = sym first.size in
     let now : document_after s ms ≡ edited_document (document_after s rest) (set path value) =
-    same_document profile limit s (set path value) c (some_bytes profile limit s path value c)
-    (any_place profile limit s path value c) (no_line profile limit s path value c) ms rest fine k h in
+    same_document profile limit s (set path value) c ms rest fine k h in
     let again : IsSetAgain profile limit (document_after s rest) path value (moved_past (changes_of rest) c) more
     (moved_past (changes_of rest) d) =
     set_again profile limit s path value c ms rest fine k more d makes at size in
@@ -315,7 +453,7 @@ run_goes_on_again profile limit s ms path more d fine h there makes =
       changes = k.changes;
       at = at;
       size = size;
-      some = k.last.0.some;
+      some = k.makes.some;
       follow = (before profile limit s path value c ms rest fine k more d makes at size).follow;
       beside = beside_set profile limit s path value c ms rest fine k more d makes at size;
       sets = subst₂

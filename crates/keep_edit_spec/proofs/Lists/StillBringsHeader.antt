@@ -29,7 +29,8 @@ use Rattle.keep_edit_spec.specs.Lines.{begins, body_end, is_header, last_line, l
 use Rattle.keep_edit_spec.specs.Look.{holder}
 use Rattle.keep_edit_spec.specs.TextChanges.{TextChange, moved}
 use Rattle.keep_edit_spec.proofs.Common.Runs.{kinds_at-under}
-use Rattle.keep_edit_spec.proofs.Lists.BroughtAllowed.{brought_keys, holder_clear, holder_stays, refusal_stays}
+use Rattle.keep_edit_spec.proofs.Lists.BroughtAllowed.{brought_keys, firsts_differ, holder_clear, holder_stays}
+use Rattle.keep_edit_spec.proofs.Lists.BroughtAllowed.{refusal_stays}
 use Rattle.keep_edit_spec.proofs.Lists.BroughtBodies as bodies
 use Rattle.keep_edit_spec.proofs.Lists.BroughtBodies.{new_none, new_there, none_now, not_begun, still_last}
 use Rattle.keep_edit_spec.proofs.Lists.BroughtLines as brought
@@ -60,6 +61,11 @@ module _ (profile : Profile) (limit : ℕ) (s : Document) (path : List Part) (va
   abbrev its : InsertsKeys profile limit s other more
   its = brought_keys profile limit s other more d k
 
+  other_keys : first_new s path ≢ first_new s other
+  other_keys =
+      firsts_differ profile limit s path value other more (brought_keys profile limit s path value c h) its
+      others.table
+
   -- ---- the lines
 
   abbrev n : ℕ
@@ -87,7 +93,7 @@ module _ (profile : Profile) (limit : ℕ) (s : Document) (path : List Part) (va
       ∙ ap (list_any is_dotted)
       (kinds_at-under (first_new s path) b (run profile limit s path value c fine h [])
       (under profile limit s path value c fine h [])
-      (holder_clear profile limit s path value c fine h other more its others.table))
+      (holder_clear profile limit s path value c fine h other more its other_keys))
 
   bare_now : end_of now b ≡ None
   bare_now =
@@ -144,7 +150,7 @@ module _ (profile : Profile) (limit : ℕ) (s : Document) (path : List Part) (va
   j = body_end still.number (lines now)
 
   holds : holder other (mentions_in now) ≡ b
-  holds = holder_stays profile limit s path value c fine h other more its others.table
+  holds = holder_stays profile limit s path value c fine h other more its other_keys
 
   new_now : other ≡ holder other (mentions_in now) ++ map key (k.text ∷ k.more)
   new_now = k.new ∙ ap (λ (q : List Part). q ++ map key (k.text ∷ k.more)) (sym holds)
@@ -170,7 +176,7 @@ module _ (profile : Profile) (limit : ℕ) (s : Document) (path : List Part) (va
     record {
       utf8 = k.utf8;
       given = k.given;
-      allowed = refusal_stays profile limit s path value c fine h other more its others.table;
+      allowed = refusal_stays profile limit s path value c fine h other more its other_keys;
       text = k.text;
       more = k.more;
       new = new_now;

@@ -16,12 +16,12 @@ use Rattle.keep_edit_spec.specs.DottedLines.{AddsLineTo, AreInOrder, added_at}
 use Rattle.keep_edit_spec.specs.Edits.{Edit, append_element, append_table, edited_document, insert, place, remove}
 use Rattle.keep_edit_spec.specs.Edits.{rename, set}
 use Rattle.keep_edit_spec.specs.ElementRuns.{IsElsewhere, changed_path}
-use Rattle.keep_edit_spec.specs.InsertKinds.{AddsAs, IsAfterAs, added_as, kind_of}
+use Rattle.keep_edit_spec.specs.InsertKinds.{AddsAs, IsAfterAs, added_as, kind_of, table_of}
 use Rattle.keep_edit_spec.specs.Laws.{IsEditable}
-use Rattle.keep_edit_spec.specs.Look.{holder}
+use Rattle.keep_edit_spec.specs.Look.{holder, keys_in}
 use Rattle.keep_edit_spec.specs.RemovedLines.{RemovesLine}
 use Rattle.keep_edit_spec.specs.RemovedSections.{RemovesSection}
-use Rattle.keep_edit_spec.specs.Runs.{AreApart, IsStillPlaced, LeavesAlone, MakesChange, PassesBy, PassesTable}
+use Rattle.keep_edit_spec.specs.Runs.{AreApart, IsStillPlaced, LeavesAlone, MakesChange, PassesBy}
 use Rattle.keep_edit_spec.specs.Runs.{StillMakesChange, seen}
 use Rattle.keep_edit_spec.specs.TextChanges.{IsBeside, TextChange, moved}
 use Rattle.keep_edit_spec.specs.declared.line_kind.LineKind.{LineKind}
@@ -99,14 +99,13 @@ other_path profile limit s path c other d fine h k beside same =
     ∙ sym (removes_there profile limit s other d fine k).0.start in
     elim beside [ inl ends ↦ omega (arith, ends, starts, some) | inr before ↦ omega (arith, before.0, starts) ]
 
--- headers that are appended pass by the table of one with a header
-passes_table : (profile : Profile) (limit : ℕ) (s : Document) (keys : List (List ℕ)) (path : List Part) (value : Value)
-    (c : TextChange) → BringsHeader profile limit s path value c → PassesTable keys (added_as s path c)
-    → PassesBy keys (holder path (mentions_in s))
-passes_table profile limit s keys path value c h passes =
-    subst (PassesBy keys)
-    (table_is profile limit s path value c (keys_of_line WithHeader profile limit s path value c h))
-    (passes (kind_is WithHeader profile limit s path value c h))
+-- what holds of the table of a line with a header
+of_table : (P : List Part → Type 0) (profile : Profile) (limit : ℕ) (s : Document) (path : List Part) (value : Value)
+    (c : TextChange) → BringsHeader profile limit s path value c
+    → (kind_of s path ≡ WithHeader → P (table_of (added_as s path c))) → P (holder path (mentions_in s))
+of_table P profile limit s path value c h holds =
+    subst P (table_is profile limit s path value c (keys_of_line WithHeader profile limit s path value c h))
+    (holds (kind_is WithHeader profile limit s path value c h))
 
 swapped : (path other : List Part) → AreApart path other → AreApart other path
 swapped path other apart = (apart.1, apart.0)
@@ -352,12 +351,12 @@ after_brought profile limit s path value c (rename other more) d fine h k alone 
 )
 after_brought profile limit s path value c (append_table more) d fine h k alone beside placed = (
   table_after_brought profile limit s path value c more d fine h k alone
-      (passes_table profile limit s more path value c h placed.1) (placed.0 refl).0,
+      (of_table (λ p. more ≢ keys_in p) profile limit s path value c h placed.1) (placed.0 refl).0,
   tt,
 )
 after_brought profile limit s path value c (append_element more) d fine h k alone beside placed = (
   element_after_brought profile limit s path value c more d fine h k alone
-      (passes_table profile limit s more path value c h placed.1) (placed.0 refl).0,
+      (of_table (λ p. more ≢ keys_in p) profile limit s path value c h placed.1) (placed.0 refl).0,
   tt,
 )
 
@@ -453,7 +452,7 @@ still_makes profile limit s (append_table keys) c (insert other more) d fine h (
     (λ x far. dotted_after_table profile limit s keys c other more d fine h x alone
     (λ e. far (omega (arith, e, h.adds))) newline)
     (λ x far. brought_after_table profile limit s keys c other more d fine h x alone
-    (passes_table profile limit s keys other more d x placed.1) (λ e. far (omega (arith, e, h.adds))) newline)
+    (of_table (PassesBy keys) profile limit s other more d x placed.1) (λ e. far (omega (arith, e, h.adds))) newline)
 still_makes profile limit s (append_table keys) c (remove other) d fine h k alone beside placed = (
   remove_after profile limit s (edited_document s (append_table keys)) other c d
       (λ x. remove_after_table profile limit s keys c other d fine h x)
@@ -479,7 +478,7 @@ still_makes profile limit s (append_element keys) c (insert other more) d fine h
     (λ x far. dotted_after_element profile limit s keys c other more d fine h x alone
     (λ e. far (omega (arith, e, h.adds))) newline)
     (λ x far. brought_after_element profile limit s keys c other more d fine h x alone
-    (passes_table profile limit s keys other more d x placed.1) (λ e. far (omega (arith, e, h.adds))) newline)
+    (of_table (PassesBy keys) profile limit s other more d x placed.1) (λ e. far (omega (arith, e, h.adds))) newline)
 still_makes profile limit s (append_element keys) c (remove other) d fine h k alone beside placed = (
   remove_after profile limit s (edited_document s (append_element keys)) other c d
       (λ x. remove_after_element profile limit s keys c other d fine h x)

@@ -4,21 +4,22 @@
 -- begins, and those that begin where it does or before it have ended. So the bytes that are gone before it are no more
 -- than there were (`gone_room`), and between two changes no more than there were between (`gone_between`). So the text
 -- with it is the text with the others, changed at the place to which the others move it, and changes keep their order
--- when they are moved. Each is by induction on the changes.
+-- when they are moved. Each is by induction on the changes. Two texts that come at one byte can come in either order,
+-- if the one that comes last in the text is put where the other ends (`put_in_front`).
 --
--- Theorems: `follow_with`, `text_with_one`, `moved_with`, `moved_next`, `beside_past`, `end_apart`, `end_apart_let`,
--- `begins_apart`, `begins_at_one`, `all_with`, `one_of_all`, `rest_of_all`, `none_with`, `length_with`; `gone_room`,
--- `past_later`.
+-- Theorems: `follow_with`, `text_with_one`, `put_in_front`, `moved_with`, `moved_next`, `beside_past`, `end_apart`,
+-- `end_apart_let`, `begins_apart`, `begins_at_one`, `all_with`, `one_of_all`, `rest_of_all`, `none_with`,
+-- `length_with`; `gone_room`, `past_later`.
 use Rattle.std.proofs.Common.{◌≡◌, ◌≢◌, ℕ, ◌+◌, ◌-◌, ◌<◌, ◌≤◌, Bool, true, false, cond, List, [], ◌∷◌, ◌++◌, length}
-use Rattle.std.proofs.Common.{take, drop, get_or, suc, All, refl, sym, ap, ap₂, ◌∙◌, append_assoc, arith, length-drop}
-use Rattle.std.proofs.Common.{inl, inr}
+use Rattle.std.proofs.Common.{take, drop, get_or, suc, All, refl, sym, ap, ap₂, ◌∙◌, append_assoc, arith, inl, inr}
+use Rattle.std.proofs.Common.{length-append, length-drop}
 use Rattle.std.specs.Prelude.{nat_lt, ◌⊎◌, ◌==◌}
 use Rattle.std.specs.List.{list_any}
 use Rattle.std.proofs.lemmas.Bool.{and_parts, cases_lt, eq-eqb, eqb-true, le-ltb, lt-ltb, ltb-false, ltb-true, or_from}
 use Rattle.std.proofs.lemmas.Bool.{or_parts}
 use Rattle.std.proofs.lemmas.List.{drop-append-le, drop-drop, drop-take, length-take, take-append-le, take-take}
 use Rattle.std.proofs.lemmas.List.Elements.{All-cons, All-head, All-nil, All-tail}
-use Rattle.std.proofs.Math.Seq.{take-append-add, drop-append-add}
+use Rattle.std.proofs.Math.Seq.{take-append-add, take-append_seam, drop-append-add, drop-append_seam}
 use Rattle.keep_edit_spec.specs.Changed.{Place, put}
 use Rattle.keep_edit_spec.specs.Runs.{LetsCome, takes_up_to}
 use Rattle.keep_edit_spec.specs.TextChanges.{Follow, IsBeside, TextChange, come_to, gone_to, moved, moved_by_all}
@@ -555,3 +556,44 @@ pub text_with_one : (bytes : List ℕ) (cs : List TextChange) (d : TextChange) �
 text_with_one bytes cs d within h beside =
     text_from 0 bytes cs d (moved_by_all cs d.at) (omega arith) within h beside
     (omega (arith, gone_room 0 cs d (omega arith) h beside))
+
+-- a text is cut where its first part ends
+seam : (w l r : List ℕ) (n : ℕ) → w ≡ l ++ r → n ≡ length l → (take n w ≡ l) × (drop n w ≡ r)
+seam w l r n is long = (
+  ap₂ (λ (m : ℕ) (t : List ℕ). take m t) long is ∙ take-append_seam l r,
+  ap₂ (λ (m : ℕ) (t : List ℕ). drop m t) long is ∙ drop-append_seam l r,
+)
+
+-- more comes at a byte, and then something new in front of it; or the new first, and the more behind it
+come_in_front : (bytes new more : List ℕ) (at : ℕ) → at ≤ length bytes
+    → put (put bytes (put_at at 0 more)) (put_at at 0 new)
+    ≡ put (put bytes (put_at at 0 new)) (put_at (at + length new) 0 more)
+come_in_front bytes new more at few =
+    let a : List ℕ = take at bytes in
+    let r : List ℕ = drop (at + 0) bytes in
+    let long : length a ≡ at = omega (arith, length-take at bytes, few) in
+    let front = seam (a ++ (more ++ r)) a (more ++ r) at refl (sym long) in
+    let ends : at + length new ≡ length (a ++ new) = omega (arith, long, length-append a new) in
+    let back = seam (a ++ (new ++ r)) (a ++ new) r (at + length new) (sym (append_assoc a new r)) ends in
+    sym (put_between (a ++ (more ++ r)) a new (more ++ r) at 0 front.0
+    (ap (λ (n : ℕ). drop n (a ++ (more ++ r))) (omega arith) ∙ front.1))
+    ∙ sym (append_assoc a new (more ++ r))
+    ∙ put_between (a ++ (new ++ r)) (a ++ new) more r (at + length new) 0 back.0
+    (ap (λ (n : ℕ). drop n (a ++ (new ++ r))) (omega arith) ∙ back.1)
+
+-- Of two that take nothing at one byte, the later one comes in front, as if it had been first.
+pub put_in_front : (bytes : List ℕ) (c d : TextChange) → d.at ≡ c.at → c.size ≡ 0 → d.size ≡ 0 → c.at ≤ length bytes
+    → put (put bytes (place_of_change d)) (place_of_change c)
+    ≡ put (put bytes (place_of_change c)) (place_of_change (moved c d))
+put_in_front bytes c d same none no_size few =
+    ap₂ (λ (p q : Place). put (put bytes p) q) (place d c.at same no_size) (place c c.at refl none)
+    ∙ come_in_front bytes c.new d.new c.at few
+    ∙ sym (ap₂ (λ (p q : Place). put (put bytes p) q) (place c c.at refl none)
+    (place (moved c d) (c.at + length c.new) past no_size))
+  where
+    place : (x : TextChange) (at : ℕ) → x.at ≡ at → x.size ≡ 0 → place_of_change x ≡ put_at at 0 x.new
+    place x at is zero_size =
+        ap₂ (λ (n m : ℕ). record { start = n; end = m; new = x.new }) is (omega (arith, is, zero_size))
+
+    past : moved_by c d.at ≡ c.at + length c.new
+    past = rw (le-ltb d.at c.at (omega (arith, same))) (omega (arith, same, none))

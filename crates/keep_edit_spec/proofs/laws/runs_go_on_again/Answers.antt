@@ -1,3 +1,4 @@
+use Rattle.keep_edit_spec.proofs.Lists.BehindHeaders.{run_goes_on_behind}
 use Rattle.keep_edit_spec.proofs.Lists.InsertLists.{run_goes_on_inserted}
 use Rattle.keep_edit_spec.proofs.Lists.RenameLists.{run_goes_on_renamed}
 use Rattle.keep_edit_spec.proofs.Lists.RunLists.{run_goes_on_again, run_is_known}
@@ -5,6 +6,9 @@ use Rattle.keep_edit_spec.proofs.laws.runs_go_on_again.Goals as goal
 
 pub returns-clause-known : goal.returns-clause-known
 returns-clause-known c = run_is_known
+
+pub returns-clause-behind : goal.returns-clause-behind
+returns-clause-behind c = run_goes_on_behind
 
 pub returns-clause-run : goal.returns-clause-run
 returns-clause-run c = run_goes_on_again

@@ -1,4 +1,4 @@
-use Rattle.std.proofs.Common.{◌≡◌, ◌∙◌, false, subst, sym, true}
+use Rattle.std.proofs.Common.{◌≡◌, ◌∙◌, false, refl, subst, sym}
 use Rattle.std.specs.Prelude.{◌==◌}
 use Rattle.std.specs.HashSet.{contains_by}
 use Rattle.keep_edit_runs.specs.Seen.{number_of}
@@ -21,12 +21,11 @@ returns-then-is_ok c = λ yes.
     (ok_holds _ c.insert-then-is_ok.result (sym c.is_ok-then-is_ok.ensures.value ∙ yes)
     c.insert-then-is_ok.ensures.updates) in
     record {
-      free = λ headed.
-          (let both : true ≡ false = sym (c.has_header_at.ensures.1 headed) ∙ c.if-has_header_at.false in cc);
-      kept = record {
-        here = its;
-        others = others_by at _ others;
-      };
+      free = c.has_header_at.ensures c.if-has_header_at.false;
+      lines = refl;
+      followed = refl;
+      here = its;
+      others = others_by at _ others;
       first = λ has.
           (let none : contains_by (λ n. number == n) old.tables ≡ false =
           sym c.contains.ensures ∙ c.if-contains.false in

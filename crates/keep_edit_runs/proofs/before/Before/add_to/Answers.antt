@@ -1,19 +1,23 @@
--- An edit is added to a run in four steps: the others leave it alone; it makes its change; its line is kept; and its
--- change is put beside theirs. Each leaves all else of the run as it was, so what is known of the run before is known
--- of what is left of it after each of them.
-use Rattle.std.proofs.Common.{◌≡◌, ◌∙◌, ◌++◌, ◌∷◌, [], All, ap, subst, subst₂, sym, true}
+-- An edit is added to a run in four steps: the others leave it alone; it makes its change; its place is kept; and its
+-- change is put beside theirs, in order with the lines. Each leaves all else of the run as it was, so what is known of
+-- the run before is known of what is left of it after each of them.
+use Rattle.std.proofs.Common.{◌≡◌, ◌∙◌, ◌++◌, ◌∷◌, [], All, Option, ap, subst, subst₂, sym, true}
+use Rattle.std.specs.Prelude.{Bool}
 use Rattle.std.proofs.lemmas.List.Elements.{All-weaker}
 use Rattle.keep_edit_spec.specs.Runs.{IsPlain}
-use Rattle.keep_edit_spec.specs.TextChanges.{IsBeside, TextChange, with_change}
-use Rattle.keep_edit_spec.proofs.Shared.{all_with}
+use Rattle.keep_edit_spec.specs.TextChanges.{TextChange}
+use Rattle.keep_edit_spec.specs.declared.line_kind.LineKind.{LineKind}
+use Rattle.keep_edit_plan.specs.Reading.{ProfiledText}
 use Rattle.keep_edit_plan.specs.TextEdits.{change_of}
-use Rattle.keep_edit_runs.specs.KindsRun.{IsPlacedAmong}
-use Rattle.keep_edit_runs.specs.Runs.{IsLineKept, MakesInRunHere}
+use Rattle.keep_edit_plan.specs.declared.edit.Edit.{Edit}
+use Rattle.keep_edit_runs.specs.KindsRun.{IsAddedTo, IsPlacedAmong}
+use Rattle.keep_edit_runs.specs.Runs.{IsAddedInOrder, MakesInRunHere}
 use Rattle.keep_edit_runs.specs.SeenPaths.{IsArraySeen, IsSeen}
 use Rattle.keep_edit_runs.specs.declared.added_lines.AddedLines.{AddedLines}
 use Rattle.keep_edit_runs.specs.declared.at_once.AtOnce.{AtOnce}
 use Rattle.keep_edit_runs.specs.declared.gone_between.GoneBetween.{GoneBetween}
 use Rattle.keep_edit_runs.specs.declared.kinds_run.KindsRun.{KindsRun}
+use Rattle.keep_edit_runs.specs.declared.outline.Outline.{Outline}
 use Rattle.keep_edit_runs.specs.declared.seen_paths.SeenPaths.{SeenPaths}
 use Rattle.keep_edit_runs.proofs.SeenLaws.{more_seen}
 use Rattle.keep_edit_runs.proofs.SeenPathLaws.{arrays_still}
@@ -41,6 +45,22 @@ keeps_place_in-requires-clause-run c =
       planner = c.change_in_run.ensures.planner ∙ ap (λ (r : KindsRun). r.planner) rest ∙ run.planner;
     }
 
+-- what is added to the run as it is then is added to the run as it was, as its edits and lines are those
+in_order : (now : ProfiledText) (x : Edit) (old then : KindsRun) (o : Outline) (c : TextChange)
+    (line : Option LineKind) (alone : Bool) (new : KindsRun) → then.so_far ≡ old.so_far → then.lines ≡ old.lines
+    → then.gone ≡ old.gone → (alone ≡ true → then.gone.arrays.items ≡ [])
+    → IsAddedInOrder now x then.lines then.so_far.changes o c line alone new.lines new.so_far.changes
+    → IsAddedTo now x old o c line new
+in_order now x old then o c line alone new same same_lines same_gone empties added = (
+  alone,
+  (
+    λ yes. subst (λ (g : GoneBetween). g.arrays.items ≡ []) same_gone (empties yes),
+    subst₂
+        (λ (l : AddedLines) (s : AtOnce).
+        IsAddedInOrder now x l s.changes o c line alone new.lines new.so_far.changes) same_lines same added,
+  ),
+)
+
 pub returns-clause-added : goal.returns-clause-added
 returns-clause-added c = λ added.
     let now = c.args.self.now in
@@ -52,9 +72,13 @@ returns-clause-added c = λ added.
     let left = c.leave_alone.ensures.added c.if-not-leave_alone.false in
     let rest = c.leave_alone.ensures.rest in
     let rest_then = c.keeps_place_in.ensures.rest in
+    let then = c.keeps_place_in.new.run in
     let same : c.leave_alone.new.self.so_far ≡ old.so_far = ap (λ (r : KindsRun). r.so_far) rest in
-    let same_then : c.keeps_place_in.new.run.so_far ≡ old.so_far = ap (λ (r : KindsRun). r.so_far) rest_then ∙ same in
-    let (beside, with_it) = c.add.ensures.changes added in
+    let same_then : then.so_far ≡ old.so_far = ap (λ (r : KindsRun). r.so_far) rest_then ∙ same in
+    let same_lines : then.lines ≡ old.lines =
+    ap (λ (r : KindsRun). r.lines) rest_then ∙ ap (λ (r : KindsRun). r.lines) rest in
+    let same_gone : then.gone ≡ old.gone =
+    ap (λ (r : KindsRun). r.gone) rest_then ∙ ap (λ (r : KindsRun). r.gone) rest in
     record {
       outline = o;
       change = made.change;
@@ -63,16 +87,13 @@ returns-clause-added c = λ added.
           c.in-Some.ensures.made;
       alone = left.alone;
       elsewhere = left.elsewhere;
-      beside = subst (λ (s : AtOnce). All (λ d. IsBeside d t) s.changes) same_then beside;
       placed = subst (λ (s : AtOnce). IsPlacedAmong s.outlines.items now.text s.changes o t.at) same
           (c.keeps_place_in.ensures.placed c.if-not-keeps_place_in.false);
-      kept = subst (λ (l : AddedLines). IsLineKept old.lines old.so_far.changes o t.at made.line l)
-          (sym (ap (λ (r : KindsRun). r.lines) rest_then))
-          (subst₂ (λ (l : AddedLines) (s : AtOnce). IsLineKept l s.changes o t.at made.line c.keep_line.new.self)
-          (ap (λ (r : KindsRun). r.lines) rest) same (c.keep_line.ensures c.if-not-keep_line.false));
-      outlines = c.add.ensures.outlines added ∙ ap (λ (s : AtOnce). s.outlines.items ++ o ∷ []) same_then;
-      changes = with_it ∙ ap (λ (s : AtOnce). with_change s.changes t) same_then;
-      gone = ap (λ (r : KindsRun). r.gone) rest_then ∙ ap (λ (r : KindsRun). r.gone) rest;
+      added = in_order now x old then o t made.line c.is_empty-is_none_gone.result
+          (record then { so_far = c.add_in_order.new.so_far; lines = c.add_in_order.new.lines }) same_then same_lines
+          same_gone c.is_empty-is_none_gone.ensures.0 (c.add_in_order.ensures.added added);
+      outlines = c.add_in_order.ensures.outlines added ∙ ap (λ (s : AtOnce). s.outlines.items ++ o ∷ []) same_then;
+      gone = same_gone;
     }
 
 pub returns-clause-run : goal.returns-clause-run
@@ -81,7 +102,7 @@ returns-clause-run c = λ added.
     let run = c.requires.run in
     let o = c.of-outline.result in
     let t = change_of c.in-Some.made.change in
-    let new = c.add.new.self in
+    let new = c.add_in_order.new.so_far in
     let seen_now = IsSeen c.leave_alone.new.self.paths in
     let left = c.leave_alone.ensures.added c.if-not-leave_alone.false in
     let rest = c.leave_alone.ensures.rest in
@@ -89,9 +110,7 @@ returns-clause-run c = λ added.
     let same : c.keeps_place_in.new.run.so_far ≡ old.so_far =
     ap (λ (r : KindsRun). r.so_far) rest_then ∙ ap (λ (r : KindsRun). r.so_far) rest in
     let pushed : new.outlines.items ≡ old.so_far.outlines.items ++ o ∷ [] =
-    c.add.ensures.outlines added ∙ ap (λ (s : AtOnce). s.outlines.items ++ o ∷ []) same in
-    let with_it : new.changes ≡ with_change old.so_far.changes t =
-    (c.add.ensures.changes added).1 ∙ ap (λ (s : AtOnce). with_change s.changes t) same in
+    c.add_in_order.ensures.outlines added ∙ ap (λ (s : AtOnce). s.outlines.items ++ o ∷ []) same in
     record {
       seen = (
         subst (λ (paths : SeenPaths). All (IsSeen paths) new.outlines.items)
@@ -105,10 +124,10 @@ returns-clause-run c = λ added.
       );
       text = c.keeps_place_in.ensures.text;
       plain = λ yes.
-          let (before, its) = c.add.ensures.plain added yes in
-          subst (All (λ (d : TextChange). IsPlain d.new)) (sym with_it)
-          (all_with (λ (d : TextChange). IsPlain d.new) old.so_far.changes t
-          (run.plain (sym (ap (λ (s : AtOnce). s.are_plain) same) ∙ before)) its);
+          let (before, more) = c.add_in_order.ensures.plain added yes in
+          more
+          (subst (λ (s : AtOnce). All (λ (d : TextChange). IsPlain d.new) s.changes) (sym same)
+          (run.plain (sym (ap (λ (s : AtOnce). s.are_plain) same) ∙ before)));
       planner = ap (λ (r : KindsRun). r.planner) rest_then ∙ c.change_in_run.ensures.planner
           ∙ ap (λ (r : KindsRun). r.planner) rest ∙ run.planner;
     }

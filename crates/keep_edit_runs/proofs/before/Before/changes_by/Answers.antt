@@ -1,13 +1,15 @@
-use Rattle.std.proofs.Common.{◌≡◌, ◌+◌, ◌<◌, ℕ, All, List, suc, length, refl, sym, subst}
+use Rattle.std.proofs.Common.{◌≡◌, ◌+◌, ◌<◌, ◌++◌, ◌∷◌, [], ℕ, All, List, suc, length, refl, sym, subst, inl, inr}
 use Rattle.std.proofs.Common.{subst₂, ◌∙◌, arith}
 use Rattle.std.proofs.lemmas.List.Elements.{All-append, All-nil, All-weaker}
 use Rattle.keep_edit_spec.specs.TextChanges.{TextChange}
 use Rattle.keep_edit_plan.specs.TextEdits.{change_of}
 use Rattle.keep_edit_runs.specs.Again.{outlines_of}
-use Rattle.keep_edit_runs.specs.Runs.{LeavesAlone, MakesInRunHere}
+use Rattle.keep_edit_runs.specs.Runs.{LeavesAlone, MakesInRunHere, outlined}
 use Rattle.keep_edit_runs.specs.Seen.{IsSeen}
 use Rattle.keep_edit_runs.specs.declared.outline.Outline.{Outline}
 use Rattle.keep_edit_runs.proofs.AgainSteps.{made_once_more}
+use Rattle.keep_edit_runs.proofs.AheadSteps.{more_ahead}
+use Rattle.keep_edit_runs.proofs.FollowSteps.{more_following}
 use Rattle.keep_edit_runs.proofs.KindLaws.{placed_of_kind}
 use Rattle.keep_edit_runs.proofs.RunSteps.{AreMadeTo, all_made, all_within, more_changes, no_changes}
 use Rattle.keep_edit_runs.proofs.SeenLaws.{more_seen}
@@ -20,7 +22,7 @@ loop-number-init c =
     let now = c.args.self.now in
     let (no_outlines, none) = c.new-so_far.ensures in (
       subst₂ (λ os cs. AreMadeTo edits first first now os cs c.new-lines.result) (sym no_outlines) (sym none)
-          (no_changes edits first now c.new-lines.result),
+          (no_changes edits first now c.new-lines.result c.new-lines.ensures.brought),
       subst (All (IsSeen c.new-keys.result)) (sym no_outlines) (All-nil (IsSeen c.new-keys.result)),
       c.new-planner.ensures ∙ c.as_ref.ensures,
     )
@@ -45,15 +47,11 @@ returns-in_default-change_in_run-clause-made c =
     all_made c.args.edits.now c.args.first c.args.self.now _ _ _ c.loop-number.invariant.0
     c.up_to-in_default-change_in_run.ensures.0 c.up_to-in_default-change_in_run.ensures.1
 
-pub returns-then-not-keep_line-clause-made : goal.returns-then-not-keep_line-clause-made
-returns-then-not-keep_line-clause-made c =
+pub returns-then-not-add_in_order-clause-made : goal.returns-then-not-add_in_order-clause-made
+returns-then-not-add_in_order-clause-made c =
     all_made c.args.edits.now c.args.first c.args.self.now _ _ _ c.loop-number.invariant.0
-    c.up_to-then-not-keep_line.ensures.0 c.up_to-then-not-keep_line.ensures.1
-
-pub returns-then-not-add-clause-made : goal.returns-then-not-add-clause-made
-returns-then-not-add-clause-made c =
-    all_made c.args.edits.now c.args.first c.args.self.now _ _ _ c.loop-number.invariant.0
-    (c.up_to-then-not-add.ensures.0 ∙ c.if-not-add.ensures.refused refl) c.up_to-then-not-add.ensures.1
+    (c.up_to-then-not-add_in_order.ensures.0 ∙ c.if-not-add_in_order.ensures.refused refl)
+    c.up_to-then-not-add_in_order.ensures.1
 
 pub returns-clause-within : goal.returns-clause-within
 returns-clause-within c =
@@ -70,15 +68,10 @@ returns-in_default-change_in_run-clause-within c =
     all_within c.args.edits.now c.args.first c.args.self.now _ _ _ c.loop-number.invariant.0
     c.up_to-in_default-change_in_run.ensures.0
 
-pub returns-then-not-keep_line-clause-within : goal.returns-then-not-keep_line-clause-within
-returns-then-not-keep_line-clause-within c =
+pub returns-then-not-add_in_order-clause-within : goal.returns-then-not-add_in_order-clause-within
+returns-then-not-add_in_order-clause-within c =
     all_within c.args.edits.now c.args.first c.args.self.now _ _ _ c.loop-number.invariant.0
-    c.up_to-then-not-keep_line.ensures.0
-
-pub returns-then-not-add-clause-within : goal.returns-then-not-add-clause-within
-returns-then-not-add-clause-within c =
-    all_within c.args.edits.now c.args.first c.args.self.now _ _ _ c.loop-number.invariant.0
-    (c.up_to-then-not-add.ensures.0 ∙ c.if-not-add.ensures.refused refl)
+    (c.up_to-then-not-add_in_order.ensures.0 ∙ c.if-not-add_in_order.ensures.refused refl)
 
 pub returns-then-not-allow_again-clause-made : goal.returns-then-not-allow_again-clause-made
 returns-then-not-allow_again-clause-made c =
@@ -122,7 +115,8 @@ loop-number-preserved-in-Some c =
           (sym pushed)
           (made_once_more edits first number now outlines changes new c.loop-number.lines x x a seen_then so_far
           low (sym c.index-edits-number.is) c.in-Some.ensures.again
-          (c.allow_again.ensures.allowed c.if-not-allow_again.false) seen put),
+          (c.allow_again.ensures.allowed c.if-not-allow_again.false)
+          (c.put_again.ensures.lines c.if-not-put_again.false) seen put),
       subst (All seen_now) (sym pushed)
           (All-append seen_now outlines (outlines_of a)
           (All-weaker seen_then seen_now c.allow_again.ensures.others outlines seen)
@@ -143,7 +137,8 @@ loop-number-preserved c =
     let made = c.in-Some-change_in_run.made in
     let change = made.change in
     let adds = c.loop-number.lines in
-    let next = c.keep_line.new.self in
+    let next = c.add_in_order.new.lines in
+    let new = c.add_in_order.new.so_far.changes in
     let (so_far, seen, plans) = c.loop-number.invariant in
     let low : number < length edits = omega (arith, c.loop-number-test.true, c.min-end.ensures) in
     let one : suc number ≡ number + 1 = omega arith in
@@ -153,19 +148,27 @@ loop-number-preserved c =
     let here : IsSeen c.keep_alone.new.self o = c.keep_alone.ensures.seen c.if-not-keep_alone.false in
     let still : All (IsSeen c.keep_alone.new.self) outlines =
     All-weaker (IsSeen c.loop-number.keys) (IsSeen c.keep_alone.new.self) c.keep_alone.ensures.others outlines seen in
-    let (beside, with_it) = c.add.ensures.changes c.if-not-add.false in
-    let pushed = c.add.ensures.outlines c.if-not-add.false in (
-      subst (λ (n : ℕ). AreMadeTo edits first n now c.add.new.self.outlines.items
-          c.add.new.self.changes next) one
-          (subst₂ (λ (os : List Outline) (cs : List TextChange). AreMadeTo edits first (suc number) now os cs next)
-          (sym pushed) (sym with_it)
+    let pushed = c.add_in_order.ensures.outlines c.if-not-add_in_order.false in
+    let makes : MakesInRunHere now x (outlined o) change made.line =
+    subst (λ a. MakesInRunHere now x a change made.line) (sym c.of-outline.ensures)
+    c.in-Some-change_in_run.ensures.made in
+    let placed =
+    placed_of_kind c.keep_alone.new.self outlines now.text changes o (change_of change).at still here in
+    let longer : AreMadeTo edits first (suc number) now (outlines ++ o ∷ []) new next =
+    elim (c.add_in_order.ensures.added c.if-not-add_in_order.false) [
+      | inl behind ↦
+          subst (λ (cs : List TextChange). AreMadeTo edits first (suc number) now (outlines ++ o ∷ []) cs next)
+          (sym behind.changes_are)
           (more_changes edits first number now outlines changes adds next x x o change made.line so_far low
-          (sym c.index-edits-number.is)
-          (subst (λ a. MakesInRunHere now x a change made.line) (sym c.of-outline.ensures)
-          c.in-Some-change_in_run.ensures.made)
-          alone beside
-          (placed_of_kind c.keep_alone.new.self outlines now.text changes o (change_of change).at still here)
-          (c.keep_line.ensures c.if-not-keep_line.false))),
+          (sym c.index-edits-number.is) makes alone behind.beside placed behind.kept)
+      | inr (sure, inr follows) ↦
+          more_following edits first number now outlines changes new adds next x x o change made.line so_far low
+          (sym c.index-edits-number.is) makes alone placed follows
+      | inr (sure, inl ahead) ↦
+          more_ahead edits first number now outlines changes new adds next x x o change made.line so_far low
+          (sym c.index-edits-number.is) makes alone placed ahead
+    ] in (
+      subst₂ (λ (n : ℕ) (os : List Outline). AreMadeTo edits first n now os new next) one (sym pushed) longer,
       subst (All (IsSeen c.keep_alone.new.self)) (sym pushed)
           (more_seen (IsSeen c.loop-number.keys) (IsSeen c.keep_alone.new.self) outlines o
           c.keep_alone.ensures.others here seen),

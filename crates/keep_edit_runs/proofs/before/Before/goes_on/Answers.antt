@@ -24,6 +24,7 @@ returns-in-Some-clause-done c = λ done.
         none = c.is_empty.ensures.0 c.if-is_empty.true;
         does = record {
           allowed = does.allowed;
+          lets = does.lets;
           put = does.put;
           outlines = does.outlines;
           lines = does.lines;

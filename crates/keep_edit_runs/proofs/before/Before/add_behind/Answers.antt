@@ -1,0 +1,39 @@
+use Rattle.std.proofs.Common.{◌≡◌, ◌∙◌, All, eqb-true, false, subst, sym, true}
+use Rattle.std.specs.Prelude.{◌==◌}
+use Rattle.std.proofs.lemmas.Bool.{and_parts}
+use Rattle.keep_edit_spec.specs.Runs.{IsPlain}
+use Rattle.keep_edit_spec.specs.TextChanges.{TextChange}
+use Rattle.keep_edit_spec.proofs.Shared.{all_with}
+use Rattle.keep_edit_plan.specs.TextEdits.{change_of}
+use Rattle.keep_edit_runs.specs.Runs.{IsKeptBehind}
+use Rattle.keep_edit_runs.proofs.before.Before.add_behind.Goals as goal
+use Rattle.keep_edit_runs.proofs.before.Before.add_behind.Goals.{else-eq, then-eq}
+
+pub returns-then-keep_behind-clause-added : goal.returns-then-keep_behind-clause-added
+returns-then-keep_behind-clause-added c = λ added.
+    let line = c.in-Some.line in
+    let (beside, is) = c.add.ensures.changes added in
+    elim c.if-eq.branch [
+      | then-eq w ↦ record {
+        line = line;
+        alone = c.in-Some.ensures;
+        place = eqb-true line.place.start c.args.place.start
+            (and_parts (line.place.start == c.args.place.start) (line.place.end == c.args.place.end)
+            (sym c.eq.ensures ∙ w.if-eq.true)).0;
+        kept = subst (IsKeptBehind c.args.lines.now c.args.so_far.now.changes c.args.outline c.args.place.start)
+            (sym w.lines-is) (w.keep_behind.ensures (sym w.value-is ∙ c.if-keep_behind.true));
+        beside = beside;
+        changes_are = is;
+      }
+      | else-eq w ↦ absurd
+          (let both : false ≡ true = sym w.if-eq.false ∙ sym w.value-is ∙ c.if-keep_behind.true in cc)
+    ]
+
+pub returns-then-keep_behind-clause-plain : goal.returns-then-keep_behind-clause-plain
+returns-then-keep_behind-clause-plain c = λ added yes.
+    let (before, its) = c.add.ensures.plain added yes in
+    let (beside, is) = c.add.ensures.changes added in (
+      before,
+      λ all. subst (All (λ (d : TextChange). IsPlain d.new)) (sym is)
+          (all_with (λ (d : TextChange). IsPlain d.new) c.args.so_far.now.changes (change_of c.in-Some.line) all its),
+    )

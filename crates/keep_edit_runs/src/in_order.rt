@@ -1,0 +1,89 @@
+//! Edits that are made at once, with the lines that they add in order.
+ghost use Rattle.std.specs.Prelude.{◌≡◌, ◌≤◌, ◌++◌, ◌∷◌, [], All, IfSome, IsTrue, false, true};
+ghost use Rattle.keep_edit_plan.specs.TextEdits.{IsOrdered, change_of};
+ghost use Rattle.keep_edit_runs.specs.Runs.{AddsLineAlone, IsAddedFollowing, IsAddedInOrder};
+ghost use Rattle.keep_edit_spec.specs.Runs.{IsPlain};
+
+use crate::added_lines::AddedLines;
+use crate::at_once::{AtOnce, RunEdit};
+use crate::before::Before;
+use crate::outline::Outline;
+use keep_edit_plan::{Edit, TextEdit};
+use keep_edit_spec::LineKind;
+use keep_syntax::Span;
+
+impl Before<'_> {
+    /// Adds an edit, which has this number in the list, in order with the lines so far: behind all others where its
+    /// change begins; or, if no element went, before a header that comes there, or its line alone behind that of a
+    /// header of its table. Returns whether it was added; if not, no change was.
+    pub(crate) fn add_in_order<'a>(
+        &self,
+        so_far: &mut AtOnce<'a>,
+        lines: &mut AddedLines<'a>,
+        number: usize,
+        edit: &Edit,
+        outline: Outline<'a>,
+        made: RunEdit,
+        is_none_gone: bool,
+    ) -> bool
+        requires { IsOrdered made.change }
+        ensures added { IsTrue result → IsAddedInOrder self.now edit.now lines.old so_far.old.changes outline.entry
+            (change_of made.change) made.line is_none_gone lines.new so_far.new.changes }
+        ensures outlines { IsTrue result
+            → so_far.new.outlines.items ≡ so_far.old.outlines.items ++ outline.entry ∷ [] }
+        ensures plain { IsTrue result → so_far.new.are_plain ≡ true → (so_far.old.are_plain ≡ true)
+            × (All (λ c. IsPlain c.new) so_far.old.changes → All (λ c. IsPlain c.new) so_far.new.changes) }
+        ensures refused { result ≡ false → so_far.new.changes ≡ so_far.old.changes }
+    {
+        let place = made.change.place;
+        if matches!(made.line, Some(LineKind::WithHeader))
+            && lines.brings_table(&outline, place.start)
+        {
+            return is_none_gone && self.add_behind(so_far, lines, number, edit, outline, place);
+        }
+        if lines.come_ahead(&made) {
+            return is_none_gone
+                && lines.keep_ahead(so_far, &outline, &made)
+                && so_far.add_ahead(number, outline, made.change);
+        }
+        lines.keep_line(so_far, &outline, &made) && so_far.add(number, outline, made.change)
+    }
+
+    /// Adds an edit that would bring the header of its table to this place, where that of an earlier one comes: its
+    /// line alone, behind that. Returns whether it was added; if not, no change was.
+    fn add_behind<'a>(
+        &self,
+        so_far: &mut AtOnce<'a>,
+        lines: &mut AddedLines<'a>,
+        number: usize,
+        edit: &Edit,
+        outline: Outline<'a>,
+        place: Span,
+    ) -> bool
+        requires { place.start ≤ place.end }
+        ensures added { IsTrue result → IsAddedFollowing self.now edit.now lines.old so_far.old.changes outline.entry
+            place.start lines.new so_far.new.changes }
+        ensures outlines { IsTrue result
+            → so_far.new.outlines.items ≡ so_far.old.outlines.items ++ outline.entry ∷ [] }
+        ensures plain { IsTrue result → so_far.new.are_plain ≡ true → (so_far.old.are_plain ≡ true)
+            × (All (λ c. IsPlain c.new) so_far.old.changes → All (λ c. IsPlain c.new) so_far.new.changes) }
+        ensures refused { result ≡ false → so_far.new.changes ≡ so_far.old.changes }
+    {
+        let Some(line) = self.line_alone(edit) else {
+            return false;
+        };
+        line.place == place
+            && lines.keep_behind(so_far, &outline, place.start)
+            && so_far.add(number, outline, line)
+    }
+
+    /// The line alone of an insert that would bring the header of its table.
+    fn line_alone(&self, edit: &Edit) -> Option<TextEdit>
+        ensures { IfSome result (AddsLineAlone self.now edit.now) }
+    {
+        let Edit::Insert(path, value) = edit else {
+            return None;
+        };
+        self.as_ref().brought_line(self.alloc(), path, value)
+    }
+}
