@@ -87,4 +87,16 @@ impl Before<'_> {
             _ => false,
         }
     }
+
+    /// Whether an edit appends a table or an element into which the next one inserts a key: not into an element that is
+    /// there already.
+    pub(crate) fn is_filled_next(&self, edit: &Edit, next: Option<&Edit>) -> bool {
+        match next {
+            Some(next @ Edit::Insert(path, _)) => {
+                is_key_below(next, edit)
+                    && self.as_ref().reach(path).steps.saturating_add(1) < path.len()
+            }
+            _ => false,
+        }
+    }
 }

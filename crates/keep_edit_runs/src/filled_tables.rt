@@ -231,11 +231,3 @@ pub fn is_key_below(edit: &Edit, header: &Edit) -> bool {
         _ => false,
     }
 }
-
-/// Whether an edit appends a table or an element into which the next one inserts a key.
-pub fn is_filled(edit: &Edit, next: Option<&Edit>) -> bool {
-    match next {
-        Some(next) => is_key_below(next, edit),
-        None => false,
-    }
-}

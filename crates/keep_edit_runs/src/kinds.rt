@@ -9,7 +9,6 @@ ghost use Rattle.keep_edit_spec.specs.Runs.{IsPlain};
 
 use crate::at_once::{AtOnce, Run, is_plain};
 use crate::before::Before;
-use crate::filled_tables::is_filled;
 use crate::gone::array_of;
 use crate::kinds_run::KindsRun;
 use crate::outline::{Outline, SeenAs};
@@ -58,7 +57,7 @@ impl Before<'_> {
         ensures refused { result ≡ false → run.new.so_far.changes ≡ run.old.so_far.changes }
     {
         let edit = &edits[number];
-        if is_filled(edit, edits.get(number + 1)) {
+        if self.is_filled_next(edit, edits.get(number + 1)) {
             return false;
         }
         let seen = self.seen_among_kinds(edit);

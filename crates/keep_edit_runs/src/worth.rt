@@ -5,7 +5,7 @@ ghost use Rattle.std.specs.Prelude.{◌<◌, ◌≤◌, IfSome, length};
 use crate::alike::{agree, is_same};
 use crate::before::Before;
 use crate::filled::key_after_headers;
-use crate::filled_tables::{is_filled, is_key_below};
+use crate::filled_tables::is_key_below;
 use crate::outline::{SeenAs, Steps};
 use keep_edit_plan::Edit;
 use keep_rules::{Origin, Path, Step};
@@ -108,7 +108,7 @@ impl Before<'_> {
         for number in 0..edits.len().min(FEW) {
             let edit = &edits[number];
             if number > 0
-                && (is_filled(edit, edits.get(number + 1))
+                && (self.is_filled_next(edit, edits.get(number + 1))
                     || self.ends_row(&edits[number - 1], edit, keys))
             {
                 return Some(number);
