@@ -9,16 +9,16 @@
 -- list with one edit more; `none_written`, `next_change`, `one_written`: what is written before the first edit and with
 -- one more; `takes_it`: an edit that replaces the byte before a place; `others_take_not`, `none_takes`, `one_alone`,
 -- `alone_takes`, `all_if_alone`: only one does; `all_further`, `all_changes`, `all_of_one`, `change_at_edit`: what
--- holds of each edit; `has_change`: the change of one; `put_ahead`, `follow_ahead`: one more right before another;
--- `set_in_place`, `set_instead`, `follow_replaced`, `both_same`:
--- one in the place of another.
+-- holds of each edit; `has_change`: the change of one; `put_ahead`, `follow_ahead`: one more ahead of others;
+-- `set_in_place`, `set_instead`, `follow_replaced`, `both_same`: one in the place of another.
 use Rattle.std.proofs.Common.{◌≡◌, ℕ, zero, suc, ◌+◌, ◌-◌, ◌<◌, ◌≤◌, true, false, List, [], ◌∷◌, ◌++◌, length}
 use Rattle.std.proofs.Common.{get_or, take, drop, insert, set, map, slice_range, string_bytes, All, leb}
 use Rattle.std.proofs.Common.{IsUtf8, IsCharBoundary, refl, sym, ap, ◌∙◌, subst, append_assoc, drop-cons, add-one}
 use Rattle.std.proofs.Common.{Bool, Some, not, slice_get}
 use Rattle.std.specs.Prelude.{◌&&◌, ◌||◌}
 use Rattle.std.proofs.Common.{◌==◌, ◌≢◌, nat_lt, arith, leb-true, leb-false, lt-ltb, le-ltb, ltb, ◌⊎◌, inl, inr}
-use Rattle.std.proofs.lemmas.List.{drop-take, get_or-map, get_or_default, length-map, take_more}
+use Rattle.std.proofs.lemmas.List.{drop-take, get_or-drop, get_or-map, get_or-take, get_or_default, length-drop}
+use Rattle.std.proofs.lemmas.List.{length-map, length-take-le, map-append, take-append-drop, take_more}
 use Rattle.std.proofs.lemmas.List.Elements.{All-append, All-cons, All-drop, All-head, All-map, All-nil, All-tail}
 use Rattle.std.proofs.lemmas.List.Elements.{All-take, All-weaker}
 use Rattle.std.proofs.lemmas.List.Folds.{list_any-append}
@@ -176,35 +176,7 @@ insert_change m (t ∷ ts) (suc place) p =
     rw (le-ltb m.place.start t.place.start first)
     (ap (λ (cs : List TextChange). change_of t ∷ cs) (insert_change m ts place rest))
 
--- ---- one more, right before another
-
--- An edit is put before the one with this number.
-pub record IsPutBefore (m : TextEdit) (ts : List TextEdit) (i : ℕ) : Type 0 where
-  pub before : List TextChange
-  pub after : List TextChange
-  pub was : map change_of ts ≡ before ++ change_of (get_or ts i m) ∷ after
-  pub is : map change_of (insert ts i m) ≡ before ++ change_of m ∷ change_of (get_or ts i m) ∷ after
-  pub later : (at : ℕ) → ((k : ℕ) (d : TextEdit) → i < k → k < length ts → at < start_of (get_or ts k d))
-      → All (λ c. at < c.at) after
-
-pub put_before : (m : TextEdit) (ts : List TextEdit) (i : ℕ) → i < length ts → IsPutBefore m ts i
-put_before m [] i low = absurd (omega (arith, low))
-put_before m (t ∷ ts) zero low = record {
-  before = [];
-  after = map change_of ts;
-  was = refl;
-  is = refl;
-  later = λ at h. All-map (λ c. at < c.at) change_of ts (λ k d w. h (suc k) d (omega arith) (omega (arith, w)));
-}
-put_before m (t ∷ ts) (suc i) low =
-    let more : IsPutBefore m ts i = put_before m ts i (omega (arith, low)) in
-    record {
-      before = change_of t ∷ more.before;
-      after = more.after;
-      was = ap (λ (cs : List TextChange). change_of t ∷ cs) more.was;
-      is = ap (λ (cs : List TextChange). change_of t ∷ cs) more.is;
-      later = λ at h. more.later at (λ k d l w. h (suc k) d (omega (arith, l)) (omega (arith, w)));
-    }
+-- ---- one more, ahead of others
 
 follow_before : (from : ℕ) (before after : List TextChange) (c d : TextChange) → d.at ≡ c.at → c.size ≡ 0
     → Follow from (before ++ d ∷ after) → Follow from (before ++ c ∷ d ∷ after)
@@ -213,40 +185,108 @@ follow_before from [] after c d at none (low, rest) =
 follow_before from (x ∷ before) after c d at none (low, rest) =
     (low, follow_before (x.at + x.size) before after c d at none rest)
 
--- An edit that takes nothing comes before the last of those that begin where it does, which takes nothing either.
-module _ (m : TextEdit) (ts : List TextEdit) (place : ℕ) (p : IsPlaceOf m ts place) (some : 0 < place)
-    (h : Follow 0 (map change_of ts)) (none : m.place.start ≡ m.place.end)
-    (start : start_of (get_or ts (place - 1) m) ≡ m.place.start)
+-- An edit that takes nothing comes before the last `count` of those that begin where it does: before the one with the
+-- number `first`, which begins there too. The last of them takes nothing either.
+module _ (m : TextEdit) (ts : List TextEdit) (place : ℕ) (p : IsPlaceOf m ts place) (first count : ℕ)
+    (many : first + count ≡ place) (some : 0 < count) (h : Follow 0 (map change_of ts))
+    (none : m.place.start ≡ m.place.end) (start : start_of (get_or ts first m) ≡ m.place.start)
     (end : (get_or ts (place - 1) m).place.end ≡ m.place.end) where
-  last_before : IsPutBefore m ts (place - 1)
-  last_before = put_before m ts (place - 1) (omega (arith, some, p.within))
+  first_within : first < length ts
+  first_within = omega (arith, many, some, p.within)
+
+  -- All from that one to the last begin there.
+  begins_there : (k : ℕ) (d : TextEdit) → first ≤ k → k < place → start_of (get_or ts k d) ≡ m.place.start
+  begins_there k d low less =
+      omega (
+        arith,
+        ap start_of (get_or_default ts first m d first_within),
+        start,
+        follow_order 0 ts h first k d low (omega (arith, less, p.within)),
+        p.before k d less,
+      )
 
   -- the last of them, whatever stands for one that is not there
   last_end : HasLeft m ts place
   last_end d more =
       subst (λ (t : TextEdit). t.place.end ≤ m.place.start)
-      (get_or_default ts (place - 1) m d (omega (arith, some, p.within))) (omega (arith, end, none))
+      (get_or_default ts (place - 1) m d (omega (arith, more, p.within))) (omega (arith, end, none))
 
   right_end : HasRight m ts place
   right_end d more = omega (arith, none, p.after place d (omega arith) more)
 
-  pub put_ahead : IsPutAhead (map change_of ts) (change_of m) (map change_of (insert ts (place - 1) m))
+  -- the edits that come after it
+  abbrev rest : List TextEdit
+  rest = drop first ts
+
+  -- the changes before it, the `count` behind it, and those that begin later
+  abbrev before : List TextChange
+  before = map change_of (take first ts)
+
+  abbrev behind : List TextChange
+  behind = map change_of (take count rest)
+
+  abbrev after : List TextChange
+  after = map change_of (drop count rest)
+
+  rest_is : map change_of rest ≡ behind ++ after
+  rest_is =
+      ap (map change_of) (sym (take-append-drop count rest)) ∙ map-append change_of (take count rest) (drop count rest)
+
+  all_is : map change_of ts ≡ before ++ map change_of rest
+  all_is = ap (map change_of) (sym (take-append-drop first ts)) ∙ map-append change_of (take first ts) rest
+
+  with_it : map change_of (insert ts first m) ≡ before ++ change_of m ∷ map change_of rest
+  with_it = map-append change_of (take first ts) (m ∷ rest)
+
+  rest_length : length rest ≡ length ts - first
+  rest_length = length-drop first ts
+
+  behind_length : length (take count rest) ≡ count
+  behind_length = length-take-le count rest (omega (arith, rest_length, many, p.within))
+
+  behind_there : All (λ c. c.at ≡ m.place.start) behind
+  behind_there = All-map (λ c. c.at ≡ m.place.start) change_of (take count rest) there
+    where
+      there : (k : ℕ) (d : TextEdit) → k < length (take count rest)
+          → start_of (get_or (take count rest) k d) ≡ m.place.start
+      there k d w =
+          let less : k < count = omega (arith, w, behind_length) in
+          ap start_of (get_or-take count rest k d less ∙ get_or-drop first ts k d)
+          ∙ begins_there (first + k) d (omega arith) (omega (arith, less, many))
+
+  after_later : All (λ c. m.place.start < c.at) after
+  after_later = All-map (λ c. m.place.start < c.at) change_of (drop count rest) later
+    where
+      later : (k : ℕ) (d : TextEdit) → k < length (drop count rest)
+          → m.place.start < start_of (get_or (drop count rest) k d)
+      later k d w =
+          subst (λ (t : TextEdit). m.place.start < start_of t)
+          (sym (get_or-drop count rest k d ∙ get_or-drop first ts (count + k) d))
+          (p.after (first + (count + k)) d (omega (arith, many))
+          (omega (arith, w, length-drop count rest, rest_length)))
+
+  pub put_ahead : IsPutAhead (map change_of ts) (change_of m) count (map change_of (insert ts first m))
   put_ahead = record {
-    before = last_before.before;
-    one = change_of (get_or ts (place - 1) m);
-    after = last_before.after;
-    was = last_before.was;
-    at = start;
-    later = last_before.later m.place.start (λ k d l w. p.after k d (omega (arith, l, some)) w);
-    is = last_before.is;
+    before = before;
+    behind = behind;
+    after = after;
+    was = all_is ∙ ap (λ (cs : List TextChange). before ++ cs) rest_is ∙ sym (append_assoc before behind after);
+    many = length-map (take count rest) change_of ∙ behind_length;
+    at = behind_there;
+    later = after_later;
+    is = with_it ∙ ap (λ (cs : List TextChange). before ++ change_of m ∷ cs) rest_is
+        ∙ sym (append_assoc before (change_of m ∷ behind) after);
     beside = room_beside m ts place p h last_end right_end;
   }
 
-  pub follow_ahead : Follow 0 (map change_of (insert ts (place - 1) m))
+  pub follow_ahead : Follow 0 (map change_of (insert ts first m))
   follow_ahead =
-      subst (Follow 0) (sym last_before.is)
-      (follow_before 0 last_before.before last_before.after (change_of m) (change_of (get_or ts (place - 1) m)) start
-      (omega (arith, none)) (subst (Follow 0) last_before.was h))
+      let one : TextChange = change_of (get_or ts first m) in
+      let later : List TextChange = map change_of (drop (suc first) ts) in
+      let one_on : map change_of rest ≡ one ∷ later = ap (map change_of) (drop-cons ts first m first_within) in
+      subst (Follow 0) (sym (with_it ∙ ap (λ (cs : List TextChange). before ++ change_of m ∷ cs) one_on))
+      (follow_before 0 before later (change_of m) one start (omega (arith, none))
+      (subst (Follow 0) (all_is ∙ ap (λ (cs : List TextChange). before ++ cs) one_on) h))
 
 -- ---- the text, edit by edit
 

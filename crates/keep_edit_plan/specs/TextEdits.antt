@@ -1,6 +1,6 @@
 -- Edits of one text, and what changes of the text they are.
 use Rattle.std.specs.Prelude.{◌≡◌, ◌+◌, ◌-◌, ◌<◌, ◌≤◌, ◌++◌, ◌∷◌, [], ℕ, All, List, None, IsCharBoundary, false, true}
-use Rattle.std.specs.Prelude.{string_bytes}
+use Rattle.std.specs.Prelude.{length, string_bytes}
 use Rattle.keep_syntax.specs.Tree.{Document, Value, text}
 use Rattle.keep_path.specs.Path.{Part}
 use Rattle.keep_meaning.specs.Meaning.{mentions_in}
@@ -55,15 +55,16 @@ pub record IsReplaced (old : List TextChange) (d : TextChange) (new : List TextC
   pub at : gone.at ≡ d.at
   pub size : gone.size ≡ d.size
 
--- the change comes beside all others, right before the last one that begins where it does
-pub record IsPutAhead (old : List TextChange) (c : TextChange) (new : List TextChange) : Type 0 where
+-- the change comes beside all others, right before the last ones that begin where it does, so many
+pub record IsPutAhead (old : List TextChange) (c : TextChange) (count : ℕ) (new : List TextChange) : Type 0 where
   pub before : List TextChange
-  pub one : TextChange
+  pub behind : List TextChange
   pub after : List TextChange
-  pub was : old ≡ before ++ one ∷ after
-  pub at : one.at ≡ c.at
+  pub was : old ≡ before ++ behind ++ after
+  pub many : length behind ≡ count
+  pub at : All (λ d. d.at ≡ c.at) behind
   pub later : All (λ d. c.at < d.at) after
-  pub is : new ≡ before ++ c ∷ one ∷ after
+  pub is : new ≡ before ++ c ∷ behind ++ after
   pub beside : All (λ d. IsBeside d c) old
 
 -- the change d is where c was

@@ -80,14 +80,14 @@ impl TextEdits {
         }
     }
 
-    /// Puts an edit that takes nothing right before the last of those that begin where it does. Returns whether it did:
-    /// not where none begins there, or where that one takes bytes.
+    /// Puts an edit that takes nothing before the last of those that begin where it does, so many. Returns whether it
+    /// did: not where no or fewer edits begin there, or where the last one takes bytes.
     ///
     /// # Errors
     ///
     /// Out of memory. Then nothing has changed.
-    pub fn add_ahead(&mut self, edit: TextEdit) -> Result<bool, AllocError>
-        ensures put { IfOk result (λ done. IsTrue done → IsPutAhead self.old (change_of edit) self.new) }
+    pub fn add_ahead(&mut self, edit: TextEdit, count: usize) -> Result<bool, AllocError>
+        ensures put { IfOk result (λ done. IsTrue done → IsPutAhead self.old (change_of edit) count self.new) }
         ensures other { IfOk result (λ done. done ≡ false → self.new ≡ self.old) }
         ensures refused { OnErr result (self.new ≡ self.old) }
     {
@@ -95,10 +95,14 @@ impl TextEdits {
         let after = self
             .edits
             .partition_point(|there| there.place.start <= start);
-        if start != end || after == 0 || self.edits[after - 1].place != edit.place {
+        if start != end || count == 0 || count > after {
             return Ok(false);
         }
-        match self.edits.insert(after - 1, edit) {
+        let first = after - count;
+        if self.edits[first].place.start != start || self.edits[after - 1].place != edit.place {
+            return Ok(false);
+        }
+        match self.edits.insert(first, edit) {
             Ok(()) => Ok(true),
             Err(_) => Err(AllocError),
         }

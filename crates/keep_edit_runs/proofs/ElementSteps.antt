@@ -9,9 +9,9 @@
 -- element less;
 -- `among_made`, `among_within`: so all are made.
 use Rattle.std.proofs.Common.{◌≡◌, ◌≢◌, ◌<◌, ◌∷◌, ◌++◌, [], ℕ, suc, List, length, take, get_or, refl, sym, ap, subst}
-use Rattle.std.proofs.Common.{subst₂, ◌∙◌, All, IsUtf8, inl, inr}
+use Rattle.std.proofs.Common.{subst₂, ◌∙◌, arith, All, IsUtf8, inl, inr}
 use Rattle.std.specs.Prelude.{◌⊎◌, None, Option, Some, false, true}
-use Rattle.std.proofs.lemmas.List.Folds.{list_any_none}
+use Rattle.std.specs.List.{count_by}
 use Rattle.std.proofs.lemmas.List.Elements.{All-cons, All-nil, All-push, All-weaker}
 use Rattle.std.proofs.lemmas.Str.{IsUtf8-string_bytes}
 use Rattle.keep_types.specs.declared.leaf.Profile.{Profile}
@@ -46,9 +46,9 @@ use Rattle.keep_edit_runs.specs.declared.gone_between.GoneBetween.{GoneBetween}
 use Rattle.keep_edit_runs.specs.declared.outline.Outline.{Outline}
 use Rattle.keep_edit_spec.proofs.Shared.{element_run_goes_on, element_run_goes_on_by_entry}
 use Rattle.keep_edit_runs.proofs.ElementsGone.{in_none, none_gone_to, of_one, one_element_less, plain_elsewhere}
-use Rattle.keep_edit_runs.proofs.RunSteps.{AreMadeTo, IsPlaced, change_made, headers_with, known_with, more_changes}
-use Rattle.keep_edit_runs.proofs.RunSteps.{order}
-use Rattle.keep_edit_runs.proofs.RunSteps.{parts, passes, plain_alone, plain_header, plain_insert, tree_made}
+use Rattle.keep_edit_runs.proofs.RunSteps.{AreMadeTo, IsPlaced, before_headers, change_made, counted_more, headers_with}
+use Rattle.keep_edit_runs.proofs.RunSteps.{known_with, more_changes, one_if, order, parts, passes, plain_alone}
+use Rattle.keep_edit_runs.proofs.RunSteps.{plain_header, plain_insert, tree_made}
 
 -- So far these changes are made, and the edits up to number `end` are made by them, which have these outlines, and
 -- whose lines and headers are known, or removed elements of these arrays. If none is gone, they are made at once as any
@@ -145,8 +145,9 @@ module _ (s : Document) (edits : List Edit) (n : ℕ) (old now : ProfiledText) (
     (here : get_or edits n d ≡ x) (o : Outline) (e a : law.Edit) (given : IsEdit x e) (plain_is : plain a ≡ outlined o)
     (c : TextChange) (line : Option LineKind) (makes : MakesInRun now.profile before e a c line)
     (others_alone : All (λ y. LeavesAlone y o) outlines) (away : All (λ array. IsElsewhere array (outlined o)) arrays)
-    (beside : All (λ b. IsBeside b c) changes) (placed : IsPlacedAmong outlines now.text changes o c.at)
+    (beside : All (λ b. IsBeside b c) changes) (placed : IsPlacedAmong now.text changes o c.at)
     (kept : IsLineKept adds changes o c.at line next_adds)
+    (ends : (kind : LineKind) → line ≡ Some kind → (c.at ≢ length now.text) ⊎ (adds.appended ≡ 0))
     (utf8 : All (λ b. IsUtf8 b.new) (with_change changes c))
     (within : All (IsChangeIn now.text) (with_change changes c)) where
   abbrev t : Document
@@ -183,15 +184,12 @@ module _ (s : Document) (edits : List Edit) (n : ℕ) (old now : ProfiledText) (
   keeps is of =
       by e is of (ap runs.is_insert (sym plain_is) ∙ plain_insert a) (ap runs.is_header (sym plain_is) ∙ plain_header a)
     where
-      before_headers : (All (λ y. runs.is_header (outlined y) ≡ false) outlines ⊎ (c.at ≢ length now.text))
-          → IsBeforeHeaders now.text h.es c.at
-      before_headers (inl none) = inl (list_any_none runs.is_header h.es (h.headless none))
-      before_headers (inr other) = inr other
-
-      comes : runs.is_insert (outlined o) ≡ true → Comes (text before)
-      comes is_one =
-          let (plain_all, (come, ends)) = placed.insert is_one in
-          subst Comes read.reads.spelled (plain_all, (come, before_headers ends))
+      comes : (kind : LineKind) → line ≡ Some kind → runs.is_insert (outlined o) ≡ true → Comes (text before)
+      comes kind is_line is_one =
+          let (plain_all, come) = placed.insert is_one in
+          let ahead : IsBeforeHeaders now.text h.es c.at =
+          before_headers now.text h.es c.at adds h.counted (ends kind is_line) in
+          subst Comes read.reads.spelled (plain_all, (come, ahead))
 
       headed : runs.is_header (outlined o) ≡ true → IsPlainBefore (text before) changes c.at
       headed head =
@@ -201,7 +199,7 @@ module _ (s : Document) (edits : List Edit) (n : ℕ) (old now : ProfiledText) (
           → runs.is_insert (outlined o) ≡ runs.is_insert a → runs.is_header (outlined o) ≡ runs.is_header a
           → KeepsPlaceAmong before h.es changes h.lines f c
       by (law.insert p v) same of insert header =
-          (in_order p v same of, comes (insert ∙ ap runs.is_insert same))
+          (in_order p v same of, comes (kind_of before p) of (insert ∙ ap runs.is_insert same))
       by (law.remove p) same of insert header = tt
       by (law.set p v) same of insert header = tt
       by (law.rename p name) same of insert header = tt
@@ -225,6 +223,20 @@ module _ (s : Document) (edits : List Edit) (n : ℕ) (old now : ProfiledText) (
       tree_made s edits n old now before changes read h.made d x lt here e given c h.run.text longer.run.text
       longer.run.follow longer.allowed longer.lawful utf8 within
 
+  -- a header that it appends is counted
+  counted : count_by runs.is_header (a ∷ h.es) ≡ next_adds.appended
+  counted =
+      let alike : runs.is_header a ≡ runs.is_header (outlined o) =
+      sym (plain_header a) ∙ ap runs.is_header plain_is in
+      omega (
+        arith,
+        counted_more runs.is_header a h.es,
+        counted_more runs.is_header (outlined o) [],
+        ap one_if alike,
+        h.counted,
+        kept.counts.appended,
+      )
+
   one_more_among : IsElementRunTo s edits (suc n) old now before (outlines ++ o ∷ []) (with_change changes c) next_adds
       arrays gone
   one_more_among = record {
@@ -237,16 +249,13 @@ module _ (s : Document) (edits : List Edit) (n : ℕ) (old now : ProfiledText) (
         All-cons (λ g. runs.LeavesAlone g f) a h.es
         (plain_alone a f (subst (λ (g : law.Edit). runs.LeavesAlone g (plain f)) (sym plain_is) its))
         (h.alone f all_before);
-    headless = λ all.
-        let (all_before, its) = parts (λ y. runs.is_header (outlined y) ≡ false) outlines o all in
-        All-cons (λ g. runs.is_header g ≡ false) a h.es
-        (sym (plain_header a) ∙ ap runs.is_header plain_is ∙ its) (h.headless all_before);
     elsewhere = λ path all.
         let (all_before, its) = parts (λ y. IsElsewhere path (outlined y)) outlines o all in
         All-cons (IsElsewhere path) a h.es
         (plain_elsewhere path a (subst (IsElsewhere path) (sym plain_is) its)) (h.elsewhere path all_before);
     known = known_with before h.es changes h.lines adds next_adds o a plain_is c line kept h.headers_known h.known
         longer.edit longer.seen_is longer.of;
+    counted = counted;
     headers_known = headers_with before h.es changes h.lines adds next_adds o a plain_is c line kept h.headers_known
         h.known;
     of_arrays = h.of_arrays;
@@ -259,7 +268,7 @@ module _ (s : Document) (edits : List Edit) (n : ℕ) (old now : ProfiledText) (
 
 -- as it is placed among others between which elements go, it is placed among those between which none does
 pub placed_too : (outlines : List Outline) (bytes : List ℕ) (changes : List TextChange) (x : Outline) (at : ℕ)
-    → IsPlacedAmong outlines bytes changes x at → IsPlaced outlines bytes changes x at
+    → IsPlacedAmong bytes changes x at → IsPlaced outlines bytes changes x at
 placed_too outlines bytes changes x at h =
     record { insert = λ is. inr (h.insert is); header = λ is. inr (h.header is) }
 
@@ -269,24 +278,25 @@ pub more_among : (edits : List Edit) (first end : ℕ) (now : ProfiledText) (out
     → AreMadeAmong edits first end now outlines changes adds gone → end < length edits → get_or edits end d ≡ x
     → MakesInRunHere now x (outlined o) t line → All (λ y. LeavesAlone y o) outlines
     → All (λ array. IsElsewhere array (outlined o)) gone.arrays.items
-    → All (λ b. IsBeside b (change_of t)) changes → IsPlacedAmong outlines now.text changes o (change_of t).at
+    → All (λ b. IsBeside b (change_of t)) changes → IsPlacedAmong now.text changes o (change_of t).at
     → IsLineKept adds changes o (change_of t).at line next
+    → ((kind : LineKind) → line ≡ Some kind → ((change_of t).at ≢ length now.text) ⊎ (adds.appended ≡ 0))
     → AreMadeAmong edits first (suc end) now (outlines ++ o ∷ []) (with_change changes (change_of t)) next gone
 more_among edits first end now outlines changes adds next gone d x o t line so_far lt here makes alone away beside
-    placed kept =
+    placed kept ends =
     let c : TextChange = change_of t in
     let utf8 = all_with (λ b. IsUtf8 b.new) changes c so_far.utf8 (IsUtf8-string_bytes t.new) in
     let within = all_with (IsChangeIn now.text) changes c so_far.within (change_in now.text t makes.within) in
     record {
       made = λ s old h. one_more_among s edits end old now h.tree outlines changes adds next gone.arrays.items
           gone.elements h.read (so_far.made s old h) d x lt here o makes.edit (makes.in_run h.tree) makes.is
-          (makes.outline_is h.tree h.read) c line (makes.makes h.tree h.read) alone away beside placed kept utf8
-          within;
+          (makes.outline_is h.tree h.read) c line (makes.makes h.tree h.read) alone away beside placed kept ends
+          utf8 within;
       none = λ empty.
           let (same, all) = so_far.none empty in (
             same,
             more_changes edits first end now outlines changes adds next d x o t line all lt here makes alone beside
-                (placed_too outlines now.text changes o c.at placed) kept,
+                (placed_too outlines now.text changes o c.at placed) kept ends,
           );
       elsewhere = λ k array less.
           let array_there : List Part = get_or gone.arrays.items k array in

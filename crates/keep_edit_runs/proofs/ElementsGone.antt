@@ -126,9 +126,9 @@ module _ (s : Document) (edits : List Edit) (n : ℕ) (old now : ProfiledText) (
     lines = lines;
     paths = [];
     alone = h.alone;
-    headless = h.headless;
     elsewhere = away;
     known = h.lines;
+    counted = h.counts.appended;
     headers_known = h.headers_known;
     of_arrays = All-nil (λ path. HasArray gone.arrays.items (changed_path path));
     leads = λ q. ap (λ (paths : List (List Part)). first_path paths q) (sym same);
@@ -176,9 +176,9 @@ module _ (s : Document) (edits : List Edit) (n : ℕ) (old now : ProfiledText) (
     lines = h.lines;
     paths = h.paths ++ path ∷ [];
     alone = h.alone;
-    headless = h.headless;
     elsewhere = h.elsewhere;
     known = h.known;
+    counted = h.counted;
     headers_known = h.headers_known;
     of_arrays = All-push (λ q. HasArray next_arrays (changed_path q)) h.paths path
         (All-weaker (λ q. HasArray arrays (changed_path q)) (λ q. HasArray next_arrays (changed_path q))

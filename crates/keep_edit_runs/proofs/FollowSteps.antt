@@ -7,9 +7,9 @@
 -- Theorem: `more_following`.
 use Rattle.std.proofs.Common.{◌≡◌, ◌≢◌, ◌<◌, ◌∷◌, ◌++◌, [], ℕ, suc, List, take, length, get_or, refl, sym}
 use Rattle.std.proofs.Common.{ap, subst, ◌∙◌, All, IsUtf8, inl, inr, None, Option, Some, false, map, true}
-use Rattle.std.specs.Prelude.{◌⊎◌, Any, IsTrue}
+use Rattle.std.proofs.Common.{arith}
+use Rattle.std.specs.Prelude.{◌⊎◌, ◌==◌, ◌&&◌, ◌+◌, Any, Bool, IsTrue}
 use Rattle.std.specs.List.{list_any}
-use Rattle.std.proofs.lemmas.List.Folds.{list_any_none}
 use Rattle.std.proofs.lemmas.List.Elements.{All-cons, All-weaker}
 use Rattle.std.proofs.lemmas.Str.{IsUtf8-string_bytes}
 use Rattle.keep_syntax.specs.Tree.{Document, Value, text}
@@ -17,7 +17,9 @@ use Rattle.keep_path.specs.Path.{Part, key, without_last}
 use Rattle.keep_meaning.specs.Meaning.{mentions_in}
 use Rattle.keep_edit_spec.specs.AddedLines.{first_new}
 use Rattle.keep_edit_spec.specs.BroughtHeaders.{BringsLine}
-use Rattle.keep_edit_spec.specs.InsertKinds.{Added, IsHeaderAt, added_as, kind_of, table_of}
+use Rattle.keep_edit_spec.specs.InsertKinds.{Added, IsHeaderAt, added_as, has_header, is_last_in_body, kind_of}
+use Rattle.keep_edit_spec.specs.InsertKinds.{table_of}
+use Rattle.keep_edit_spec.specs.LinesAhead.{is_end_at, is_headed_at}
 use Rattle.keep_edit_spec.specs.declared.line_kind.LineKind.TheVariants.{LastInBody, OfDotted, WithHeader}
 use Rattle.keep_edit_spec.specs.Edits as law
 use Rattle.keep_edit_spec.specs.Edits.{edited_document}
@@ -38,8 +40,8 @@ use Rattle.keep_edit_plan.specs.TextEdits.{IsChangeIn, change_of}
 use Rattle.keep_edit_plan.specs.declared.edit.Edit.{Edit}
 use Rattle.keep_edit_plan.specs.declared.edit.Edit.TheVariants as edit
 use Rattle.keep_edit_plan.specs.declared.text_edit.TextEdit.{TextEdit}
-use Rattle.keep_edit_runs.specs.AddedLines.{HasTable, IsFollowed, IsHeaderKnown, IsKnownAs, IsKnownAt}
-use Rattle.keep_edit_runs.specs.AddedLines.{brought_at}
+use Rattle.keep_edit_runs.specs.AddedLines.{HasTable, IsCounted, IsHeaderKnown, IsKnownAs, IsKnownAt, brought_at}
+use Rattle.keep_edit_runs.specs.Counts.{count_at}
 use Rattle.keep_edit_runs.specs.Lists.{AreMade, IsEdit}
 use Rattle.keep_edit_runs.specs.Runs.{IsAddedFollowing, IsKeptBehind, IsRenamedBy, IsRunTo, IsSetBy, LeavesAlone}
 use Rattle.keep_edit_runs.specs.Runs.{MakesInRun, MakesInRunHere, changed_text, no_value, outlined, plain}
@@ -47,9 +49,9 @@ use Rattle.keep_edit_runs.specs.SeenHeaders.{HasTableOf}
 use Rattle.keep_edit_runs.specs.declared.added_lines.AddedLines.{AddedLines}
 use Rattle.keep_edit_runs.specs.declared.outline.Outline.{Outline}
 use Rattle.keep_edit_runs.proofs.LineLaws.{with_header}
-use Rattle.keep_edit_runs.proofs.RunSteps.{AreMadeTo, IsPlaced, MakesOrFollows, any_later, change_made, one_or_more}
-use Rattle.keep_edit_runs.proofs.RunSteps.{parts, plain_allows, plain_alone, plain_header, plain_insert, plain_known}
-use Rattle.keep_edit_runs.proofs.RunSteps.{run_so_far, still_follows, tree_of_run}
+use Rattle.keep_edit_runs.proofs.RunSteps.{AreMadeTo, IsPlaced, any_later, before_headers, change_made, counted_more}
+use Rattle.keep_edit_runs.proofs.RunSteps.{one_if, one_or_more, parts, plain_allows, plain_alone, plain_header}
+use Rattle.keep_edit_runs.proofs.RunSteps.{plain_insert, plain_known, run_so_far, tree_of_run}
 
 -- what a path begins with up to one step more than another, with which it begins
 first_steps_are : (a : List Part) (k : Part) (ks : List Part) → take (suc (length a)) (a ++ k ∷ ks) ≡ a ++ k ∷ []
@@ -184,20 +186,16 @@ module _ (s : Document) (edits : List Edit) (n : ℕ) (old now : ProfiledText) (
   )
     where
       alike : All (λ y. runs.is_insert (outlined y) ≡ true) outlines
-          ⊎ (ArePlain now.text changes × (All (LetsCome now.text changes c.at) changes
-          × (All (λ y. runs.is_header (outlined y) ≡ false) outlines ⊎ (c.at ≢ length now.text))))
+          ⊎ (ArePlain now.text changes × All (LetsCome now.text changes c.at) changes)
           → All (λ f. IsTrue (runs.is_insert f)) es
           ⊎ (ArePlain (text before) (changes_of h.ms) × IsBeforeHeaders (text before) es t.at)
       alike (inl all) = inl (h.inserts all)
-      alike (inr (plain_all, (come, ends))) = inr (
+      alike (inr (plain_all, come)) = inr (
         subst (λ (bytes : List ℕ). ArePlain bytes (changes_of h.ms)) read.reads.spelled
             (subst (ArePlain now.text) (sym h.changes_are) plain_all),
         subst (λ (i : ℕ). IsBeforeHeaders (text before) es i) (sym at_is)
             (subst (λ (bytes : List ℕ). IsBeforeHeaders bytes es c.at) read.reads.spelled
-            (elim ends [
-              | inl none ↦ inl (list_any_none runs.is_header es (h.headless none))
-              | inr other ↦ inr other
-            ])),
+            (before_headers now.text es c.at adds h.counts.appended it.ends)),
       )
 
   longer : IsRunLonger now.profile limit before es (changes_of h.ms) (lines_of before h.ms) (document_after before h.ms)
@@ -262,14 +260,17 @@ module _ (s : Document) (edits : List Edit) (n : ℕ) (old now : ProfiledText) (
     | inr its ↦ (let never : law.insert kept.of.first no_value ≡ law.rename q name = sym kept.of.is ∙ its in absurd cc)
   ]
 
-  -- all but where lines come behind headers is as it was
-  as_before : (P : AddedLines → Type 0) → P (record adds { followed = next_adds.followed }) → P next_adds
+  -- all but how many lines come with headers and behind them is as it was
+  abbrev one_behind : AddedLines
+  one_behind = record adds { headed = next_adds.headed; has_follower = true }
+
+  as_before : (P : AddedLines → Type 0) → P one_behind → P next_adds
   as_before P = subst P (sym kept.rest)
 
   still_known : (l : Added) → IsKnownAt adds l → IsKnownAt next_adds l
   still_known l known = as_before (λ (next : AddedLines). IsKnownAt next l) (by l.kind known)
     where
-      by : (k : LineKind) → IsKnownAs k adds l → IsKnownAs k (record adds { followed = next_adds.followed }) l
+      by : (k : LineKind) → IsKnownAs k adds l → IsKnownAs k one_behind l
       by LastInBody is = is
       by OfDotted is = is
       by WithHeader is = is
@@ -285,6 +286,40 @@ module _ (s : Document) (edits : List Edit) (n : ℕ) (old now : ProfiledText) (
         (subst (HasTable adds) header.table has, subst (HasTableOf adds.headers) header.table of),
       ) in
       still_known its_line (subst (λ (k : LineKind). IsKnownAs k adds its_line) (sym kind) there)
+
+  -- and counted with those that come there
+  line_counted : IsCounted next_adds (lines_of before ms) (seen_of before ms)
+  line_counted = record {
+    ends = λ i.
+        let its : one_if ((t.at == i) && is_last_in_body its_line.kind) ≡ 0 =
+        subst (λ (k : LineKind). one_if ((t.at == i) && is_last_in_body k) ≡ 0) (sym kind) (no_end (t.at == i)) in
+        let same : count_at next_adds.ends i ≡ count_at adds.ends i =
+        as_before (λ (next : AddedLines). count_at next.ends i ≡ count_at adds.ends i) refl in
+        omega (arith, counted_more (is_end_at i) its_line (lines_of before h.ms), its, h.counts.ends i, same);
+    headed = λ i.
+        let its : one_if ((t.at == i) && has_header its_line.kind) ≡ one_if (c.at == i) =
+        subst (λ (k : LineKind). one_if ((t.at == i) && has_header k) ≡ one_if (c.at == i)) (sym kind)
+        (subst (λ (at : ℕ). one_if ((at == i) && true) ≡ one_if (c.at == i)) (sym at_is) (one_there (c.at == i))) in
+        omega (
+          arith,
+          counted_more (is_headed_at i) its_line (lines_of before h.ms),
+          its,
+          h.counts.headed i,
+          kept.one i,
+        );
+    appended =
+        let same : next_adds.appended ≡ adds.appended =
+        as_before (λ (next : AddedLines). next.appended ≡ adds.appended) refl in
+        omega (arith, counted_more runs.is_header (runs.seen before own) es, h.counts.appended, same);
+  }
+    where
+      no_end : (b : Bool) → one_if (b && false) ≡ 0
+      no_end true = refl
+      no_end false = refl
+
+      one_there : (b : Bool) → one_if (b && true) ≡ one_if b
+      one_there true = refl
+      one_there false = refl
 
   pub made_following : IsRunTo s edits (suc n) old now before (outlines ++ o ∷ []) (with_change changes t) next_adds
   made_following = record {
@@ -303,10 +338,6 @@ module _ (s : Document) (edits : List Edit) (n : ℕ) (old now : ProfiledText) (
         let (all_before, its) = parts (λ y. runs.is_header (outlined y) ≡ true) outlines o all in
         all_of (λ g. IsTrue (runs.is_header g))
         (sym (plain_header a) ∙ ap runs.is_header plain_is ∙ its) (h.headers all_before);
-    headless = λ all.
-        let (all_before, its) = parts (λ y. runs.is_header (outlined y) ≡ false) outlines o all in
-        all_of (λ g. runs.is_header g ≡ false)
-        (sym (plain_header a) ∙ ap runs.is_header plain_is ∙ its) (h.headless all_before);
     sets = set_in;
     renames = rename_in;
     allow = λ q name all.
@@ -315,10 +346,10 @@ module _ (s : Document) (edits : List Edit) (n : ℕ) (old now : ProfiledText) (
         (plain_allows q name a (subst (AllowsKey q name) (sym plain_is) its)) (h.allow q name all_before);
     lines = All-cons (IsKnownAt next_adds) its_line (lines_of before h.ms) line_known
         (All-weaker (IsKnownAt adds) (IsKnownAt next_adds) still_known (lines_of before h.ms) h.lines);
-    followed = All-cons (MakesOrFollows now before next_adds) (made own t) h.ms
-        (inr (subst (IsFollowed next_adds) (sym at_is) kept.here))
-        (All-weaker (MakesOrFollows now before adds) (MakesOrFollows now before next_adds)
-        (still_follows now before adds next_adds kept.more) h.ms h.followed);
+    counts = line_counted;
+    followed = λ none. absurd
+        (let follows : next_adds.has_follower ≡ true =
+        as_before (λ (next : AddedLines). next.has_follower ≡ true) refl in cc);
     headed = λ i table there. any_later (IsHeaderAt i) its_line (lines_of before h.ms)
         (h.headed i table (subst (λ (next : AddedLines). brought_at next i ≡ Some table) kept.rest there));
     headers_known = all_of (IsHeaderKnown next_adds)
@@ -334,7 +365,7 @@ module _ (s : Document) (edits : List Edit) (n : ℕ) (old now : ProfiledText) (
       headers_still f known = as_before (λ (next : AddedLines). IsHeaderKnown next f) (by f known)
         where
           by : (g : law.Edit) → IsHeaderKnown adds g
-              → IsHeaderKnown (record adds { followed = next_adds.followed }) g
+              → IsHeaderKnown one_behind g
           by (law.append_table ks) is = is
           by (law.append_element ks) is = is
           by (law.insert p v) is = tt

@@ -10,7 +10,7 @@
 use Rattle.std.proofs.Common.{◌≡◌, ◌<◌, ◌∷◌, ◌++◌, [], ℕ, suc, List, take, length, get_or, string_bytes, refl, sym}
 use Rattle.std.proofs.Common.{ap, subst, ◌∙◌, All, IsUtf8, inl, inr, None, false, true}
 use Rattle.std.specs.Prelude.{◌⊎◌, Any, IsTrue}
-use Rattle.std.proofs.lemmas.List.Elements.{All-cons, All-head, All-tail, All-weaker}
+use Rattle.std.proofs.lemmas.List.Elements.{All-cons, All-head, All-tail}
 use Rattle.std.proofs.lemmas.Str.{IsUtf8-string_bytes}
 use Rattle.keep_types.specs.declared.leaf.Profile.TheVariants.{Wide}
 use Rattle.keep_syntax.specs.Tree.{Document, Value, text}
@@ -39,15 +39,15 @@ use Rattle.keep_edit_plan.specs.declared.edit.Edit.TheVariants as edit
 use Rattle.keep_edit_plan.specs.declared.text_edit.TextEdit.{TextEdit}
 use Rattle.keep_edit_runs.specs.Again.{InsertsAgainHere}
 use Rattle.keep_edit_plan.specs.Answers.{IsSpanOf}
-use Rattle.keep_edit_runs.specs.AddedLines.{IsFollowed, IsHeaderKnown, IsKnownAt}
+use Rattle.keep_edit_runs.specs.AddedLines.{IsHeaderKnown, IsKnownAt}
 use Rattle.keep_edit_runs.specs.Lists.{AreMade, IsEdit}
 use Rattle.keep_edit_plan.specs.Reading.{IsAcceptedValue, IsTextOfTree, IsTextOfValue, ProfiledText, limit}
 use Rattle.keep_edit_runs.specs.Runs.{IsRunTo, changed_text, outlined}
 use Rattle.keep_edit_runs.specs.declared.added_lines.AddedLines.{AddedLines}
 use Rattle.keep_edit_runs.specs.declared.outline.Outline.{Outline}
 use Rattle.keep_edit_runs.proofs.MadeMore.{more_made}
-use Rattle.keep_edit_runs.proofs.RunSteps.{AreMadeTo, MakesOrFollows, run_so_far, text_utf8, tree_of_run}
-use Rattle.keep_edit_runs.proofs.SetAgainSteps.{all_but}
+use Rattle.keep_edit_runs.proofs.RunSteps.{AreMadeTo, run_so_far, text_utf8, tree_of_run}
+use Rattle.keep_edit_runs.proofs.SetAgainSteps.{all_but, counted_too, headers_apart, headers_in}
 
 -- ---- the edits in the list
 
@@ -102,7 +102,7 @@ module _ (s : Document) (edits : List Edit) (n : ℕ) (old now : ProfiledText) (
     (outlines : List Outline) (changes new : List TextChange) (adds : AddedLines) (read : IsTextOfTree now before)
     (h : IsRunTo s edits n old now before outlines changes adds) (d x : Edit) (lt : n < length edits)
     (here : get_or edits n d ≡ x) (was t : TextEdit) (again : InsertsAgainHere now x was t)
-    (alike : IsAlike outlines t) (unfollowed : (i : ℕ) → ¬ IsFollowed adds i)
+    (alike : IsAlike outlines t) (unfollowed : adds.has_follower ≡ false)
     (replaced : HasInstead changes (change_of was) (change_of t) new)
     (utf8 : All (λ b. IsUtf8 b.new) new) (within : All (IsChangeIn now.text) new) where
   abbrev e : law.Edit
@@ -112,20 +112,13 @@ module _ (s : Document) (edits : List Edit) (n : ℕ) (old now : ProfiledText) (
   plain (inl line) = inl line
   plain (inr all) = inr (h.inserts all)
 
-  -- no edit follows a header
-  makes_own : (m : MadeEdit) → MakesOrFollows now before adds m
-      → MakesChange now.profile limit before m.edit m.change
-  makes_own m (inl makes) = makes
-  makes_own m (inr follows) = absurd (unfollowed m.change.at follows)
-
   r : IsRunInsertedAgain now.profile limit before h.ms again.path again.more replaced.before (change_of was)
       (change_of t) replaced.after
   r =
       run_goes_on_inserted now.profile limit before h.ms again.path again.value again.more again.kind replaced.before
       (change_of was) (change_of t) replaced.after (editable now before read) h.at_once
-      (All-weaker (MakesOrFollows now before adds) (λ m. MakesChange now.profile limit before m.edit m.change)
-      (λ m. makes_own m) h.ms h.followed) (again.added before read)
-      (h.changes_are ∙ replaced.was) (again.adds before read) (plain alike)
+      (h.followed unfollowed) (again.added before read) (h.changes_are ∙ replaced.was) (again.adds before read)
+      (plain alike)
 
   abbrev ms : List MadeEdit
   ms = r.others
@@ -218,6 +211,14 @@ module _ (s : Document) (edits : List Edit) (n : ℕ) (old now : ProfiledText) (
       r.exchanged.earlier
       ∙ ap (lines_of before) (sym r.exchanged.other)
 
+  -- neither insert appends a header
+  headers_same : headers_in before h.ms ≡ headers_in before ms
+  headers_same =
+      ap (headers_in before) r.exchanged.all
+      ∙ headers_apart before first r.exchanged.later r.exchanged.earlier refl
+      ∙ sym (headers_apart before one r.exchanged.later r.exchanged.earlier refl)
+      ∙ ap (headers_in before) (sym r.exchanged.other)
+
   pub made_again : IsRunTo s edits (suc n) old now before outlines new adds
   made_again = record {
     made = all_made;
@@ -226,15 +227,17 @@ module _ (s : Document) (edits : List Edit) (n : ℕ) (old now : ProfiledText) (
         all_again (λ g. runs.LeavesAlone g f) (insert_alone first_key r.value again.more f) (h.alone f all);
     inserts = λ all. all_again (λ g. IsTrue (runs.is_insert g)) (λ its. its) (h.inserts all);
     headers = λ all. all_again (λ g. IsTrue (runs.is_header g)) (λ its. its) (h.headers all);
-    headless = λ all. all_again (λ g. runs.is_header g ≡ false) (λ its. its) (h.headless all);
     sets = λ q any. set_in q (h.sets q any);
     renames = λ q name any. rename_in q (h.renames q name any);
     allow = λ q name all. all_again (AllowsKey q name) (λ its. its) (h.allow q name all);
     lines = subst (All (IsKnownAt adds)) lines_same h.lines;
-    followed = subst (All (MakesOrFollows now before adds)) (sym r.exchanged.other)
-        (with_one (MakesOrFollows now before adds) first one r.exchanged.later r.exchanged.earlier
-        (inl (again.kind, again.adds before read))
-        (subst (All (MakesOrFollows now before adds)) r.exchanged.all h.followed));
+    counts = counted_too adds (lines_of before h.ms) (lines_of before ms) (seen_of before h.ms) (seen_of before ms)
+        lines_same headers_same h.counts;
+    followed = λ none.
+        subst (All (λ m. MakesChange now.profile limit before m.edit m.change)) (sym r.exchanged.other)
+        (with_one (λ m. MakesChange now.profile limit before m.edit m.change) first one r.exchanged.later
+        r.exchanged.earlier (again.kind, again.adds before read)
+        (subst (All (λ m. MakesChange now.profile limit before m.edit m.change)) r.exchanged.all (h.followed none)));
     headed = λ i table there. subst (Any (IsHeaderAt i)) lines_same (h.headed i table there);
     headers_known = all_again (IsHeaderKnown adds) (λ its. its) h.headers_known;
     at_once = r.still;
@@ -269,7 +272,7 @@ line_here now x path given value was t kind is added (v, given_is) adds (w, valu
 pub inserted_again : (edits : List Edit) (first end : ℕ) (now : ProfiledText) (outlines : List Outline)
     (changes new : List TextChange) (adds : AddedLines) (d x : Edit) (was t : TextEdit)
     → AreMadeTo edits first end now outlines changes adds → end < length edits → get_or edits end d ≡ x
-    → InsertsAgainHere now x was t → IsAlike outlines t → ((i : ℕ) → ¬ IsFollowed adds i)
+    → InsertsAgainHere now x was t → IsAlike outlines t → adds.has_follower ≡ false
     → HasInstead changes (change_of was) (change_of t) new
     → AreMadeTo edits first (suc end) now outlines new adds
 inserted_again edits first end now outlines changes new adds d x was t so_far lt here again alike unfollowed replaced =

@@ -4,8 +4,7 @@
 -- Paths are added only for edits of the kind of the first one (`of_kind`).
 --
 -- Theorems: `placed_of_kind`, `placed_plain`.
-use Rattle.std.proofs.Common.{◌≡◌, ◌≢◌, ℕ, Bool, true, false, List, length, All, refl, sym, ◌∙◌, inl, inr}
-use Rattle.std.specs.Prelude.{◌⊎◌}
+use Rattle.std.proofs.Common.{◌≡◌, ℕ, Bool, true, false, List, All, refl, sym, ◌∙◌, inl}
 use Rattle.std.proofs.lemmas.List.Elements.{All-weaker}
 use Rattle.std.proofs.lemmas.Bool.{or_parts}
 use Rattle.keep_edit_spec.specs.Runs as runs
@@ -78,21 +77,12 @@ placed_of_kind seen outlines bytes changes x at all h = record {
 }
 
 -- where it writes none, or all is plain and its place is kept
-pub placed_plain : (outlines : List Outline) (bytes : List ℕ) (changes : List TextChange) (x : Outline) (at : ℕ)
-    (headers writes : Bool) → (headers ≡ false → All (λ y. runs.is_header (outlined y) ≡ false) outlines)
-    → writes ≡ writes_anew x → (writes ≡ true → ArePlain bytes changes × IsPlaceKept bytes changes x at headers)
-    → IsPlacedAmong outlines bytes changes x at
-placed_plain outlines bytes changes x at headers false headless is h =
+pub placed_plain : (bytes : List ℕ) (changes : List TextChange) (x : Outline) (at : ℕ) (writes : Bool)
+    → writes ≡ writes_anew x → (writes ≡ true → ArePlain bytes changes × IsPlaceKept bytes changes x at)
+    → IsPlacedAmong bytes changes x at
+placed_plain bytes changes x at false is h =
     let none = or_parts (runs.is_insert (outlined x)) (runs.is_header (outlined x)) (sym is) in
     record { insert = λ yes. absurd cc; header = λ yes. absurd cc }
-placed_plain outlines bytes changes x at headers true headless is h =
+placed_plain bytes changes x at true is h =
     let (plain, kept) = h refl in
-    record {
-      insert = λ yes. (plain, ((kept.line yes).0, ends (kept.line yes).1));
-      header = λ yes. (plain, kept.header yes);
-    }
-  where
-    ends : (headers ≡ false) ⊎ (at ≢ length bytes)
-        → All (λ y. runs.is_header (outlined y) ≡ false) outlines ⊎ (at ≢ length bytes)
-    ends (inl none) = inl (headless none)
-    ends (inr other) = inr other
+    record { insert = λ yes. (plain, kept.line yes); header = λ yes. (plain, kept.header yes) }

@@ -62,7 +62,8 @@ module _ (edits : List Edit) (first end : ℕ) (now : ProfiledText) (old new : K
       by alone empties (inl behind) =
           made_as edits first (suc end) now
           (more_among edits first end now old.so_far.outlines.items old.so_far.changes old.lines new.lines old.gone d x
-          h.outline h.change h.line so_far lt here h.makes h.alone h.elsewhere behind.beside h.placed behind.kept)
+          h.outline h.change h.line so_far lt here h.makes h.alone h.elsewhere behind.beside h.placed behind.kept
+          behind.ends)
           h.outlines behind.changes_are refl h.gone
       by alone empties (inr (sure, inl ahead)) =
           let (no_elements, none) = so_far.none (empties sure) in
@@ -118,8 +119,8 @@ pub run_begins : (edits : List Edit) (first : ℕ) (now : ProfiledText) (run : K
     → AreMadeIn edits first first now run × IsRunOn now run
 run_begins edits first now run h = (
   made_as edits first first now
-      (none_gone edits first first now [] [] run.lines run.gone (no_changes edits first now run.lines h.brought)
-      h.arrays h.elements)
+      (none_gone edits first first now [] [] run.lines run.gone
+      (no_changes edits first now run.lines h.brought h.counts) h.arrays h.elements)
       h.outlines h.changes refl refl,
   record {
     seen = (

@@ -9,6 +9,7 @@ mod SeenPathLaws
 mod KnownLaws
 mod HeaderLaws
 mod KindLaws
+mod CountLaws
 mod LineLaws
 mod InRuns
 mod RunSteps
@@ -16,6 +17,7 @@ mod SetAgainSteps
 mod RenameAgainSteps
 mod InsertAgainSteps
 mod AgainSteps
+mod AheadLists
 mod AheadSteps
 mod FollowSteps
 mod ItemSteps

@@ -1,50 +1,58 @@
 -- One line more, among those that edits of a list add which are made at once.
 --
--- At another byte all is as it was (`others_stay`). At this one the end of a body comes after all lines but one with a
+-- At another byte all is as it was (`known_still`). At this one the end of a body comes after all lines but one with a
 -- header; a line of a table that dotted keys make after lines of that table alone, as there are no others; and a header
 -- after all other lines, as the first of its table. No appended header goes through its table, and none that is
--- appended later is of the table. A line where a header comes is after the others there, and comes before that header.
+-- appended later is of the table. A line that comes where others have to come behind it comes before those alone: a
+-- line of a table that dotted keys make before ends of bodies and headers, an end of a body before a header, and each
+-- before headers that are appended.
 --
--- Theorems: `end_kept`, `table_kept`, `header_kept`, `appended_kept`, `none_kept`; `end_ahead`, `table_ahead`: before a
--- header; `brought_same`, `headers_stay`, `lets_known`, `with_header`: of headers; `others_by`: of what is kept.
-use Rattle.std.proofs.Common.{◌≡◌, ◌≢◌, ℕ, Bool, true, false, List, Option, Some, None, refl, sym, ap, subst, ◌∙◌}
-use Rattle.std.proofs.Common.{eqb-true, inl, inr, map}
-use Rattle.std.specs.Prelude.{◌⊎◌, ◌==◌}
+-- Theorems: `end_kept`, `table_kept`, `header_kept`, `appended_kept`, `none_kept`; `end_ahead`, `table_ahead`,
+-- `header_ahead`: before what comes behind; `brought_same`, `headers_stay`, `lets_known`, `with_header`: of headers;
+-- `others_by`: of what is kept.
+use Rattle.std.proofs.Common.{◌≡◌, ◌≢◌, ◌≤◌, ◌<◌, ◌∙◌, ◌==◌, ℕ, Bool, true, false, List, Option, Some, None, refl, sym}
+use Rattle.std.proofs.Common.{ap, subst, arith, eqb-true, inl, inr, map}
+use Rattle.std.specs.Prelude.{◌⊎◌}
 use Rattle.std.specs.List.{list_any}
 use Rattle.std.proofs.lemmas.Bool.{eq-eqb}
 use Rattle.keep_path.specs.Path.{Part, key, without_last}
 use Rattle.keep_edit_spec.specs.Edits as law
-use Rattle.keep_edit_spec.specs.InsertKinds.{Added, table_of}
+use Rattle.keep_edit_spec.specs.InsertKinds.{Added, IsAfterLine, table_of}
+use Rattle.keep_edit_spec.specs.LinesAhead.{comes_before}
 use Rattle.keep_edit_spec.specs.Runs as runs
 use Rattle.keep_edit_spec.specs.Runs.{IsNoSecond, LetsTable, PassesBy, PassesTable, takes_up_to}
 use Rattle.keep_edit_spec.specs.TextChanges.{TextChange}
 use Rattle.keep_edit_spec.specs.declared.line_kind.LineKind.{LineKind}
 use Rattle.keep_edit_spec.specs.declared.line_kind.LineKind.TheVariants.{LastInBody, OfDotted, WithHeader}
-use Rattle.keep_edit_runs.specs.AddedLines.{HasTable, IsAloneKept, IsAtEnd, IsEndKept, IsFollowed, IsHeaderKept}
-use Rattle.keep_edit_runs.specs.AddedLines.{IsHeaderKnown}
-use Rattle.keep_edit_runs.specs.AddedLines.{IsKept, IsKnownAs, IsKnownAt, IsSameOfHeaders, IsTableKept, brought_at}
-use Rattle.keep_edit_runs.specs.AddedLines.{lines_at}
-use Rattle.keep_edit_runs.specs.Runs.{IsBroughtThen, IsKeptAhead, IsKnownThen, IsLineKept, IsNoSecondOf, line_of}
+use Rattle.keep_edit_runs.specs.AddedLines.{HasTable, IsAloneKept, IsAppendedKept, IsCountedMore, IsEndKept, IsEndMore}
+use Rattle.keep_edit_runs.specs.AddedLines.{IsHeaderKept, IsHeaderKnown, IsKnownAs, IsKnownAt, IsSameOfHeaders}
+use Rattle.keep_edit_runs.specs.AddedLines.{IsTableKept, PassesHeaderAt, brought_at, dotted_at, line_of}
+use Rattle.keep_edit_runs.specs.Counts.{count_at}
+use Rattle.keep_edit_runs.specs.Runs.{IsBroughtThen, IsKeptAhead, IsKnownThen, IsLineKept, IsNoSecondOf}
 use Rattle.keep_edit_runs.specs.Runs.{no_value, outlined}
-use Rattle.keep_edit_runs.specs.SeenHeaders.{HasAppended, HasHeader, HasMore, HasTableOf, IsHeaderAppendedLater}
+use Rattle.keep_edit_runs.specs.SeenHeaders.{HasHeader, HasMore, HasTableOf}
 use Rattle.keep_edit_runs.specs.declared.added_lines.AddedLines.{AddedLines}
-use Rattle.keep_edit_runs.specs.declared.added_lines.LinesAt.{LinesAt}
-use Rattle.keep_edit_runs.specs.declared.added_lines.LinesAt.TheVariants.{EndOfBody, OfTable}
+use Rattle.keep_edit_runs.specs.declared.counts.Counts.{Counts}
 use Rattle.keep_edit_runs.specs.declared.outline.Outline.{Outline}
-use Rattle.keep_edit_runs.specs.declared.seen_headers.SeenHeaders.{SeenHeaders}
+use Rattle.keep_edit_runs.proofs.CountLaws.{counted, header_counted, insert_counted, no_fewer, none_counted, some_here}
+use Rattle.keep_edit_runs.proofs.CountLaws.{uncounted}
 use Rattle.keep_edit_runs.proofs.HeaderLaws.{header_differs, header_still, more_of_same, table_passed}
 
 -- ---- lines that were known
 
--- where a byte has the line and the header that it had
-known_there : (kind : LineKind) (old new : AddedLines) (l : Added) → lines_at new l.at ≡ lines_at old l.at
-    → brought_at new l.at ≡ brought_at old l.at → (HasTable old (table_of l) → HasTable new (table_of l))
-    → HasMore old.headers new.headers → IsKnownAs kind old l → IsKnownAs kind new l
-known_there LastInBody old new l same headed tables more h = same ∙ h
-known_there OfDotted old new l same headed tables more (inl h) = inl (same ∙ h)
-known_there OfDotted old new l same headed tables more (inr h) = inr (same ∙ h)
-known_there WithHeader old new l same headed tables more (h, (table, (first, one))) =
-    (headed ∙ h, (tables table, (first, more.brought (table_of l) one)))
+-- where there are no fewer lines, and all tables are still there
+known_still : (old new : AddedLines) → ((n : ℕ) → count_at old.ends n ≤ count_at new.ends n)
+    → ((n : ℕ) (q : List Part) → dotted_at old n ≡ Some q → dotted_at new n ≡ Some q)
+    → ((n : ℕ) (q : List Part) → brought_at old n ≡ Some q → brought_at new n ≡ Some q)
+    → ((q : List Part) → HasTable old q → HasTable new q) → HasMore old.headers new.headers
+    → (l : Added) → IsKnownAt old l → IsKnownAt new l
+known_still old new ends dotted brought tables more l known = by l.kind known
+  where
+    by : (kind : LineKind) → IsKnownAs kind old l → IsKnownAs kind new l
+    by LastInBody h = omega (arith, h, ends l.at)
+    by OfDotted h = dotted l.at (table_of l) h
+    by WithHeader (h, (has, (first, one))) =
+        (brought l.at (table_of l) h, (tables (table_of l) has, (first, more.brought (table_of l) one)))
 
 -- what holds where two numbers are one, and where they are not
 by_number : {P : Type 0} (n at : ℕ) → (n ≡ at → P) → (n ≢ at → P) → P
@@ -54,45 +62,34 @@ by_number {P = P} n at same other = by (n == at) refl
     by true e = same (eqb-true n at e)
     by false e = other (λ is. (let both : false ≡ true = sym e ∙ eq-eqb n at is in absurd cc))
 
+-- the same tables of dotted keys, and as many ends
+dotted_same : (old new : AddedLines) → new.dotted ≡ old.dotted → (n : ℕ) → dotted_at new n ≡ dotted_at old n
+dotted_same old new same n = ap (λ dotted. dotted_at (record old { dotted = dotted }) n) same
+
+ends_same : (old new : AddedLines) → new.ends ≡ old.ends → (n : ℕ) → count_at old.ends n ≤ count_at new.ends n
+ends_same old new same n =
+    let is : count_at new.ends n ≡ count_at old.ends n = ap (λ (counts : Counts). count_at counts n) same in
+    omega (arith, is)
+
 -- the same headers
 module _ (old new : AddedLines) (same : IsSameOfHeaders old new) where
   pub brought_same : (n : ℕ) → brought_at new n ≡ brought_at old n
   brought_same n = ap (λ brought. brought_at (record old { brought = brought }) n) same.brought
 
-  pub followed_same : (n : ℕ) → IsFollowed old n → IsFollowed new n
-  followed_same n = subst (λ followed. IsFollowed (record old { followed = followed }) n) (sym same.followed)
-
-  tables_same : (q : List Part) → HasTable old q → HasTable new q
-  tables_same q = subst (λ tables. HasTable (record old { tables = tables }) q) (sym same.tables)
-
   headers_same : HasMore old.headers new.headers
   headers_same = more_of_same old.headers new.headers same.headers
 
-  -- other lines at one byte
-  module _ (at : ℕ) (lines : LinesAt) (kept : IsKept old at lines new)
-      (here : (kind : LineKind) (l : Added) → l.at ≡ at → kind ≢ WithHeader → IsKnownAs kind old l
-      → IsKnownAs kind new l) where
-    stays : (kind : LineKind) (l : Added) → IsKnownAs kind old l → IsKnownAs kind new l
-    stays LastInBody l h =
-        by_number l.at at (λ is. here LastInBody l is (λ e. absurd cc) h) (λ other. kept.others l.at other ∙ h)
-    stays OfDotted l h =
-        by_number l.at at (λ is. here OfDotted l is (λ e. absurd cc) h)
-        (λ other. known_there OfDotted old new l (kept.others l.at other) (brought_same l.at) (tables_same (table_of l))
-        headers_same h)
-    stays WithHeader l (h, (table, (first, one))) =
-        (brought_same l.at ∙ h, (tables_same (table_of l) table, (first, headers_same.brought (table_of l) one)))
+  others_stay : ((n : ℕ) → count_at old.ends n ≤ count_at new.ends n)
+      → ((n : ℕ) (q : List Part) → dotted_at old n ≡ Some q → dotted_at new n ≡ Some q)
+      → (l : Added) → IsKnownAt old l → IsKnownAt new l
+  others_stay ends dotted =
+      known_still old new ends dotted (λ n q h. brought_same n ∙ h)
+      (λ q. subst (λ tables. HasTable (record old { tables = tables }) q) (sym same.tables)) headers_same
 
-    others_stay : (l : Added) → IsKnownAt old l → IsKnownAt new l
-    others_stay l known = stays l.kind l known
-
--- what is at the byte of a line
-at_byte : (added : AddedLines) (at : ℕ) (l : Added) (o : Option LinesAt) → l.at ≡ at → lines_at added l.at ≡ o
-    → lines_at added at ≡ o
-at_byte added at l o same h = subst (λ (n : ℕ). lines_at added n ≡ o) same h
-
-at_its : (added : AddedLines) (at : ℕ) (l : Added) (o : Option LinesAt) → l.at ≡ at → lines_at added at ≡ o
-    → lines_at added l.at ≡ o
-at_its added at l o same h = subst (λ (n : ℕ). lines_at added n ≡ o) (sym same) h
+  -- headers come where they came
+  brought_then : (x : Outline) (at : ℕ) (line : Option LineKind) (n : ℕ) (q : List Part) → brought_at new n ≡ Some q
+      → IsBroughtThen old x at line n q
+  brought_then x at line n q there = inl (sym (brought_same n) ∙ there)
 
 -- one that is known with a header, as that
 pub with_header : (added : AddedLines) (l : Added) → IsKnownAt added l → l.kind ≡ WithHeader
@@ -107,6 +104,15 @@ none_there added at l free known is same =
     let both : None ≡ Some (table_of l) =
     sym free ∙ subst (λ (n : ℕ). brought_at added n ≡ Some (table_of l)) same h in
     absurd cc
+
+-- headers that are appended pass by the table of a line without one
+lets_headless : (l : Added) → l.kind ≢ WithHeader → (e : law.Edit) → LetsTable l e
+lets_headless l headless (law.append_table ks) = λ headed. absurd (headless headed)
+lets_headless l headless (law.append_element ks) = λ headed. absurd (headless headed)
+lets_headless l headless (law.insert p v) = tt
+lets_headless l headless (law.remove p) = tt
+lets_headless l headless (law.set p v) = tt
+lets_headless l headless (law.rename p name) = tt
 
 -- ---- headers
 
@@ -153,32 +159,34 @@ lets_known added l passes (law.rename p name) h = tt
 
 -- ---- the end of a body
 
-module _ (old : AddedLines) (at : ℕ) (new : AddedLines) (k : IsAtEnd old at new) where
-  end_here : (kind : LineKind) (l : Added) → l.at ≡ at → kind ≢ WithHeader → IsKnownAs kind old l
-      → IsKnownAs kind new l
-  end_here LastInBody l same other known = at_its new at l (Some EndOfBody) same k.kept.here
-  end_here OfDotted l same other known = inr (at_its new at l (Some EndOfBody) same k.kept.here)
-  end_here WithHeader l same other known = absurd (other refl)
-
+module _ (old : AddedLines) (at : ℕ) (new : AddedLines) (k : IsEndMore old at new) where
   end_others : (l : Added) → IsKnownAt old l → IsKnownAt new l
-  end_others = others_stay old new k.same at EndOfBody k.kept end_here
+  end_others =
+      others_stay old new k.same (no_fewer old.ends new.ends at k.one) (λ n q h. dotted_same old new k.dotted n ∙ h)
+
+  end_counted : (x : Outline) (first : List Part) → outlined x ≡ law.insert first no_value
+      → IsCountedMore old (outlined x) at (Some LastInBody) new
+  end_counted x first is =
+      insert_counted old x first at LastInBody new is (counted old.ends new.ends at k.one)
+      (uncounted old.headed new.headed at k.same.headed) k.same.appended
 
 pub end_kept : (old : AddedLines) (changes : List TextChange) (x : Outline) (first : List Part) (at : ℕ)
     (new : AddedLines) → outlined x ≡ law.insert first no_value → IsEndKept old at new
     → IsLineKept old changes x at (Some LastInBody) new
 end_kept old changes x first at new is k = record {
-  others = end_others old at new k.end;
-  headers = headers_stay old new (headers_same old new k.end.same);
+  others = end_others old at new k.more;
+  headers = headers_stay old new (headers_same old new k.more.same);
   own = λ path kind same line.
       subst (λ (a : LineKind). IsKnownThen old changes (line_of path at a) new)
       (let own : LastInBody ≡ kind = cc in own) (record {
         stays = λ differs. absurd (differs refl);
-        passed = lets_known old (line_of path at LastInBody) (λ keys known headed. absurd cc);
+        passed = λ e known. lets_headless (line_of path at LastInBody) (λ headed. absurd cc) e;
         after = λ l known there headed. none_there old at l k.free known headed there;
-        here = k.end.kept.here;
+        here = some_here old.ends new.ends at k.more.one;
       });
-  brought = λ n table there. inl (sym (brought_same old new k.end.same n) ∙ there);
-  followed = followed_same old new k.end.same;
+  brought = brought_then old new k.more.same x at (Some LastInBody);
+  follower = k.more.same.follower;
+  counts = end_counted old at new k.more x first is;
   passes = λ l known. no_header (outlined x) (ap runs.is_header is) l;
   header = unheaded new (outlined x) (ap runs.is_header is);
 }
@@ -186,48 +194,47 @@ end_kept old changes x first at new is k = record {
 -- ---- a line of a table that dotted keys make
 
 module _ (old : AddedLines) (at : ℕ) (table : List Part) (new : AddedLines) (k : IsAloneKept old at table new) where
-  -- no other lines are there
-  not_ended : (l : Added) → l.at ≡ at → lines_at old l.at ≡ Some EndOfBody → ⊥
-  not_ended l same h = elim k.free [
-    | inl none ↦ absurd (let both : None ≡ Some EndOfBody = sym none ∙ at_byte old at l (Some EndOfBody) same h in cc)
-    | inr own ↦ absurd
-        (let both : Some (OfTable table) ≡ Some EndOfBody = sym own ∙ at_byte old at l (Some EndOfBody) same h in cc)
-  ]
-
-  same_table : (l : Added) → l.at ≡ at → lines_at old l.at ≡ Some (OfTable (table_of l)) → table_of l ≡ table
-  same_table l same h = elim k.free [
-    | inl none ↦ absurd (let both : None ≡ Some (OfTable (table_of l)) = sym none ∙ here_is in cc)
-    | inr own ↦ (let both : Some (OfTable (table_of l)) ≡ Some (OfTable table) = sym here_is ∙ own in cc)
+  -- the lines of such tables there are of this one
+  same_table : (n : ℕ) (q : List Part) → n ≡ at → dotted_at old n ≡ Some q → q ≡ table
+  same_table n q same h = elim k.free [
+    | inl none ↦ absurd (let both : None ≡ Some q = sym none ∙ here_is in cc)
+    | inr own ↦ (let both : Some q ≡ Some table = sym here_is ∙ own in cc)
   ]
     where
-      here_is : lines_at old at ≡ Some (OfTable (table_of l))
-      here_is = at_byte old at l (Some (OfTable (table_of l))) same h
+      here_is : dotted_at old at ≡ Some q
+      here_is = subst (λ (m : ℕ). dotted_at old m ≡ Some q) same h
 
-  table_here : (kind : LineKind) (l : Added) → l.at ≡ at → kind ≢ WithHeader → IsKnownAs kind old l
-      → IsKnownAs kind new l
-  table_here LastInBody l same other h = absurd (not_ended l same h)
-  table_here OfDotted l same other (inl h) =
-      inl (at_its new at l (Some (OfTable (table_of l))) same
-      (k.kept.here ∙ ap (λ (p : List Part). Some (OfTable p)) (sym (same_table l same h))))
-  table_here OfDotted l same other (inr h) = absurd (not_ended l same h)
-  table_here WithHeader l same other known = absurd (other refl)
+  tables_stay : (n : ℕ) (q : List Part) → dotted_at old n ≡ Some q → dotted_at new n ≡ Some q
+  tables_stay n q h =
+      by_number n at
+      (λ same. ap (λ (m : ℕ). dotted_at new m) same ∙ k.here
+      ∙ ap (λ (p : List Part). Some p) (sym (same_table n q same h)))
+      (λ other. k.others n other ∙ h)
 
   table_others : (l : Added) → IsKnownAt old l → IsKnownAt new l
-  table_others = others_stay old new k.same at (OfTable table) k.kept table_here
+  table_others = others_stay old new k.same (ends_same old new k.ends) tables_stay
 
-  table_after : (l : Added) → IsKnownAt old l → l.kind ≢ WithHeader → l.at ≡ at
-      → (l.kind ≡ OfDotted) × (table_of l ≡ table)
-  table_after l known other same = by l.kind refl known
-    where
-      by : (kind : LineKind) → l.kind ≡ kind → IsKnownAs kind old l → (l.kind ≡ OfDotted) × (table_of l ≡ table)
-      by LastInBody is h = absurd (not_ended l same h)
-      by OfDotted is (inl h) = (is, same_table l same h)
-      by OfDotted is (inr h) = absurd (not_ended l same h)
-      by WithHeader is h = absurd (other is)
+  -- a line of such a table that is there is of this one
+  table_after : (l : Added) → IsKnownAs OfDotted old l → l.at ≡ at → table_of l ≡ table
+  table_after l h same = same_table l.at (table_of l) same h
 
-  -- the line of a table with that path
-  table_known : (first : List Part) → table ≡ without_last first → IsKnownAt new (line_of first at OfDotted)
-  table_known first is = inl (k.kept.here ∙ ap (λ (p : List Part). Some (OfTable p)) is)
+  table_counted : (x : Outline) (first : List Part) → outlined x ≡ law.insert first no_value
+      → IsCountedMore old (outlined x) at (Some OfDotted) new
+  table_counted x first is =
+      insert_counted old x first at OfDotted new is (uncounted old.ends new.ends at k.ends)
+      (uncounted old.headed new.headed at k.same.headed) k.same.appended
+
+-- where none ends a body, and none has a header
+only_table : (old : AddedLines) (at : ℕ) (table : List Part) (new : AddedLines) → IsTableKept old at table new
+    → (l : Added) → IsKnownAt old l → l.at ≡ at → (l.kind ≡ OfDotted) × (table_of l ≡ table)
+only_table old at table new k l known same = by l.kind refl known
+  where
+    by : (kind : LineKind) → l.kind ≡ kind → IsKnownAs kind old l → (l.kind ≡ OfDotted) × (table_of l ≡ table)
+    by LastInBody is h =
+        let some : 0 < count_at old.ends at = subst (λ (n : ℕ). 0 < count_at old.ends n) same h in
+        absurd (omega (arith, some, k.endless))
+    by OfDotted is h = (is, table_after old at table new k.alone l h same)
+    by WithHeader is h = absurd (none_there old at l k.free known is same)
 
 pub table_kept : (old : AddedLines) (changes : List TextChange) (x : Outline) (first table : List Part) (at : ℕ)
     (new : AddedLines) → outlined x ≡ law.insert first no_value → table ≡ without_last first
@@ -243,16 +250,14 @@ table_kept old changes x first table at new is table_is clear k = record {
       subst (λ (a : LineKind). IsKnownThen old changes (line_of path at a) new)
       (let kind_is : OfDotted ≡ kind = cc in kind_is) (record {
         stays = λ differs. clear;
-        passed = lets_known old (line_of path at OfDotted) (λ keys known headed. absurd cc);
+        passed = λ e known. lets_headless (line_of path at OfDotted) (λ headed. absurd cc) e;
         after = λ l known same_at.
-            let (of, there) =
-            table_after old at table new k.alone l known (λ headed. none_there old at l k.free known headed same_at)
-            same_at in
-            (of, there ∙ its);
-        here = table_known old at table new k.alone path its;
+            let (of, there) = only_table old at table new k l known same_at in (of, there ∙ its);
+        here = k.alone.here ∙ ap (λ (p : List Part). Some p) its;
       });
-  brought = λ n q there. inl (sym (brought_same old new k.alone.same n) ∙ there);
-  followed = followed_same old new k.alone.same;
+  brought = brought_then old new k.alone.same x at (Some OfDotted);
+  follower = k.alone.same.follower;
+  counts = table_counted old at table new k.alone x first is;
   passes = λ l known. no_header (outlined x) (ap runs.is_header is) l;
   header = unheaded new (outlined x) (ap runs.is_header is);
 }
@@ -260,38 +265,49 @@ table_kept old changes x first table at new is table_is clear k = record {
 -- ---- a line with a header
 
 module _ (old : AddedLines) (at : ℕ) (table : List Part) (new : AddedLines) (k : IsHeaderKept old at table new) where
-  lines_same : (n : ℕ) → lines_at new n ≡ lines_at old n
-  lines_same n = ap (λ lines. lines_at (record old { lines = lines }) n) k.lines
-
   header_others : (l : Added) → IsKnownAt old l → IsKnownAt new l
-  header_others l known = by l.kind known
+  header_others =
+      known_still old new (ends_same old new k.ends) (λ n q h. dotted_same old new k.dotted n ∙ h) brought_still k.more
+      k.brought.more
     where
-      by : (kind : LineKind) → IsKnownAs kind old l → IsKnownAs kind new l
-      by LastInBody h = lines_same l.at ∙ h
-      by OfDotted (inl h) = inl (lines_same l.at ∙ h)
-      by OfDotted (inr h) = inr (lines_same l.at ∙ h)
-      by WithHeader (h, (has, (first, one))) =
-          by_number l.at at
+      brought_still : (n : ℕ) (q : List Part) → brought_at old n ≡ Some q → brought_at new n ≡ Some q
+      brought_still n q h =
+          by_number n at
           (λ same. absurd (
-          let both : None ≡ Some (table_of l) =
-          sym k.free ∙ subst (λ (n : ℕ). brought_at old n ≡ Some (table_of l)) same h in
+          let both : None ≡ Some q = sym k.free ∙ subst (λ (m : ℕ). brought_at old m ≡ Some q) same h in
           cc
           ))
-          (λ other. (
-            k.others l.at other ∙ h,
-            (k.more (table_of l) has, (first, k.brought.more.brought (table_of l) one)),
-          ))
+          (λ other. k.others n other ∙ h)
 
-  header_after : (l : Added) → IsKnownAt old l → l.kind ≡ WithHeader → (l.at ≢ at) × (table_of l ≢ table)
-  header_after l known is = (
+  header_after : (first : List Part) → table ≡ without_last first → (l : Added) → IsKnownAt old l
+      → IsAfterLine l (line_of first at WithHeader)
+  header_after first its l known is = (
     none_there old at l k.free known is,
-    λ same. k.first (subst (HasTable old) same (with_header old l known is).1.0),
+    λ same. k.first (subst (HasTable old) (same ∙ sym its) (with_header old l known is).1.0),
+  )
+
+  header_lets : (first : List Part) → table ≡ without_last first → (e : law.Edit) → IsHeaderKnown old e
+      → LetsTable (line_of first at WithHeader) e
+  header_lets first its =
+      lets_known old (line_of first at WithHeader) (λ keys known headed.
+      subst (PassesBy keys) its (table_passed old.headers keys table k.brought.here.0 k.brought.passes known))
+
+  header_here : (first : List Part) → table ≡ without_last first → IsKnownAt new (line_of first at WithHeader)
+  header_here first its = (
+    k.here ∙ ap (λ (p : List Part). Some p) its,
+    (subst (HasTable new) its k.with_it, subst (HasTableOf new.headers) its k.brought.here),
   )
 
   brought_more : (x : Outline) (first : List Part) → outlined x ≡ law.insert first no_value
       → (n : ℕ) (q : List Part) → brought_at new n ≡ Some q → IsBroughtThen old x at (Some WithHeader) n q
   brought_more x first is n q there =
       by_number n at (λ same. inr (same, (refl, (first, is)))) (λ other. inl (sym (k.others n other) ∙ there))
+
+  header_counted_more : (x : Outline) (first : List Part) → outlined x ≡ law.insert first no_value
+      → IsCountedMore old (outlined x) at (Some WithHeader) new
+  header_counted_more x first is =
+      insert_counted old x first at WithHeader new is (uncounted old.ends new.ends at k.ends)
+      (counted old.headed new.headed at k.one) k.appended
 
 pub header_kept : (old : AddedLines) (changes : List TextChange) (x : Outline) (first table : List Part) (at : ℕ)
     (new : AddedLines) → outlined x ≡ law.insert first no_value → table ≡ without_last first
@@ -307,68 +323,104 @@ header_kept old changes x first table at new is table_is clear k = record {
       subst (λ (a : LineKind). IsKnownThen old changes (line_of path at a) new)
       (let kind_is : WithHeader ≡ kind = cc in kind_is) (record {
         stays = λ differs. clear;
-        passed = lets_known old (line_of path at WithHeader) (λ keys known headed.
-            subst (PassesBy keys) its (table_passed old.headers keys table k.brought.here.0 k.brought.passes known));
-        after = λ l known headed.
-            let (other_at, other_table) = header_after old at table new k l known headed in
-            (other_at, λ same_table. other_table (same_table ∙ sym its));
-        here = (
-          k.here ∙ ap (λ (p : List Part). Some p) its,
-          (subst (HasTable new) its k.with_it, subst (HasTableOf new.headers) its k.brought.here),
-        );
+        passed = header_lets old at table new k path its;
+        after = header_after old at table new k path its;
+        here = header_here old at table new k path its;
       });
   brought = brought_more old at table new k x first is;
-  followed = λ n. subst (λ followed. IsFollowed (record old { followed = followed }) n) (sym k.followed);
+  follower = k.follower;
+  counts = header_counted_more old at table new k x first is;
   passes = λ l known. no_header (outlined x) (ap runs.is_header is) l;
   header = unheaded new (outlined x) (ap runs.is_header is);
 }
 
--- ---- a line before a header
+-- ---- a line before those that come behind it
 
--- a line of a body, or of a table that dotted keys make
-pub end_ahead : (old : AddedLines) (changes : List TextChange) (x : Outline) (first table : List Part) (at : ℕ)
-    (new : AddedLines) → outlined x ≡ law.insert first no_value → brought_at old at ≡ Some table
-    → ¬ IsFollowed old at → ¬ HasAppended old.headers table → list_any (takes_up_to at) changes ≡ false
-    → IsAtEnd old at new
-    → IsKeptAhead old changes x at (Some LastInBody) new
-end_ahead old changes x first table at new is header unfollowed passed clear k = record {
-  table = table;
-  header = header;
-  unfollowed = unfollowed;
+-- l comes before such a line, or behind it
+abbrev AfterOrBefore : LineKind → List Part → ℕ → Added → Type 0
+AfterOrBefore kind first at l =
+    IsAfterLine l (line_of first at kind) ⊎ ((l.at ≡ at) × (comes_before kind l.kind ≡ true))
+
+-- one that ends a body
+pub end_ahead : (old : AddedLines) (changes : List TextChange) (x : Outline) (first : List Part) (at : ℕ)
+    (is_at_end : Bool) (new : AddedLines) → outlined x ≡ law.insert first no_value
+    → (is_at_end ≡ false → PassesHeaderAt old at) → list_any (takes_up_to at) changes ≡ false → IsEndMore old at new
+    → IsKeptAhead old changes x at (Some LastInBody) is_at_end new
+end_ahead old changes x first at is_at_end new is passed clear k = record {
   passed = passed;
   clear = clear;
   first = first;
   is = is;
   kind = LastInBody;
   line_is = refl;
-  headless = λ e. absurd cc;
-  after = λ l known other there headed. other headed;
-  here = k.kept.here;
+  lets = λ e known. lets_headless (line_of first at LastInBody) (λ headed. absurd cc) e;
+  after = λ l known. by l l.kind refl;
+  here = some_here old.ends new.ends at k.one;
   others = end_others old at new k;
-  same = k.same;
+  headers = headers_stay old new (headers_same old new k.same);
+  brought = brought_then old new k.same x at (Some LastInBody);
+  follower = k.same.follower;
+  counts = end_counted old at new k x first is;
 }
+  where
+    by : (l : Added) (kind : LineKind) → l.kind ≡ kind → AfterOrBefore LastInBody first at l
+    by l LastInBody its = inl (λ there headed. (let both : LastInBody ≡ WithHeader = sym its ∙ headed in absurd cc))
+    by l OfDotted its = inl (λ there headed. (let both : OfDotted ≡ WithHeader = sym its ∙ headed in absurd cc))
+    by l WithHeader its =
+        by_number l.at at (λ there. inr (there, ap (comes_before LastInBody) its))
+        (λ other. inl (λ there headed. other there))
 
-pub table_ahead : (old : AddedLines) (changes : List TextChange) (x : Outline) (first table own : List Part) (at : ℕ)
-    (new : AddedLines) → outlined x ≡ law.insert first no_value → own ≡ without_last first
-    → brought_at old at ≡ Some table → ¬ IsFollowed old at → ¬ HasAppended old.headers table
-    → list_any (takes_up_to at) changes ≡ false
-    → IsAloneKept old at own new → IsKeptAhead old changes x at (Some OfDotted) new
-table_ahead old changes x first table own at new is own_is header unfollowed passed clear k = record {
-  table = table;
-  header = header;
-  unfollowed = unfollowed;
+-- one of a table that dotted keys make
+pub table_ahead : (old : AddedLines) (changes : List TextChange) (x : Outline) (first table : List Part) (at : ℕ)
+    (is_at_end : Bool) (new : AddedLines) → outlined x ≡ law.insert first no_value → table ≡ without_last first
+    → (is_at_end ≡ false → PassesHeaderAt old at) → list_any (takes_up_to at) changes ≡ false
+    → IsAloneKept old at table new → IsKeptAhead old changes x at (Some OfDotted) is_at_end new
+table_ahead old changes x first table at is_at_end new is table_is passed clear k = record {
   passed = passed;
   clear = clear;
   first = first;
   is = is;
   kind = OfDotted;
   line_is = refl;
-  headless = λ e. absurd cc;
-  after = λ l known other there.
-      let (of, same) = table_after old at own new k l known other there in (of, same ∙ own_is);
-  here = table_known old at own new k first own_is;
-  others = table_others old at own new k;
-  same = k.same;
+  lets = λ e known. lets_headless (line_of first at OfDotted) (λ headed. absurd cc) e;
+  after = λ l known. by l l.kind refl known;
+  here = k.here ∙ ap (λ (p : List Part). Some p) table_is;
+  others = table_others old at table new k;
+  headers = headers_stay old new (headers_same old new k.same);
+  brought = brought_then old new k.same x at (Some OfDotted);
+  follower = k.same.follower;
+  counts = table_counted old at table new k x first is;
+}
+  where
+    by : (l : Added) (kind : LineKind) → l.kind ≡ kind → IsKnownAs kind old l → AfterOrBefore OfDotted first at l
+    by l LastInBody its h =
+        by_number l.at at (λ there. inr (there, ap (comes_before OfDotted) its))
+        (λ other. inl (λ there. absurd (other there)))
+    by l OfDotted its h = inl (λ there. (its, table_after old at table new k l h there ∙ table_is))
+    by l WithHeader its h =
+        by_number l.at at (λ there. inr (there, ap (comes_before OfDotted) its))
+        (λ other. inl (λ there. absurd (other there)))
+
+-- one with a header, before those that are appended
+pub header_ahead : (old : AddedLines) (changes : List TextChange) (x : Outline) (first table : List Part) (at : ℕ)
+    (is_at_end : Bool) (new : AddedLines) → outlined x ≡ law.insert first no_value → table ≡ without_last first
+    → (is_at_end ≡ false → PassesHeaderAt old at) → list_any (takes_up_to at) changes ≡ false
+    → IsHeaderKept old at table new → IsKeptAhead old changes x at (Some WithHeader) is_at_end new
+header_ahead old changes x first table at is_at_end new is table_is passed clear k = record {
+  passed = passed;
+  clear = clear;
+  first = first;
+  is = is;
+  kind = WithHeader;
+  line_is = refl;
+  lets = header_lets old at table new k first table_is;
+  after = λ l known. inl (header_after old at table new k first table_is l known);
+  here = header_here old at table new k first table_is;
+  others = header_others old at table new k;
+  headers = headers_stay old new k.brought.more;
+  brought = brought_more old at table new k x first is;
+  follower = k.follower;
+  counts = header_counted_more old at table new k x first is;
 }
 
 -- ---- no line
@@ -382,38 +434,53 @@ none_kept added changes x at line none headless = record {
   headers = λ e known. known;
   own = λ first kind is its. absurd (none first kind is its);
   brought = λ n table is. inl is;
-  followed = λ n has. has;
+  follower = refl;
+  counts = none_counted added x at line none headless;
   passes = λ l known. no_header (outlined x) headless l;
   header = unheaded added (outlined x) headless;
 }
 
 -- where it appends one
-pub appended_kept : (added : AddedLines) (changes : List TextChange) (x : Outline) (at : ℕ) (line : Option LineKind)
-    (keys : List (List ℕ)) (new : SeenHeaders) → AppendsHeader keys (outlined x)
-    → IsHeaderAppendedLater added.headers (map key keys) new
-    → IsLineKept added changes x at line (record added { headers = new })
-appended_kept added changes x at line keys new appends k = record {
-  others = λ l known. known_there l.kind added (record added { headers = new }) l refl refl (λ has. has) k.more known;
-  headers = headers_stay added (record added { headers = new }) k.more;
+pub appended_kept : (old : AddedLines) (changes : List TextChange) (x : Outline) (at : ℕ) (line : Option LineKind)
+    (keys : List (List ℕ)) (new : AddedLines) → AppendsHeader keys (outlined x) → IsAppendedKept old keys new
+    → IsLineKept old changes x at line new
+appended_kept old changes x at line keys new appends k = record {
+  others = known_still old new (ends_same old new ends_are)
+      (λ n q h. dotted_same old new (ap (λ (a : AddedLines). a.dotted) k.rest) n ∙ h) (λ n q h. brought_are n ∙ h)
+      (λ q. subst (λ tables. HasTable (record old { tables = tables }) q)
+      (sym (ap (λ (a : AddedLines). a.tables) k.rest))) k.appends.more;
+  headers = headers_stay old new k.appends.more;
   own = λ first kind is its. absurd (no_insert appends is);
-  brought = λ n table is. inl is;
-  followed = λ n has. has;
-  passes = λ l known. by l appends (λ headed. header_differs added.headers keys (table_of l)
-      (with_header added l known headed).1.1 k.other);
+  brought = λ n table is. inl (sym (brought_are n) ∙ is);
+  follower = ap (λ (a : AddedLines). a.has_follower) k.rest;
+  counts = header_counted old x at line new (λ first is. no_insert appends is) (is_one appends) ends_are
+      (ap (λ (a : AddedLines). a.headed) k.rest) k.one;
+  passes = λ l known. by l appends (λ headed. header_differs old.headers keys (table_of l)
+      (with_header old l known headed).1.1 k.appends.other);
   header = by_header appends;
 }
   where
+    ends_are : new.ends ≡ old.ends
+    ends_are = ap (λ (a : AddedLines). a.ends) k.rest
+
+    brought_are : (n : ℕ) → brought_at new n ≡ brought_at old n
+    brought_are n = ap (λ (a : AddedLines). brought_at a n) k.rest
+
     no_insert : {first : List Part} → AppendsHeader keys (outlined x) → outlined x ≡ law.insert first no_value → ⊥
     no_insert (inl table) is = absurd cc
     no_insert (inr element) is = absurd cc
+
+    is_one : AppendsHeader keys (outlined x) → runs.is_header (outlined x) ≡ true
+    is_one (inl table) = ap runs.is_header table
+    is_one (inr element) = ap runs.is_header element
 
     by : (l : Added) → AppendsHeader keys (outlined x) → IsNoSecond keys l → IsNoSecondOf l (outlined x)
     by l (inl table) its = subst (IsNoSecondOf l) (sym table) its
     by l (inr element) its = subst (IsNoSecondOf l) (sym element) its
 
-    by_header : AppendsHeader keys (outlined x) → IsHeaderKnown (record added { headers = new }) (outlined x)
-    by_header (inl table) = subst (IsHeaderKnown (record added { headers = new })) (sym table) k.here
-    by_header (inr element) = subst (IsHeaderKnown (record added { headers = new })) (sym element) k.here
+    by_header : AppendsHeader keys (outlined x) → IsHeaderKnown new (outlined x)
+    by_header (inl table) = subst (IsHeaderKnown new) (sym table) k.appends.here
+    by_header (inr element) = subst (IsHeaderKnown new) (sym element) k.appends.here
 
 -- ---- what a map of numbers keeps
 

@@ -26,7 +26,7 @@ use Rattle.keep_edit_spec.specs.RenameLists.{AllowsKey, IsRenameIn, IsRunRenamed
 use Rattle.keep_edit_spec.specs.RenamedKeys.{RenamesKey}
 use Rattle.keep_edit_spec.specs.RunLists.{IsSetIn, MadeEdit, changes_of, document_after, lines_of, made, seen_of}
 use Rattle.keep_edit_spec.specs.Runs as runs
-use Rattle.keep_edit_spec.specs.Runs.{IsRun}
+use Rattle.keep_edit_spec.specs.Runs.{IsRun, MakesChange}
 use Rattle.keep_edit_spec.specs.TextChanges.{Follow, TextChange, change_at, moved_by_all, text_with}
 use Rattle.keep_edit_spec.proofs.Shared.{lines_apart}
 use Rattle.keep_edit_spec.proofs.Shared.{change_put, each_of_others, one_in_place, one_key, put_in_place, rename_lawful}
@@ -45,9 +45,9 @@ use Rattle.keep_edit_runs.specs.declared.added_lines.AddedLines.{AddedLines}
 use Rattle.keep_edit_runs.specs.declared.outline.Outline.{Outline}
 use Rattle.keep_edit_runs.proofs.MadeMore.{more_made}
 use Rattle.keep_edit_runs.proofs.RunSteps.{AreMadeTo, one_or_more, parts, plain_alone, run_so_far, text_utf8}
-use Rattle.keep_edit_runs.proofs.RunSteps.{MakesOrFollows, made_of_others}
-use Rattle.keep_edit_runs.proofs.RunSteps.{tree_of_run}
-use Rattle.keep_edit_runs.proofs.SetAgainSteps.{each_replaced, rename_by_one, set_by_one}
+use Rattle.keep_edit_runs.proofs.RunSteps.{made_of_others, tree_of_run}
+use Rattle.keep_edit_runs.proofs.SetAgainSteps.{counted_too, each_replaced, headers_apart, headers_in, rename_by_one}
+use Rattle.keep_edit_runs.proofs.SetAgainSteps.{set_by_one}
 
 module _ (s : Document) (edits : List Edit) (n : ℕ) (old now : ProfiledText) (before : Document)
     (outlines : List Outline) (changes new : List TextChange) (adds : AddedLines) (read : IsTextOfTree now before)
@@ -185,6 +185,14 @@ module _ (s : Document) (edits : List Edit) (n : ℕ) (old now : ProfiledText) (
       ∙ lines_apart before (made (law.rename again.path r.text) r.c) r.one.later r.one.earlier (λ lines. refl)
       ∙ ap (lines_of before) (sym r.one.others)
 
+  -- nor does it append a header
+  headers_same : headers_in before h.ms ≡ headers_in before ms
+  headers_same =
+      ap (headers_in before) r.one.all
+      ∙ headers_apart before (made (law.rename again.path r.text) r.c) r.one.later r.one.earlier refl
+      ∙ ap (headers_in before) (sym r.one.others)
+      ∙ sym (headers_apart before (made e c) [] r.rest refl)
+
   pub made_again : IsRunTo s edits (suc n) old now before (outlines ++ o ∷ []) new adds
   made_again = record {
     made = all_made;
@@ -202,19 +210,19 @@ module _ (s : Document) (edits : List Edit) (n : ℕ) (old now : ProfiledText) (
         let (all_before, its) = parts (λ y. runs.is_header (outlined y) ≡ true) outlines o all in
         all_again (λ z. IsTrue (runs.is_header z))
         (subst (λ (z : law.Edit). runs.is_header z ≡ true) again.outline_is its) (h.headers all_before);
-    headless = λ all.
-        let (all_before, its) = parts (λ y. runs.is_header (outlined y) ≡ false) outlines o all in
-        all_again (λ z. runs.is_header z ≡ false)
-        (subst (λ (z : law.Edit). runs.is_header z ≡ false) again.outline_is its) (h.headless all_before);
     sets = set_in;
     renames = rename_in;
     allow = λ q name all.
         let (all_before, its) = parts (λ y. AllowsKey q name (outlined y)) outlines o all in
         all_again (AllowsKey q name) (subst (AllowsKey q name) again.outline_is its) (h.allow q name all_before);
     lines = subst (All (IsKnownAt adds)) lines_same h.lines;
-    followed = All-cons (MakesOrFollows now before adds) (made e c) r.rest (inl (again.renames before read))
-        (made_of_others (MakesOrFollows now before adds) (made (law.rename again.path r.text) r.c) h.ms r.rest r.one
-        h.followed).1;
+    counts = counted_too adds (lines_of before h.ms) (lines_of before ms) (seen_of before h.ms) (seen_of before ms)
+        lines_same headers_same h.counts;
+    followed = λ none.
+        All-cons (λ m. MakesChange now.profile limit before m.edit m.change) (made e c) r.rest
+        (again.renames before read)
+        (made_of_others (λ m. MakesChange now.profile limit before m.edit m.change)
+        (made (law.rename again.path r.text) r.c) h.ms r.rest r.one (h.followed none)).1;
     headed = λ i table there. subst (Any (IsHeaderAt i)) lines_same (h.headed i table there);
     headers_known = all_again (IsHeaderKnown adds) tt h.headers_known;
     at_once = r.still;

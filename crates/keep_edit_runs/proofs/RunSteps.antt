@@ -8,14 +8,18 @@
 -- Theorems: `no_changes`, `more_changes`: before the first edit, and with one more; `all_made`, `all_within`: so all
 -- are made; `text_utf8`: the text with the changes; `change_made`, `tree_made`: an edit that puts one change more into
 -- it; `tree_of_run`: the document after a run; `run_so_far`: the run of the edits so far; `order`, `passes`,
--- `known_with`, `headers_with`, `headed_with`: a line or a header comes in order, and is known; `still_follows`,
--- `made_of_others`: of lines behind headers; `unadded`, `added`: what is added to a list.
+-- `known_with`, `headers_with`, `headed_with`, `counted_with`: a line or a header comes in order, and is known;
+-- `counted_more`: one element more of a list is counted; `before_headers`: a line comes before headers that are
+-- appended; `made_of_others`: of one of the edits; `unadded`, `added`: what is added to a list.
 use Rattle.std.proofs.Common.{◌≡◌, ◌≢◌, ◌<◌, ◌≤◌, ◌+◌, ◌∷◌, ◌++◌, [], ℕ, zero, suc, List, length, take, drop}
 use Rattle.std.proofs.Common.{get_or, refl, sym, ap, subst, subst₂, ◌∙◌, arith, All, IsUtf8, IsCharBoundary, inl, inr}
+use Rattle.std.proofs.Common.{cond}
 use Rattle.std.specs.Prelude.{◌⊎◌, Any, Bool, Err, IfOk, IsTrue, None, Ok, OnErr, Option, Result, Some, false}
 use Rattle.std.specs.Prelude.{if◌then◌else◌, true}
 use Rattle.std.specs.Bool.{Decides}
+use Rattle.std.specs.List.{count_by, list_any}
 use Rattle.std.proofs.lemmas.List.Folds.{list_any_none}
+use Rattle.std.proofs.lemmas.List.Sums.{sum_by-cons}
 use Rattle.std.specs.Result.{result_unwrap_or}
 use Rattle.std.specs.declared.alloc.AllocError.{AllocError}
 use Rattle.std.proofs.lemmas.List.{get_or-take, length-take-le}
@@ -33,6 +37,7 @@ use Rattle.keep_edit_spec.specs.EntryEdits.{IsRunLongerByEntry, MakesSet}
 use Rattle.keep_edit_spec.specs.InsertKinds.{Added, IsAfterLine, IsHeaderAt, added_as, kind_of}
 use Rattle.keep_edit_spec.specs.Laws.{IsLawfulEdit}
 use Rattle.keep_edit_spec.specs.Refusals.{refusal}
+use Rattle.keep_edit_spec.specs.LinesAhead.{is_end_at, is_headed_at}
 use Rattle.keep_edit_spec.specs.RenameLists.{AllowsKey, IsRenameIn}
 use Rattle.keep_edit_spec.specs.Runs as runs
 use Rattle.keep_edit_spec.specs.RunLists.{AreAtOnce, IsOneOf, IsSetIn, MadeEdit, changes_of, document_after}
@@ -49,7 +54,7 @@ use Rattle.keep_edit_plan.proofs.Shared.{change_in, editable, one_tree}
 use Rattle.keep_edit_plan.specs.TextEdits.{IsChangeIn, change_of}
 use Rattle.keep_edit_plan.specs.declared.edit.Edit.{Edit}
 use Rattle.keep_edit_plan.specs.declared.text_edit.TextEdit.{TextEdit}
-use Rattle.keep_edit_runs.specs.AddedLines.{IsFollowed, IsHeaderKnown, IsKnownAt, brought_at}
+use Rattle.keep_edit_runs.specs.AddedLines.{IsCounted, IsHeaderKnown, IsKnownAt, brought_at, lines_by}
 use Rattle.keep_edit_runs.specs.Lists.{IsEdit, AreMade}
 use Rattle.keep_edit_plan.specs.Reading.{limit, IsTextOfTree, ProfiledText}
 use Rattle.keep_edit_runs.specs.Runs.{IsBroughtThen, IsKnownThen, IsLineKept, IsNoSecondOf, IsOfKind, IsRunTo}
@@ -147,13 +152,12 @@ plain_known added (law.append_element ks) h = h
 -- ---- new lines and headers
 
 -- All edits before one that writes a line or a header do so, too; or each newline is alike, and none takes the byte
--- before its place, but for one in whose place a line comes; nor, before a line, writes a header there.
+-- before its place, but for one in whose place a line comes.
 pub record IsPlaced (outlines : List Outline) (bytes : List ℕ) (changes : List TextChange) (x : Outline) (at : ℕ)
     : Type 0 where
   pub insert : runs.is_insert (outlined x) ≡ true
       → All (λ y. runs.is_insert (outlined y) ≡ true) outlines
-      ⊎ (ArePlain bytes changes × (All (LetsCome bytes changes at) changes
-      × (All (λ y. runs.is_header (outlined y) ≡ false) outlines ⊎ (at ≢ length bytes))))
+      ⊎ (ArePlain bytes changes × All (LetsCome bytes changes at) changes)
   pub header : runs.is_header (outlined x) ≡ true
       → All (λ y. runs.is_header (outlined y) ≡ true) outlines ⊎ IsPlainBefore bytes changes at
 
@@ -300,17 +304,7 @@ rename_seen s (law.remove p) path name is = absurd cc
 rename_seen s (law.append_table ks) path name is = absurd cc
 rename_seen s (law.append_element ks) path name is = absurd cc
 
--- ---- lines behind headers
-
--- the edit makes its own change, or a line comes behind a header at its byte
-abbrev pub MakesOrFollows : ProfiledText → Document → AddedLines → MadeEdit → Type 0
-MakesOrFollows now before adds m = MakesChange now.profile limit before m.edit m.change ⊎ IsFollowed adds m.change.at
-
-pub still_follows : (now : ProfiledText) (before : Document) (old new : AddedLines)
-    → ((n : ℕ) → IsFollowed old n → IsFollowed new n) → (m : MadeEdit) → MakesOrFollows now before old m
-    → MakesOrFollows now before new m
-still_follows now before old new more m (inl makes) = inl makes
-still_follows now before old new more m (inr follows) = inr (more m.change.at follows)
+-- ---- one of the edits
 
 -- what holds of all edits holds of one of them, and of the others
 pub made_apart : (P : MadeEdit → Type 0) (m : MadeEdit) (later earlier : List MadeEdit)
@@ -327,6 +321,41 @@ made_of_others P m ms rest one h =
     (its, subst (All P) (sym one.others) others)
 
 -- ---- a new line or header more
+
+-- how much an element counts
+abbrev pub one_if : Bool → ℕ
+one_if b = cond b 1 0
+
+-- one element more is counted, or not
+pub counted_more : {A : Type 0} (p : A → Bool) (x : A) (xs : List A)
+    → count_by p (x ∷ xs) ≡ one_if (p x) + count_by p xs
+counted_more p x xs = sum_by-cons (λ y. one_if (p y)) x xs
+
+-- as it is alone
+counted_alone : {A : Type 0} (p : A → Bool) (x : A) (xs : List A)
+    → count_by p (x ∷ xs) ≡ count_by p (x ∷ []) + count_by p xs
+counted_alone p x xs = omega (arith, counted_more p x xs, counted_more p x [])
+
+-- where none of them is counted, none is there
+none_counted : (p : law.Edit → Bool) (es : List law.Edit) → count_by p es ≡ 0 → list_any p es ≡ false
+none_counted p es none = list_any_none p es (by es none)
+  where
+    its : (b : Bool) → one_if b ≡ 0 → b ≡ false
+    its false is = refl
+    its true is = absurd (omega (arith, is))
+
+    by : (fs : List law.Edit) → count_by p fs ≡ 0 → All (λ f. p f ≡ false) fs
+    by [] is = All-nil (λ f. p f ≡ false)
+    by (f ∷ fs) is =
+        All-cons (λ f. p f ≡ false) f fs (its (p f) (omega (arith, is, counted_more p f fs)))
+        (by fs (omega (arith, is, counted_more p f fs)))
+
+-- A line comes before headers that are appended, where none is counted, or elsewhere.
+pub before_headers : (bytes : List ℕ) (es : List law.Edit) (at : ℕ) (adds : AddedLines)
+    → count_by runs.is_header es ≡ adds.appended → (at ≢ length bytes) ⊎ (adds.appended ≡ 0)
+    → IsBeforeHeaders bytes es at
+before_headers bytes es at adds counted (inl other) = inr other
+before_headers bytes es at adds counted (inr none) = inl (none_counted runs.is_header es (counted ∙ none))
 
 -- what holds of one of the lines does so with one more before them
 pub any_later : (P : Added → Type 0) (l : Added) (lines : List Added) → Any P lines → Any P (l ∷ lines)
@@ -384,6 +413,52 @@ module _ (before : Document) (es : List law.Edit) (changes : List TextChange) (l
   known_with (law.remove p) same of = others_known
   known_with (law.append_table ks) same of = others_known
   known_with (law.append_element ks) same of = others_known
+
+  -- and counted
+  abbrev one_counted : (Added → Bool) → law.Edit → Option LineKind → Type 0
+  one_counted p g k =
+      count_by p (with_line before g c lines)
+      ≡ count_by p (lines_by (plain (runs.seen before g)) c.at k) + count_by p lines
+
+  line_counted : (p : Added → Bool) (f : law.Edit) → runs.seen before f ≡ a → IsOfKind before f line
+      → count_by p (with_line before f c lines) ≡ count_by p (lines_by (outlined o) c.at line) + count_by p lines
+  line_counted p f same of =
+      subst
+      (λ (g : law.Edit).
+      count_by p (with_line before f c lines) ≡ count_by p (lines_by g c.at line) + count_by p lines)
+      (ap plain same ∙ plain_is) (by f line of)
+    where
+      by : (g : law.Edit) (k : Option LineKind) → IsOfKind before g k → one_counted p g k
+      by (law.insert q v) k own =
+          subst (one_counted p (law.insert q v)) (sym own) (counted_alone p (line_then q) lines)
+      by (law.set q v) None own = omega arith
+      by (law.set q v) (Some k) own = omega arith
+      by (law.rename q name) None own = omega arith
+      by (law.rename q name) (Some k) own = omega arith
+      by (law.remove q) None own = omega arith
+      by (law.remove q) (Some k) own = omega arith
+      by (law.append_table ks) None own = omega arith
+      by (law.append_table ks) (Some k) own = omega arith
+      by (law.append_element ks) None own = omega arith
+      by (law.append_element ks) (Some k) own = omega arith
+
+  pub counted_with : IsCounted adds lines es → (f : law.Edit) → runs.seen before f ≡ a → IsOfKind before f line
+      → IsCounted next_adds (with_line before f c lines) (runs.seen before f ∷ es)
+  counted_with counts f same of = record {
+    ends = λ n. omega (arith, line_counted (is_end_at n) f same of, counts.ends n, kept.counts.ends n);
+    headed = λ n. omega (arith, line_counted (is_headed_at n) f same of, counts.headed n, kept.counts.headed n);
+    appended =
+        let alike : runs.is_header (runs.seen before f) ≡ runs.is_header (outlined o) =
+        ap runs.is_header same ∙ sym (plain_header a) ∙ ap runs.is_header plain_is in
+        omega (
+          arith,
+          counted_more runs.is_header (runs.seen before f) es,
+          counted_more runs.is_header (outlined o) [],
+          ap one_if alike,
+          counts.appended,
+          kept.counts.appended,
+        );
+  }
 
   -- and its header comes there, if it brings one
   pub headed_with : (f : law.Edit) → runs.seen before f ≡ a → IsOfKind before f line → (n : ℕ) (table : List Part)
@@ -484,6 +559,7 @@ module _ (s : Document) (edits : List Edit) (n : ℕ) (old now : ProfiledText) (
     (makes : MakesInRun now.profile before e a c line) (others_alone : All (λ y. LeavesAlone y o) outlines)
     (beside : All (λ b. IsBeside b c) changes) (placed : IsPlaced outlines now.text changes o c.at)
     (kept : IsLineKept adds changes o c.at line next_adds)
+    (ends : (kind : LineKind) → line ≡ Some kind → (c.at ≢ length now.text) ⊎ (adds.appended ≡ 0))
     (utf8 : All (λ b. IsUtf8 b.new) (with_change changes c))
     (within : All (IsChangeIn now.text) (with_change changes c)) where
   abbrev t : Document
@@ -519,23 +595,17 @@ module _ (s : Document) (edits : List Edit) (n : ℕ) (old now : ProfiledText) (
   keeps is of =
       by e is of (ap runs.is_insert (sym plain_is) ∙ plain_insert a) (ap runs.is_header (sym plain_is) ∙ plain_header a)
     where
-      all_inserts : (All (λ y. runs.is_insert (outlined y) ≡ true) outlines
-          ⊎ (ArePlain now.text changes × (All (LetsCome now.text changes c.at) changes
-          × (All (λ y. runs.is_header (outlined y) ≡ false) outlines ⊎ (c.at ≢ length now.text)))))
+      all_inserts : IsBeforeHeaders now.text es c.at → (All (λ y. runs.is_insert (outlined y) ≡ true) outlines
+          ⊎ (ArePlain now.text changes × All (LetsCome now.text changes c.at) changes))
           → All (λ f. IsTrue (runs.is_insert f)) es
           ⊎ (ArePlain (text before) changes × (All (LetsCome (text before) changes c.at) changes
           × IsBeforeHeaders (text before) es c.at))
-      all_inserts (inl all) = inl (h.inserts all)
-      all_inserts (inr (plain, (come, ends))) =
+      all_inserts headers (inl all) = inl (h.inserts all)
+      all_inserts headers (inr (plain, come)) =
           subst (λ (bytes : List ℕ). All (λ f. IsTrue (runs.is_insert f)) es
           ⊎ (ArePlain bytes changes × (All (LetsCome bytes changes c.at) changes
           × IsBeforeHeaders bytes es c.at)))
-          read.reads.spelled (inr (plain, (come, before_headers ends)))
-        where
-          before_headers : (All (λ y. runs.is_header (outlined y) ≡ false) outlines ⊎ (c.at ≢ length now.text))
-              → IsBeforeHeaders now.text es c.at
-          before_headers (inl none) = inl (list_any_none runs.is_header es (h.headless none))
-          before_headers (inr other) = inr other
+          read.reads.spelled (inr (plain, (come, headers)))
 
       all_headers : (All (λ y. runs.is_header (outlined y) ≡ true) outlines ⊎ IsPlainBefore now.text changes c.at)
           → All (λ f. IsTrue (runs.is_header f)) es ⊎ IsPlainBefore (text before) changes c.at
@@ -545,8 +615,11 @@ module _ (s : Document) (edits : List Edit) (n : ℕ) (old now : ProfiledText) (
       by : (f : law.Edit) → a ≡ runs.seen before f → IsOfKind before f line
           → runs.is_insert (outlined o) ≡ runs.is_insert a → runs.is_header (outlined o) ≡ runs.is_header a
           → KeepsPlace before es changes lines f c
-      by (law.insert p v) same of insert header =
-          (in_order p v same of, all_inserts (placed.insert (insert ∙ ap runs.is_insert same)))
+      by (law.insert p v) same of insert header = (
+        in_order p v same of,
+        all_inserts (before_headers now.text es c.at adds h.counts.appended (ends (kind_of before p) of))
+            (placed.insert (insert ∙ ap runs.is_insert same)),
+      )
       by (law.remove p) same of insert header = tt
       by (law.set p v) same of insert header = tt
       by (law.rename p name) same of insert header = tt
@@ -617,10 +690,6 @@ module _ (s : Document) (edits : List Edit) (n : ℕ) (old now : ProfiledText) (
         let (all_before, its) = parts (λ y. runs.is_header (outlined y) ≡ true) outlines o all in
         all_seen (λ g. IsTrue (runs.is_header g))
         (sym (plain_header a) ∙ ap runs.is_header plain_is ∙ its) (h.headers all_before);
-    headless = λ all.
-        let (all_before, its) = parts (λ y. runs.is_header (outlined y) ≡ false) outlines o all in
-        all_seen (λ g. runs.is_header g ≡ false)
-        (sym (plain_header a) ∙ ap runs.is_header plain_is ∙ its) (h.headless all_before);
     sets = set_in;
     renames = rename_in;
     allow = λ path name all.
@@ -628,10 +697,11 @@ module _ (s : Document) (edits : List Edit) (n : ℕ) (old now : ProfiledText) (
         all_seen (AllowsKey path name)
         (plain_allows path name a (subst (AllowsKey path name) (sym plain_is) its)) (h.allow path name all_before);
     lines = lines_known;
-    followed = All-cons (MakesOrFollows now before next_adds) (record { edit = longer.edit; change = c }) h.ms
-        (inl longer.makes)
-        (All-weaker (MakesOrFollows now before adds) (MakesOrFollows now before next_adds)
-        (still_follows now before adds next_adds kept.followed) h.ms h.followed);
+    counts = counted_with before es changes lines adds next_adds o a plain_is c line kept h.headers_known h.lines
+        h.counts longer.edit longer.seen_is longer.of;
+    followed = λ none.
+        All-cons (λ m. MakesChange now.profile limit before m.edit m.change)
+        (record { edit = longer.edit; change = c }) h.ms longer.makes (h.followed (sym kept.follower ∙ none));
     headed = λ i table there.
         headed_with before es changes lines adds next_adds o a plain_is c line kept h.headers_known h.lines longer.edit
         longer.seen_is longer.of i table (h.headed i) there;
@@ -655,21 +725,21 @@ pub record AreMadeTo (edits : List Edit) (first end : ℕ) (now : ProfiledText) 
   pub utf8 : All (λ c. IsUtf8 c.new) changes
 
 pub no_changes : (edits : List Edit) (first : ℕ) (now : ProfiledText) (adds : AddedLines)
-    → ((n : ℕ) → brought_at adds n ≡ None) → AreMadeTo edits first first now [] [] adds
-no_changes edits first now adds free = record {
+    → ((n : ℕ) → brought_at adds n ≡ None) → IsCounted adds [] [] → AreMadeTo edits first first now [] [] adds
+no_changes edits first now adds free counts = record {
   made = λ s old h. record {
     made = h;
     ms = [];
     alone = λ f all. All-nil (λ e. runs.LeavesAlone e f);
     inserts = λ all. All-nil (λ e. IsTrue (runs.is_insert e));
     headers = λ all. All-nil (λ e. IsTrue (runs.is_header e));
-    headless = λ all. All-nil (λ e. runs.is_header e ≡ false);
     sets = λ path (k, x, less, is, holds). absurd (omega (arith, less));
     renames = λ path name (k, x, less, is, holds). absurd (omega (arith, less));
     allow = λ path name all. All-nil (AllowsKey path name);
     lines = All-nil (IsKnownAt adds);
     headed = λ n table there. absurd (let both : None ≡ Some table = sym (free n) ∙ there in cc);
-    followed = All-nil (MakesOrFollows now h.tree adds);
+    counts = counts;
+    followed = λ none. All-nil (λ m. MakesChange now.profile limit h.tree m.edit m.change);
     headers_known = All-nil (IsHeaderKnown adds);
     at_once = tt;
     changes_are = refl;
@@ -686,16 +756,17 @@ pub more_changes : (edits : List Edit) (first end : ℕ) (now : ProfiledText) (o
     → MakesInRunHere now x (outlined o) t line → All (λ y. LeavesAlone y o) outlines
     → All (λ b. IsBeside b (change_of t)) changes → IsPlaced outlines now.text changes o (change_of t).at
     → IsLineKept adds changes o (change_of t).at line next
+    → ((kind : LineKind) → line ≡ Some kind → ((change_of t).at ≢ length now.text) ⊎ (adds.appended ≡ 0))
     → AreMadeTo edits first (suc end) now (outlines ++ o ∷ []) (with_change changes (change_of t)) next
 more_changes edits first end now outlines changes adds next d x o t line so_far lt here makes alone beside placed
-    kept =
+    kept ends =
     let c : TextChange = change_of t in
     let utf8 = all_with (λ b. IsUtf8 b.new) changes c so_far.utf8 (IsUtf8-string_bytes t.new) in
     let within = all_with (IsChangeIn now.text) changes c so_far.within (change_in now.text t makes.within) in
     record {
       made = λ s old h. one_made_more s edits end old now h.tree outlines changes adds next h.read
           (so_far.made s old h) d x lt here o makes.edit (makes.in_run h.tree) makes.is
-          (makes.outline_is h.tree h.read) c line (makes.makes h.tree h.read) alone beside placed kept utf8 within;
+          (makes.outline_is h.tree h.read) c line (makes.makes h.tree h.read) alone beside placed kept ends utf8 within;
       within = within;
       utf8 = utf8;
     }

@@ -9,8 +9,8 @@
 -- `passes_unless`: a header that passes by a path; `insert_alone`,
 -- `remove_alone`, `set_alone`, `rename_alone`, `table_alone`, `element_alone`, `alone_as`: an edit that all of those
 -- leave alone; `path_elsewhere`, `seen_elsewhere`, `rename_elsewhere`, `header_elsewhere`, `elsewhere_as`: an edit that
--- is elsewhere than in an array; `key_allowed`, `allowed_as`: a new key that all of those allow; `headless`: where
--- there is no header; `arrays_still`: arrays that are known still.
+-- is elsewhere than in an array; `key_allowed`, `allowed_as`: a new key that all of those allow; `arrays_still`:
+-- arrays that are known still.
 use Rattle.std.proofs.Common.{◌≡◌, ◌≢◌, ◌+◌, ◌-◌, ◌<◌, ◌==◌, ◌∷◌, ◌++◌, ◌∙◌, [], ℕ, Bor, FoldHasher, Global, List}
 use Rattle.std.proofs.Common.{None, Option, Some, String, ap, arith, false, fold, inl, inr, length, map, refl}
 use Rattle.std.proofs.Common.{All, slice_get, string_bytes, subst, sym, take, true}
@@ -49,7 +49,6 @@ goes_on a b c on more = record {
   beginnings = λ path has. more.beginnings path (on.beginnings path has);
   keys = λ text has. more.keys text (on.keys text has);
   names = λ text has. more.names text (on.names text has);
-  header = λ has. more.header (on.header has);
 }
 
 pub all_before : (P : ℕ → Type 0) (n : ℕ) → P n → ((k : ℕ) → k < n → P k) → (k : ℕ) → k < n + 1 → P k
@@ -178,8 +177,8 @@ module _ (seen : SeenPaths) where
   insert_alone path m names (Remove p) (h, keys) = apart p path h m
   insert_alone path m names (Set p) (h, keys) = apart p path h m
   insert_alone path m names (Rename p w) (h, new) = (apart p path h m, λ n is. names n w.now is new.2)
-  insert_alone path m names (Table ks) (h, header) = later (key_texts ks.now) path h m
-  insert_alone path m names (Element ks) (h, header) = later (key_texts ks.now) path h m
+  insert_alone path m names (Table ks) h = later (key_texts ks.now) path h m
+  insert_alone path m names (Element ks) h = later (key_texts ks.now) path h m
 
   pub remove_alone : (path : List Part) → MissesPath seen path → MissesNames seen path
       → (e : Outline) → IsSeen seen e → LeavesAlone e (Remove path)
@@ -187,8 +186,8 @@ module _ (seen : SeenPaths) where
   remove_alone path m names (Remove p) (h, keys) = tt
   remove_alone path m names (Set p) (h, keys) = apart p path h m
   remove_alone path m names (Rename p w) (h, new) = (apart p path h m, λ n is. names n w.now is new.2)
-  remove_alone path m names (Table ks) (h, header) = later (key_texts ks.now) path h m
-  remove_alone path m names (Element ks) (h, header) = later (key_texts ks.now) path h m
+  remove_alone path m names (Table ks) h = later (key_texts ks.now) path h m
+  remove_alone path m names (Element ks) h = later (key_texts ks.now) path h m
 
   pub set_alone : (path : List Part) → MissesPath seen path → MissesNames seen path
       → (e : Outline) → IsSeen seen e → LeavesAlone e (Set path)
@@ -196,8 +195,8 @@ module _ (seen : SeenPaths) where
   set_alone path m names (Remove p) (h, keys) = apart p path h m
   set_alone path m names (Set p) (h, keys) = tt
   set_alone path m names (Rename p w) (h, new) = (apart p path h m, λ n is. names n w.now is new.2)
-  set_alone path m names (Table ks) (h, header) = later (key_texts ks.now) path h m
-  set_alone path m names (Element ks) (h, header) = later (key_texts ks.now) path h m
+  set_alone path m names (Table ks) h = later (key_texts ks.now) path h m
+  set_alone path m names (Element ks) h = later (key_texts ks.now) path h m
 
   -- so an edit of a path is elsewhere than in an array that was seen, and one that was is elsewhere than in a new one
   pub path_elsewhere : (path : List Part) → MissesPath seen path → (array : List Part) → IsArraySeen seen array
@@ -211,8 +210,8 @@ module _ (seen : SeenPaths) where
   seen_elsewhere array m names (Set p) (h, keys) = turned p array (apart p array h m)
   seen_elsewhere array m names (Rename p w) (h, new) =
       (turned p array (apart p array h m), λ n is. names n w.now is new.2)
-  seen_elsewhere array m names (Table ks) (h, header) = later (key_texts ks.now) array h m
-  seen_elsewhere array m names (Element ks) (h, header) = later (key_texts ks.now) array h m
+  seen_elsewhere array m names (Table ks) h = later (key_texts ks.now) array h m
+  seen_elsewhere array m names (Element ks) h = later (key_texts ks.now) array h m
 
   pub rename_elsewhere : (path : List Part) (name : Bor (List ℕ)) → MissesPath seen path → ¬ HasKey seen name.now
       → (array : List Part) → IsArraySeen seen array → AreApart array path × IsNoStep name.now array
@@ -236,8 +235,8 @@ module _ (seen : SeenPaths) where
     below = (apart p path h m).0;
     new = λ same. new (subst (HasBeginning seen) same its.1);
   }
-  rename_alone path name m new lacks (Table ks) (h, header) = later_name (key_texts ks.now) path name.now h m new
-  rename_alone path name m new lacks (Element ks) (h, header) = later_name (key_texts ks.now) path name.now h m new
+  rename_alone path name m new lacks (Table ks) h = later_name (key_texts ks.now) path name.now h m new
+  rename_alone path name m new lacks (Element ks) h = later_name (key_texts ks.now) path name.now h m new
 
   -- each of those allows the new key of a rename
   pub key_allowed : (path : List Part) (name : Bor (List ℕ)) → LacksAbove seen path
@@ -255,9 +254,9 @@ module _ (seen : SeenPaths) where
         | inl same ↦ inl same
         | inr below ↦ inr (record { below = below; new = λ same. new (subst (HasBeginning seen) same its.1) })
       ]
-  key_allowed path name m new lacks (Table ks) (h, header) =
+  key_allowed path name m new lacks (Table ks) h =
       passes_later (key_texts ks.now) (beside path name.now) h (some_pushed (without_last path) name.now) new
-  key_allowed path name m new lacks (Element ks) (h, header) =
+  key_allowed path name m new lacks (Element ks) h =
       passes_later (key_texts ks.now) (beside path name.now) h (some_pushed (without_last path) name.now) new
 
   pub table_alone : (more : Bor (List (String Global))) → MissesPath seen (path_to more)
@@ -266,9 +265,9 @@ module _ (seen : SeenPaths) where
   table_alone more m (Remove p) (h, keys) = earlier (key_texts more.now) p m h
   table_alone more m (Set p) (h, keys) = earlier (key_texts more.now) p m h
   table_alone more m (Rename p w) (h, new) = earlier_name (key_texts more.now) p w.now m h new.0
-  table_alone more m (Table ks) (h, header) =
+  table_alone more m (Table ks) h =
       λ same. m.lacks (subst (λ (l : List (List ℕ)). HasBeginning seen (map key l)) same (whole (path_to ks) h))
-  table_alone more m (Element ks) (h, header) = apart (path_to ks) (path_to more) h m
+  table_alone more m (Element ks) h = apart (path_to ks) (path_to more) h m
 
   pub element_alone : (more : Bor (List (String Global))) → MissesPath seen (path_to more)
       → (e : Outline) → IsSeen seen e → LeavesAlone e (Element more)
@@ -276,17 +275,8 @@ module _ (seen : SeenPaths) where
   element_alone more m (Remove p) (h, keys) = earlier (key_texts more.now) p m h
   element_alone more m (Set p) (h, keys) = earlier (key_texts more.now) p m h
   element_alone more m (Rename p w) (h, new) = earlier_name (key_texts more.now) p w.now m h new.0
-  element_alone more m (Table ks) (h, header) = apart (path_to ks) (path_to more) h m
-  element_alone more m (Element ks) (h, header) = inr (apart (path_to ks) (path_to more) h m)
-
-  -- no header was seen
-  pub headless : seen.has_header ≡ false → (e : Outline) → IsSeen seen e → runs.is_header (outlined e) ≡ false
-  headless none (Insert p) h = refl
-  headless none (Remove p) h = refl
-  headless none (Set p) h = refl
-  headless none (Rename p w) h = refl
-  headless none (Table ks) (h, header) = sym header ∙ none
-  headless none (Element ks) (h, header) = sym header ∙ none
+  element_alone more m (Table ks) h = apart (path_to ks) (path_to more) h m
+  element_alone more m (Element ks) h = inr (apart (path_to ks) (path_to more) h m)
 
   pub allowed_as : (x y : Outline) → x ≡ y → ((e : Outline) → IsSeen seen e → Allows e y)
       → (e : Outline) → IsSeen seen e → Allows e x

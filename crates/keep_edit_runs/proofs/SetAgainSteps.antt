@@ -8,10 +8,12 @@
 -- place are one (`wrote`). So it makes what the set makes (`as_set`).
 --
 -- Theorems: `all_but`, `each_replaced`: what holds of each change holds with one in the place of another;
+-- `headers_apart`, `counted_too`: of an edit that is no header, and of edits with the same lines and as many headers;
 -- `changes_again`.
 use Rattle.std.proofs.Common.{◌≡◌, ◌<◌, ◌∷◌, ◌++◌, [], ℕ, suc, List, length, take, drop, get_or, refl, sym}
-use Rattle.std.proofs.Common.{ap, subst, ◌∙◌, All, IsUtf8, inl, inr, None, false}
+use Rattle.std.proofs.Common.{ap, subst, ◌∙◌, arith, All, IsUtf8, inl, inr, None, false}
 use Rattle.std.specs.Prelude.{◌⊎◌, Any, IsTrue}
+use Rattle.std.specs.List.{count_by}
 use Rattle.std.proofs.lemmas.List.Elements.{All-cons, All-head, All-tail}
 use Rattle.std.proofs.lemmas.Str.{IsUtf8-string_bytes}
 use Rattle.keep_syntax.specs.Tree.{Document, Value, text}
@@ -20,13 +22,14 @@ use Rattle.keep_edit_spec.specs.Changed.{put}
 use Rattle.keep_edit_spec.specs.Edits as law
 use Rattle.keep_edit_spec.specs.Edits.{edited_document, place}
 use Rattle.keep_edit_spec.specs.EntryEdits.{MakesSet}
-use Rattle.keep_edit_spec.specs.InsertKinds.{IsHeaderAt}
+use Rattle.keep_edit_spec.specs.InsertKinds.{Added, IsHeaderAt}
 use Rattle.keep_edit_spec.specs.Laws.{IsLawfulEdit}
 use Rattle.keep_edit_spec.specs.Refusals.{refusal}
 use Rattle.keep_edit_spec.specs.RenameLists.{AllowsKey, IsRenameIn, IsRenameOf}
 use Rattle.keep_edit_spec.specs.RunLists.{IsRunSetAgain, IsSetIn, MadeEdit, changes_of, lines_of, made, seen_of}
 use Rattle.keep_edit_spec.specs.Runs as runs
-use Rattle.keep_edit_spec.specs.Runs.{IsRun}
+use Rattle.keep_edit_spec.specs.LinesAhead.{is_end_at, is_headed_at}
+use Rattle.keep_edit_spec.specs.Runs.{IsRun, MakesChange}
 use Rattle.keep_edit_spec.specs.SetValues.{SetsValue}
 use Rattle.keep_edit_spec.specs.TextChanges.{Follow, TextChange, change_at, moved_by_all, text_with}
 use Rattle.keep_edit_spec.proofs.Shared.{change_put, each_of_others, entry_lawful, lines_apart, one_in_place}
@@ -36,15 +39,15 @@ use Rattle.keep_edit_plan.proofs.Shared.{change_in, editable}
 use Rattle.keep_edit_plan.specs.TextEdits.{HasChange, IsChangeIn, IsReplaced, change_of}
 use Rattle.keep_edit_plan.specs.declared.edit.Edit.{Edit}
 use Rattle.keep_edit_plan.specs.declared.text_edit.TextEdit.{TextEdit}
-use Rattle.keep_edit_runs.specs.AddedLines.{IsHeaderKnown, IsKnownAt}
+use Rattle.keep_edit_runs.specs.AddedLines.{IsCounted, IsHeaderKnown, IsKnownAt}
 use Rattle.keep_edit_runs.specs.Lists.{AreMade}
 use Rattle.keep_edit_plan.specs.Reading.{limit, IsTextOfTree, ProfiledText}
 use Rattle.keep_edit_runs.specs.Runs.{IsRunTo, SetsAgainHere, changed_text}
 use Rattle.keep_edit_runs.specs.declared.added_lines.AddedLines.{AddedLines}
 use Rattle.keep_edit_runs.specs.declared.outline.Outline.{Outline}
 use Rattle.keep_edit_runs.proofs.MadeMore.{more_made}
-use Rattle.keep_edit_runs.proofs.RunSteps.{AreMadeTo, run_so_far, text_utf8, tree_of_run}
-use Rattle.keep_edit_runs.proofs.RunSteps.{MakesOrFollows, made_of_others}
+use Rattle.keep_edit_runs.proofs.RunSteps.{AreMadeTo, counted_more, made_of_others, one_if, run_so_far, text_utf8}
+use Rattle.keep_edit_runs.proofs.RunSteps.{tree_of_run}
 
 -- ---- the edits in the list
 
@@ -79,6 +82,34 @@ rename_by_one q m (x ∷ later) earlier (inr h) = elim (rename_by_one q m later 
   | inl its ↦ inl its
   | inr further ↦ inr (inr further)
 ]
+
+-- how many of the edits append headers
+abbrev pub headers_in : Document → List MadeEdit → ℕ
+headers_in s ms = count_by runs.is_header (seen_of s ms)
+
+-- One that appends none counts nowhere among them.
+pub headers_apart : (s : Document) (m : MadeEdit) (later earlier : List MadeEdit)
+    → runs.is_header (runs.seen s m.edit) ≡ false
+    → headers_in s (later ++ m ∷ earlier) ≡ headers_in s (later ++ earlier)
+headers_apart s m [] earlier none =
+    omega (arith, counted_more runs.is_header (runs.seen s m.edit) (seen_of s earlier), ap one_if none)
+headers_apart s m (x ∷ later) earlier none =
+    omega (
+      arith,
+      counted_more runs.is_header (runs.seen s x.edit) (seen_of s (later ++ m ∷ earlier)),
+      counted_more runs.is_header (runs.seen s x.edit) (seen_of s (later ++ earlier)),
+      headers_apart s m later earlier none,
+    )
+
+-- What is counted of edits is counted of others with the same lines, of which as many append headers.
+pub counted_too : (added : AddedLines) (old new : List Added) (es others : List law.Edit) → old ≡ new
+    → count_by runs.is_header es ≡ count_by runs.is_header others → IsCounted added old es
+    → IsCounted added new others
+counted_too added old new es others same as_many counts = record {
+  ends = λ n. ap (count_by (is_end_at n)) (sym same) ∙ counts.ends n;
+  headed = λ n. ap (count_by (is_headed_at n)) (sym same) ∙ counts.headed n;
+  appended = sym as_many ∙ counts.appended;
+}
 
 -- ---- one more
 
@@ -216,6 +247,14 @@ module _ (s : Document) (edits : List Edit) (n : ℕ) (old now : ProfiledText) (
       ∙ lines_apart before (made (law.set again.path r.value) r.c) r.one.later r.one.earlier (λ lines. refl)
       ∙ ap (lines_of before) (sym r.one.others)
 
+  -- nor does it append a header
+  headers_same : headers_in before h.ms ≡ headers_in before ms
+  headers_same =
+      ap (headers_in before) r.one.all
+      ∙ headers_apart before (made (law.set again.path r.value) r.c) r.one.later r.one.earlier refl
+      ∙ ap (headers_in before) (sym r.one.others)
+      ∙ sym (headers_apart before (made e c) [] r.rest refl)
+
   pub made_again : IsRunTo s edits (suc n) old now before outlines new adds
   made_again = record {
     made = all_made;
@@ -224,14 +263,16 @@ module _ (s : Document) (edits : List Edit) (n : ℕ) (old now : ProfiledText) (
         all_again (λ g. runs.LeavesAlone g f) (set_alone again.path r.value again.value f) (h.alone f all);
     inserts = λ all. all_again (λ g. IsTrue (runs.is_insert g)) (λ its. its) (h.inserts all);
     headers = λ all. all_again (λ g. IsTrue (runs.is_header g)) (λ its. its) (h.headers all);
-    headless = λ all. all_again (λ g. runs.is_header g ≡ false) (λ its. its) (h.headless all);
     sets = λ q any. set_in q (h.sets q any);
     renames = λ q name any. rename_in q (h.renames q name any);
     allow = λ q name all. all_again (AllowsKey q name) (λ its. its) (h.allow q name all);
     lines = subst (All (IsKnownAt adds)) lines_same h.lines;
-    followed = All-cons (MakesOrFollows now before adds) (made e c) r.rest (inl (again.sets before read))
-        (made_of_others (MakesOrFollows now before adds) (made (law.set again.path r.value) r.c) h.ms r.rest r.one
-        h.followed).1;
+    counts = counted_too adds (lines_of before h.ms) (lines_of before ms) (seen_of before h.ms) (seen_of before ms)
+        lines_same headers_same h.counts;
+    followed = λ none.
+        All-cons (λ m. MakesChange now.profile limit before m.edit m.change) (made e c) r.rest (again.sets before read)
+        (made_of_others (λ m. MakesChange now.profile limit before m.edit m.change)
+        (made (law.set again.path r.value) r.c) h.ms r.rest r.one (h.followed none)).1;
     headed = λ i table there. subst (Any (IsHeaderAt i)) lines_same (h.headed i table there);
     headers_known = all_again (IsHeaderKnown adds) (λ its. its) h.headers_known;
     at_once = r.still;

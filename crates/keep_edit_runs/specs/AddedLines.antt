@@ -1,54 +1,48 @@
 -- The lines that edits of a list add which are made at once, and the headers that they append, as far as they are gone
 -- through.
-use Rattle.std.specs.Prelude.{◌≡◌, ◌≢◌, ◌⊎◌, ⊤, ℕ, ◌==◌, IsTrue, List, Option, Some, None, map, nat_eq}
+use Rattle.std.specs.Prelude.{◌≡◌, ◌≢◌, ◌⊎◌, ⊤, ℕ, suc, ◌+◌, ◌<◌, ◌==◌, Bool, IsTrue, List, [], ◌∷◌, Option, Some}
+use Rattle.std.specs.Prelude.{None, if◌then◌else◌, map, nat_eq}
 use Rattle.std.specs.HashMap.{get}
 use Rattle.std.specs.HashSet.{contains_by}
+use Rattle.std.specs.List.{count_by}
 use Rattle.keep_path.specs.Path.{Part, key}
 use Rattle.keep_edit_spec.specs.Edits as law
 use Rattle.keep_edit_spec.specs.InsertKinds.{Added, table_of}
+use Rattle.keep_edit_spec.specs.LinesAhead.{is_end_at, is_headed_at}
+use Rattle.keep_edit_spec.specs.Runs.{is_header}
 use Rattle.keep_edit_spec.specs.declared.line_kind.LineKind.{LineKind}
 use Rattle.keep_edit_spec.specs.declared.line_kind.LineKind.TheVariants.{LastInBody, OfDotted, WithHeader}
+use Rattle.keep_edit_runs.specs.Counts.{IsOneMore, count_at}
 use Rattle.keep_edit_runs.specs.Seen.{number_of}
-use Rattle.keep_edit_runs.specs.SeenHeaders.{HasAppended, HasHeader, HasTableOf, IsHeaderBrought}
+use Rattle.keep_edit_runs.specs.SeenHeaders.{HasAppended, HasHeader, HasTableOf, IsHeaderAppendedLater, IsHeaderBrought}
 use Rattle.keep_edit_runs.specs.declared.added_lines.AddedLines.{AddedLines}
-use Rattle.keep_edit_runs.specs.declared.added_lines.LinesAt.{LinesAt}
-use Rattle.keep_edit_runs.specs.declared.added_lines.LinesAt.TheVariants.{EndOfBody, OfTable}
 
--- the lines without a header that come at a byte
-abbrev pub lines_at : AddedLines → ℕ → Option LinesAt
-lines_at added at = get nat_eq added.lines at
+-- the table of the lines at a byte that dotted keys make
+abbrev pub dotted_at : AddedLines → ℕ → Option (List Part)
+dotted_at added at = get nat_eq added.dotted at
 
 -- the table whose header comes there
 abbrev pub brought_at : AddedLines → ℕ → Option (List Part)
 brought_at added at = get nat_eq added.brought at
 
--- lines come behind the one with it
-abbrev pub IsFollowed : AddedLines → ℕ → Type 0
-IsFollowed added at = IsTrue (contains_by (λ n. at == n) added.followed)
-
 -- the header of that table is one of those
 abbrev pub HasTable : AddedLines → List Part → Type 0
 HasTable added table = IsTrue (contains_by (λ n. number_of table == n) added.tables)
 
--- A line of that kind is known: its byte has such lines, or the header of its table, which is one of those by its path
--- and its keys.
+-- A line of that kind is known: lines that end a body are counted at its byte, or its table is that of the lines there
+-- which dotted keys make, or of the header there, which is one of those by its path and its keys.
 abbrev pub IsKnownAs : LineKind → AddedLines → Added → Type 0
-IsKnownAs LastInBody added l = lines_at added l.at ≡ Some EndOfBody
-IsKnownAs OfDotted added l =
-    (lines_at added l.at ≡ Some (OfTable (table_of l))) ⊎ (lines_at added l.at ≡ Some EndOfBody)
+IsKnownAs LastInBody added l = 0 < count_at added.ends l.at
+IsKnownAs OfDotted added l = dotted_at added l.at ≡ Some (table_of l)
 IsKnownAs WithHeader added l =
     (brought_at added l.at ≡ Some (table_of l)) × (HasTable added (table_of l) × HasTableOf added.headers (table_of l))
 
 abbrev pub IsKnownAt : AddedLines → Added → Type 0
 IsKnownAt added l = IsKnownAs l.kind added l
 
--- The header of a table comes at that byte, with its line alone; and no header that is appended is of the table or goes
--- through it.
-pub record LetsAhead (added : AddedLines) (at : ℕ) : Type 0 where
-  pub table : List Part
-  pub header : brought_at added at ≡ Some table
-  pub unfollowed : ¬ IsFollowed added at
-  pub passed : ¬ HasAppended added.headers table
+-- No header that is appended is of the table whose header comes at that byte, or goes through it.
+abbrev pub PassesHeaderAt : AddedLines → ℕ → Type 0
+PassesHeaderAt added at = (table : List Part) → brought_at added at ≡ Some table → ¬ HasAppended added.headers table
 
 -- The header that the edit appends, if it does, is known.
 abbrev pub IsHeaderKnown : AddedLines → law.Edit → Type 0
@@ -56,49 +50,100 @@ IsHeaderKnown added (law.append_table keys) = HasHeader added.headers (map key k
 IsHeaderKnown added (law.append_element keys) = HasHeader added.headers (map key keys)
 IsHeaderKnown added e = ⊤
 
+-- ---- how many there are
+
+-- Of edits that add these lines the lines that end bodies are counted, those with headers and behind them, and the
+-- headers that are appended.
+pub record IsCounted (added : AddedLines) (lines : List Added) (edits : List law.Edit) : Type 0 where
+  pub ends : (n : ℕ) → count_by (is_end_at n) lines ≡ count_at added.ends n
+  pub headed : (n : ℕ) → count_by (is_headed_at n) lines ≡ count_at added.headed n
+  pub appended : count_by is_header edits ≡ added.appended
+
+-- the line of an insert with that first new key
+abbrev pub line_of : List Part → ℕ → LineKind → Added
+line_of first at kind = record { first = first; at = at; kind = kind }
+
+-- the line of this kind that an edit adds at a byte, if it adds one
+abbrev pub lines_by : law.Edit → ℕ → Option LineKind → List Added
+lines_by e at None = []
+lines_by e at (Some kind) = elim e [
+  | law.insert first value ↦ line_of first at kind ∷ []
+  | _ ↦ []
+]
+
+-- One edit more is counted.
+pub record IsCountedMore (old : AddedLines) (e : law.Edit) (at : ℕ) (line : Option LineKind) (new : AddedLines)
+    : Type 0 where
+  pub ends : (n : ℕ) → count_at new.ends n ≡ count_by (is_end_at n) (lines_by e at line) + count_at old.ends n
+  pub headed : (n : ℕ) → count_at new.headed n ≡ count_by (is_headed_at n) (lines_by e at line) + count_at old.headed n
+  pub appended : new.appended ≡ count_by is_header (e ∷ []) + old.appended
+
+-- how many lines at a byte come behind one of that kind
+abbrev pub lines_known_behind : AddedLines → LineKind → ℕ → ℕ
+lines_known_behind added OfDotted at = count_at added.ends at + count_at added.headed at
+lines_known_behind added LastInBody at = count_at added.headed at
+lines_known_behind added WithHeader at = 0
+
+-- So many come behind a line of this kind at a byte, with the headers that are appended, if it is at the end of the
+-- text.
+abbrev pub IsCountBehind : AddedLines → Option LineKind → ℕ → Bool → ℕ → Type 0
+IsCountBehind added None at is_at_end n = n ≡ 0
+IsCountBehind added (Some kind) at is_at_end n =
+    n ≡ lines_known_behind added kind at + (if is_at_end then added.appended else 0)
+
 -- ---- one line more
 
--- The byte has these lines now, and each other has what it had.
-pub record IsKept (old : AddedLines) (at : ℕ) (lines : LinesAt) (new : AddedLines) : Type 0 where
-  pub here : lines_at new at ≡ Some lines
-  pub others : (n : ℕ) → n ≢ at → lines_at new n ≡ lines_at old n
-
--- the same headers
+-- the same headers with lines
 pub record IsSameOfHeaders (old new : AddedLines) : Type 0 where
   pub brought : new.brought ≡ old.brought
-  pub followed : new.followed ≡ old.followed
+  pub headed : new.headed ≡ old.headed
+  pub follower : new.has_follower ≡ old.has_follower
   pub tables : new.tables ≡ old.tables
   pub headers : new.headers ≡ old.headers
+  pub appended : new.appended ≡ old.appended
 
--- the end of a body, whatever came before
-pub record IsAtEnd (old : AddedLines) (at : ℕ) (new : AddedLines) : Type 0 where
-  pub kept : IsKept old at EndOfBody new
+-- one more that ends a body
+pub record IsEndMore (old : AddedLines) (at : ℕ) (new : AddedLines) : Type 0 where
+  pub one : IsOneMore old.ends at new.ends
+  pub dotted : new.dotted ≡ old.dotted
   pub same : IsSameOfHeaders old new
 
 -- which is behind no header
 pub record IsEndKept (old : AddedLines) (at : ℕ) (new : AddedLines) : Type 0 where
   pub free : brought_at old at ≡ None
-  pub end : IsAtEnd old at new
+  pub more : IsEndMore old at new
 
--- a line of a table, where no others without a header are
+-- a line of a table that dotted keys make, where no others of such tables are
 pub record IsAloneKept (old : AddedLines) (at : ℕ) (table : List Part) (new : AddedLines) : Type 0 where
-  pub free : (lines_at old at ≡ None) ⊎ (lines_at old at ≡ Some (OfTable table))
-  pub kept : IsKept old at (OfTable table) new
+  pub free : (dotted_at old at ≡ None) ⊎ (dotted_at old at ≡ Some table)
+  pub here : dotted_at new at ≡ Some table
+  pub others : (n : ℕ) → n ≢ at → dotted_at new n ≡ dotted_at old n
+  pub ends : new.ends ≡ old.ends
   pub same : IsSameOfHeaders old new
 
--- and no header
+-- and none that ends a body, and no header
 pub record IsTableKept (old : AddedLines) (at : ℕ) (table : List Part) (new : AddedLines) : Type 0 where
   pub free : brought_at old at ≡ None
+  pub endless : count_at old.ends at ≡ 0
   pub alone : IsAloneKept old at table new
 
 -- a header, which is the first there, and of its table
 pub record IsHeaderKept (old : AddedLines) (at : ℕ) (table : List Part) (new : AddedLines) : Type 0 where
   pub free : brought_at old at ≡ None
-  pub lines : new.lines ≡ old.lines
-  pub followed : new.followed ≡ old.followed
+  pub dotted : new.dotted ≡ old.dotted
+  pub ends : new.ends ≡ old.ends
+  pub one : IsOneMore old.headed at new.headed
+  pub follower : new.has_follower ≡ old.has_follower
+  pub appended : new.appended ≡ old.appended
   pub here : brought_at new at ≡ Some table
   pub others : (n : ℕ) → n ≢ at → brought_at new n ≡ brought_at old n
   pub first : ¬ HasTable old table
   pub with_it : HasTable new table
   pub more : (q : List Part) → HasTable old q → HasTable new q
   pub brought : IsHeaderBrought old.headers table new.headers
+
+-- a header that is appended, of no table of a line with one
+pub record IsAppendedKept (old : AddedLines) (keys : List (List ℕ)) (new : AddedLines) : Type 0 where
+  pub appends : IsHeaderAppendedLater old.headers (map key keys) new.headers
+  pub one : new.appended ≡ suc old.appended
+  pub rest : new ≡ record old { headers = new.headers; appended = new.appended }

@@ -1,6 +1,6 @@
 -- Edits of a list that are made at once, and one more that does again what one of them did: its change comes in the
 -- place of that one's.
-use Rattle.std.specs.Prelude.{◌≡◌, ◌⊎◌, ⊤, ℕ, true, List, [], ◌∷◌, string_bytes}
+use Rattle.std.specs.Prelude.{◌≡◌, ◌⊎◌, ⊤, false, true, List, [], ◌∷◌, string_bytes}
 use Rattle.keep_syntax.specs.Tree.{Document, Value}
 use Rattle.keep_path.specs.Path.{Part}
 use Rattle.keep_edit_spec.specs.Edits as law
@@ -13,7 +13,6 @@ use Rattle.keep_edit_plan.specs.TextEdits.{HasInstead, IsReplaced, change_of}
 use Rattle.keep_edit_plan.specs.declared.edit.Edit.{Edit}
 use Rattle.keep_edit_plan.specs.declared.text_edit.TextEdit.{TextEdit}
 use Rattle.keep_edit_plan.specs.Answers.{IsSpanOf}
-use Rattle.keep_edit_runs.specs.AddedLines.{IsFollowed}
 use Rattle.keep_edit_runs.specs.Lists.{IsEdit}
 use Rattle.keep_edit_plan.specs.Reading.{IsTextOfTree, ProfiledText, limit}
 use Rattle.keep_edit_runs.specs.Runs.{Allows, RenamesAgainHere, SetsAgainHere, outlined}
@@ -68,5 +67,5 @@ AllowAgain P (again.Line number was t) =
 
 -- A line is put in the place of another only where none comes behind a header's.
 abbrev pub LetsAgain : AddedLines → Again → Type 0
-LetsAgain added (again.Line number was t) = (at : ℕ) → ¬ IsFollowed added at
+LetsAgain added (again.Line number was t) = added.has_follower ≡ false
 LetsAgain added a = ⊤

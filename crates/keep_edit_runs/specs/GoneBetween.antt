@@ -1,5 +1,6 @@
 -- Elements of arrays of tables that are removed between edits of all kinds.
 use Rattle.std.specs.Prelude.{◌≡◌, ℕ, All, Any, List, false, string_bytes, take, true}
+use Rattle.std.specs.List.{count_by}
 use Rattle.keep_syntax.specs.Tree.{Document}
 use Rattle.keep_path.specs.Path.{Part}
 use Rattle.keep_edit_spec.specs.ElementRuns.{IsElementRun, IsElsewhere, changed_path}
@@ -60,9 +61,9 @@ pub record IsElementRunTo (s : Document) (edits : List Edit) (end : ℕ) (old no
   pub paths : List (List Part)
   pub alone : (f : law.Edit) → All (λ x. runs.LeavesAlone (outlined x) (plain f)) outlines
       → All (λ e. runs.LeavesAlone e f) es
-  pub headless : All (λ x. runs.is_header (outlined x) ≡ false) outlines → All (λ e. runs.is_header e ≡ false) es
   pub elsewhere : (path : List Part) → All (λ x. IsElsewhere path (outlined x)) outlines → All (IsElsewhere path) es
   pub known : All (IsKnownAt added) lines
+  pub counted : count_by runs.is_header es ≡ added.appended
   pub headers_known : All (IsHeaderKnown added) es
   pub of_arrays : All (λ path. HasArray arrays (changed_path path)) paths
   pub leads : (q : List Part) → first_path paths q ≡ first_path gone q

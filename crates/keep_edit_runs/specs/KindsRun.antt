@@ -1,7 +1,7 @@
 -- A run of edits of several kinds that are made at once, between which elements of arrays of tables are removed: what
 -- is known of it, and what one edit more does to it.
-use Rattle.std.specs.Prelude.{◌≡◌, ◌≢◌, ◌⊎◌, ℕ, Bool, All, List, [], ◌∷◌, ◌++◌, None, Option, false, get_or}
-use Rattle.std.specs.Prelude.{length, true}
+use Rattle.std.specs.Prelude.{◌≡◌, ◌⊎◌, ℕ, Bool, All, List, [], ◌∷◌, ◌++◌, None, Option, false, get_or}
+use Rattle.std.specs.Prelude.{true}
 use Rattle.keep_edit_spec.specs.ElementRuns.{IsElsewhere}
 use Rattle.keep_edit_spec.specs.Runs as runs
 use Rattle.keep_edit_spec.specs.Runs.{ArePlain, IsPlain, IsPlainBefore, LetsCome}
@@ -21,7 +21,7 @@ use Rattle.keep_edit_runs.specs.declared.gone_between.GoneBetween.{GoneBetween}
 use Rattle.keep_edit_runs.specs.declared.kinds_run.KindsRun.{KindsRun}
 use Rattle.keep_edit_runs.specs.declared.outline.Outline.{Outline}
 use Rattle.keep_edit_runs.specs.declared.seen_paths.SeenPaths.{SeenPaths}
-use Rattle.keep_edit_runs.specs.AddedLines.{brought_at}
+use Rattle.keep_edit_runs.specs.AddedLines.{IsCounted, brought_at}
 
 -- the paths of its edits are known, and those of the arrays
 abbrev pub AreSeen : KindsRun → Type 0
@@ -35,6 +35,7 @@ pub record StartsAt (now : ProfiledText) (run : KindsRun) : Type 0 where
   pub elements : run.gone.elements ≡ []
   pub text : run.is_text_plain ≡ false
   pub brought : (n : ℕ) → brought_at run.lines n ≡ None
+  pub counts : IsCounted run.lines [] []
   pub planner : run.planner ≡ now
 
 -- Its edits are of the document of this text, and their paths are known. If the text, or what they write, is known to
@@ -75,12 +76,10 @@ pub record KeepsArray (old : KindsRun) (array : List Part) (new : KindsRun) : Ty
   pub rest : new ≡ with_gone old new.paths new.gone
 
 -- If an edit writes a line or a header, each newline is alike, and none takes the byte before its place, but for one in
--- whose place a line comes; nor, before a line, writes a header there.
-pub record IsPlacedAmong (outlines : List Outline) (bytes : List ℕ) (changes : List TextChange) (x : Outline) (at : ℕ)
-    : Type 0 where
+-- whose place a line comes.
+pub record IsPlacedAmong (bytes : List ℕ) (changes : List TextChange) (x : Outline) (at : ℕ) : Type 0 where
   pub insert : runs.is_insert (outlined x) ≡ true
-      → ArePlain bytes changes × (All (LetsCome bytes changes at) changes
-      × (All (λ y. runs.is_header (outlined y) ≡ false) outlines ⊎ (at ≢ length bytes)))
+      → ArePlain bytes changes × All (LetsCome bytes changes at) changes
   pub header : runs.is_header (outlined x) ≡ true → IsPlainBefore bytes changes at
 
 -- ---- one edit more
@@ -99,7 +98,7 @@ pub record AddsOne (now : ProfiledText) (old : KindsRun) (edit : Edit) (new : Ki
   pub makes : MakesInRunHere now edit (outlined outline) change line
   pub alone : All (λ y. LeavesAlone y outline) old.so_far.outlines.items
   pub elsewhere : All (λ array. IsElsewhere array (outlined outline)) old.gone.arrays.items
-  pub placed : IsPlacedAmong old.so_far.outlines.items now.text old.so_far.changes outline (change_of change).at
+  pub placed : IsPlacedAmong now.text old.so_far.changes outline (change_of change).at
   pub added : IsAddedTo now edit old outline (change_of change) line new
   pub outlines : new.so_far.outlines.items ≡ old.so_far.outlines.items ++ outline ∷ []
   pub gone : new.gone ≡ old.gone

@@ -13,3 +13,4 @@ pub mod KindsRun
 pub mod LastElements
 pub mod FilledTables
 pub mod Next
+pub mod Counts

@@ -1,6 +1,6 @@
 -- Edits of a list that are made at once: each makes its change of the document before all of them.
 use Rattle.std.specs.Prelude.{◌≡◌, ◌≢◌, ◌⊎◌, ⊤, ℕ, suc, ◌+◌, Bool, true, false, ◌||◌, IsTrue, List, [], ◌∷◌}
-use Rattle.std.specs.Prelude.{◌++◌, All, Any, IsUtf8, Option, Some, drop, length, map, take, String}
+use Rattle.std.specs.Prelude.{◌++◌, ◌<◌, ◌==◌, All, Any, IsUtf8, Option, Some, drop, length, map, take, String}
 use Rattle.std.specs.Prelude.{string_bytes}
 use Rattle.std.specs.Global.{Global}
 use Rattle.std.specs.List.{list_any}
@@ -16,6 +16,7 @@ use Rattle.keep_edit_spec.specs.Edits as law
 use Rattle.keep_edit_spec.specs.EntryEdits.{MakesSet}
 use Rattle.keep_edit_spec.specs.InsertKinds.{Added, IsAfterLine, IsHeaderAt, kind_of}
 use Rattle.keep_edit_spec.specs.Laws.{IsEditable}
+use Rattle.keep_edit_spec.specs.LinesAhead.{comes_before}
 use Rattle.keep_edit_spec.specs.Look.{holder, keys_in}
 use Rattle.keep_edit_spec.specs.RemovedHeaders.{IsHeaderRun, RemovesHeader, first_path}
 use Rattle.keep_edit_spec.specs.RenameLists.{AllowsKey, IsRenameIn}
@@ -30,8 +31,9 @@ use Rattle.keep_edit_spec.specs.declared.line_kind.LineKind.{LineKind}
 use Rattle.keep_edit_spec.specs.declared.line_kind.LineKind.TheVariants.{LastInBody, WithHeader}
 use Rattle.keep_edit_plan.specs.Headers.{key_texts}
 use Rattle.keep_edit_plan.specs.TextEdits.{HasChange, IsPutAhead, MakesChangeHere, change_of}
-use Rattle.keep_edit_runs.specs.AddedLines.{IsFollowed, IsHeaderKnown, IsKnownAt, IsSameOfHeaders}
-use Rattle.keep_edit_runs.specs.AddedLines.{brought_at}
+use Rattle.keep_edit_runs.specs.AddedLines.{IsCountBehind, IsCounted, IsCountedMore, IsHeaderKnown, IsKnownAt}
+use Rattle.keep_edit_runs.specs.AddedLines.{PassesHeaderAt, brought_at, line_of}
+use Rattle.keep_edit_runs.specs.Counts.{IsOneMore}
 use Rattle.keep_edit_plan.specs.Answers.{IsSpanOf}
 use Rattle.keep_edit_runs.specs.Gone.{IsGoneWith}
 use Rattle.keep_edit_runs.specs.Lists.{AreMade, IsEdit}
@@ -45,7 +47,6 @@ use Rattle.keep_edit_runs.specs.declared.outline.Outline.{Outline}
 use Rattle.keep_edit_runs.specs.declared.outline.Outline.TheVariants as kind
 use Rattle.keep_edit_runs.specs.declared.outline.SeenAs.{SeenAs}
 use Rattle.keep_edit_runs.specs.declared.outline.SeenAs.TheVariants.{Entry, FirstKey, Itself}
-use Rattle.keep_edit_runs.specs.SeenHeaders.{HasAppended}
 
 -- a value that stands for any
 abbrev pub no_value : Value
@@ -115,17 +116,10 @@ abbrev pub writes_anew : Outline → Bool
 writes_anew x = runs.is_insert (outlined x) || runs.is_header (outlined x)
 
 -- An edit's place is kept by changes that are made before it. A header's is where none takes the byte before it; a
--- line's is there too, or where one is taken in whose place it comes; and it is not at the end where headers are
--- written.
-pub record IsPlaceKept (bytes : List ℕ) (changes : List TextChange) (x : Outline) (at : ℕ) (headers : Bool)
-    : Type 0 where
-  pub line : runs.is_insert (outlined x) ≡ true
-      → All (LetsCome bytes changes at) changes × ((headers ≡ false) ⊎ (at ≢ length bytes))
+-- line's is there too, or where one is taken in whose place it comes.
+pub record IsPlaceKept (bytes : List ℕ) (changes : List TextChange) (x : Outline) (at : ℕ) : Type 0 where
+  pub line : runs.is_insert (outlined x) ≡ true → All (LetsCome bytes changes at) changes
   pub header : runs.is_header (outlined x) ≡ true → list_any (takes_up_to at) changes ≡ false
-
--- the line of an insert with that first new key
-abbrev pub line_of : List Part → ℕ → LineKind → Added
-line_of first at kind = record { first = first; at = at; kind = kind }
 
 -- A line comes after those that are known, and is known then. One that does not end a body comes after no change that
 -- takes the byte before it; and headers that are known to be appended pass by the table of one with a header.
@@ -158,43 +152,50 @@ pub record IsLineKept (old : AddedLines) (changes : List TextChange) (x : Outlin
   pub own : (first : List Part) (kind : LineKind) → outlined x ≡ law.insert first no_value → line ≡ Some kind
       → IsKnownThen old changes (line_of first at kind) new
   pub brought : (n : ℕ) (table : List Part) → brought_at new n ≡ Some table → IsBroughtThen old x at line n table
-  pub followed : (n : ℕ) → IsFollowed old n → IsFollowed new n
+  pub follower : new.has_follower ≡ old.has_follower
+  pub counts : IsCountedMore old (outlined x) at line new
   pub passes : (l : Added) → IsKnownAt old l → IsNoSecondOf l (outlined x)
   pub header : IsHeaderKnown new (outlined x)
 
--- An edit with this outline adds a line of this kind, without a header, at this byte, where a header comes: it comes
--- before that, after all other lines there. No header that is known to be appended is of that header's table or goes
--- through it, and no change takes the byte before. The line is known then, and all that were known.
+-- An edit with this outline adds a line of this kind at this byte, where lines or headers have to come behind it: all
+-- others there come before it. No header that is known to be appended is of its table or goes through it, if it has a
+-- header; nor of a table whose header comes there, unless that is the end of the text. No change takes the byte before.
+-- The line is known then, and all that were known.
 pub record IsKeptAhead (old : AddedLines) (changes : List TextChange) (x : Outline) (at : ℕ) (line : Option LineKind)
-    (new : AddedLines) : Type 0 where
-  pub table : List Part
-  pub header : brought_at old at ≡ Some table
-  pub unfollowed : ¬ IsFollowed old at
-  pub passed : ¬ HasAppended old.headers table
+    (is_at_end : Bool) (new : AddedLines) : Type 0 where
+  pub passed : is_at_end ≡ false → PassesHeaderAt old at
   pub clear : list_any (takes_up_to at) changes ≡ false
   pub first : List Part
   pub is : outlined x ≡ law.insert first no_value
   pub kind : LineKind
   pub line_is : line ≡ Some kind
-  pub headless : kind ≢ WithHeader
-  pub after : (l : Added) → IsKnownAt old l → l.kind ≢ WithHeader → IsAfterLine l (line_of first at kind)
+  pub lets : (e : law.Edit) → IsHeaderKnown old e → LetsTable (line_of first at kind) e
+  pub after : (l : Added) → IsKnownAt old l
+      → IsAfterLine l (line_of first at kind) ⊎ ((l.at ≡ at) × (comes_before kind l.kind ≡ true))
   pub here : IsKnownAt new (line_of first at kind)
   pub others : (l : Added) → IsKnownAt old l → IsKnownAt new l
-  pub same : IsSameOfHeaders old new
+  pub headers : (e : law.Edit) → IsHeaderKnown old e → IsHeaderKnown new e
+  pub brought : (n : ℕ) (table : List Part) → brought_at new n ≡ Some table → IsBroughtThen old x at line n table
+  pub follower : new.has_follower ≡ old.has_follower
+  pub counts : IsCountedMore old (outlined x) at line new
 
 -- An edit with this outline, this change and a line of this kind is added to edits with these changes and lines: behind
--- all others where it begins,
-pub record IsAddedBehind (old : AddedLines) (changes : List TextChange) (x : Outline) (c : TextChange)
+-- all others where it begins, and not at the end of the text, if headers are appended there;
+pub record IsAddedBehind (bytes : List ℕ) (old : AddedLines) (changes : List TextChange) (x : Outline) (c : TextChange)
     (line : Option LineKind) (new : AddedLines) (with_it : List TextChange) : Type 0 where
   pub kept : IsLineKept old changes x c.at line new
+  pub ends : (kind : LineKind) → line ≡ Some kind → (c.at ≢ length bytes) ⊎ (old.appended ≡ 0)
   pub beside : All (λ d. IsBeside d c) changes
   pub changes_are : with_it ≡ with_change changes c
 
--- or before a header that comes there.
-pub record IsAddedAhead (old : AddedLines) (changes : List TextChange) (x : Outline) (c : TextChange)
+-- or before those that have to come behind it there.
+pub record IsAddedAhead (bytes : List ℕ) (old : AddedLines) (changes : List TextChange) (x : Outline) (c : TextChange)
     (line : Option LineKind) (new : AddedLines) (with_it : List TextChange) : Type 0 where
-  pub kept : IsKeptAhead old changes x c.at line new
-  pub put : IsPutAhead changes c with_it
+  pub kept : IsKeptAhead old changes x c.at line (c.at == length bytes) new
+  pub count : ℕ
+  pub count_is : IsCountBehind old line c.at (c.at == length bytes) count
+  pub some : 0 < count
+  pub put : IsPutAhead changes c count with_it
   pub plain : IsPlain c.new
 
 -- An edit with this outline inserts a new key of the table whose header comes at that byte.
@@ -205,14 +206,13 @@ pub record IsOfBrought (added : AddedLines) (x : Outline) (at : ℕ) : Type 0 wh
   pub is : outlined x ≡ law.insert first no_value
   pub table_is : table ≡ without_last first
 
--- Its line comes behind that of the header, where no change takes the byte before. All that was known is known then.
+-- Its line comes behind that of the header, where no change takes the byte before. It is one more there.
 pub record IsKeptBehind (old : AddedLines) (changes : List TextChange) (x : Outline) (at : ℕ) (new : AddedLines)
     : Type 0 where
   pub of : IsOfBrought old x at
   pub clear : list_any (takes_up_to at) changes ≡ false
-  pub here : IsFollowed new at
-  pub more : (n : ℕ) → IsFollowed old n → IsFollowed new n
-  pub rest : new ≡ record old { followed = new.followed }
+  pub one : IsOneMore old.headed at new.headed
+  pub rest : new ≡ record old { headed = new.headed; has_follower = true }
 
 -- This is the line alone of the edit, which is an insert that would bring the header of its table to the document of
 -- this text.
@@ -232,6 +232,7 @@ pub record IsAddedFollowing (now : ProfiledText) (x : Edit) (old : AddedLines) (
   pub line : TextEdit
   pub alone : AddsLineAlone now x line
   pub place : (change_of line).at ≡ at
+  pub ends : (at ≢ length now.text) ⊎ (old.appended ≡ 0)
   pub kept : IsKeptBehind old changes o at new
   pub beside : All (λ d. IsBeside d (change_of line)) changes
   pub changes_are : with_it ≡ with_change changes (change_of line)
@@ -240,9 +241,9 @@ pub record IsAddedFollowing (now : ProfiledText) (x : Edit) (old : AddedLines) (
 abbrev pub IsAddedInOrder : ProfiledText → Edit → AddedLines → List TextChange → Outline → TextChange
     → Option LineKind → Bool → AddedLines → List TextChange → Type 0
 IsAddedInOrder now x old changes o c line none_gone new with_it =
-    IsAddedBehind old changes o c line new with_it
+    IsAddedBehind now.text old changes o c line new with_it
     ⊎ ((none_gone ≡ true)
-    × (IsAddedAhead old changes o c line new with_it
+    × (IsAddedAhead now.text old changes o c line new with_it
     ⊎ IsAddedFollowing now x old changes o c.at new with_it))
 
 -- what is left of keys after so many, and after those of the steps of a path
@@ -361,14 +362,13 @@ pub record IsRunTo (s : Document) (edits : List Edit) (end : ℕ) (old now : Pro
       → All (λ e. IsTrue (runs.is_insert e)) (seen_of before ms)
   pub headers : All (λ x. runs.is_header (outlined x) ≡ true) outlines
       → All (λ e. IsTrue (runs.is_header e)) (seen_of before ms)
-  pub headless : All (λ x. runs.is_header (outlined x) ≡ false) outlines
-      → All (λ e. runs.is_header e ≡ false) (seen_of before ms)
   pub sets : (path : List Part) → IsSetBy outlines path → IsSetIn path ms
   pub renames : (path : List Part) (name : List ℕ) → IsRenamedBy outlines path name → IsRenameIn path ms
   pub allow : (path : List Part) (name : List ℕ) → All (λ x. AllowsKey path name (outlined x)) outlines
       → All (AllowsKey path name) (seen_of before ms)
   pub lines : All (IsKnownAt added) (lines_of before ms)
-  pub followed : All (λ m. MakesChange now.profile limit before m.edit m.change ⊎ IsFollowed added m.change.at) ms
+  pub counts : IsCounted added (lines_of before ms) (seen_of before ms)
+  pub followed : added.has_follower ≡ false → All (λ m. MakesChange now.profile limit before m.edit m.change) ms
   pub headed : (n : ℕ) (table : List Part) → brought_at added n ≡ Some table
       → Any (IsHeaderAt n) (lines_of before ms)
   pub headers_known : All (IsHeaderKnown added) (seen_of before ms)

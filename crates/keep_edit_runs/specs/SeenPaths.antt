@@ -72,8 +72,8 @@ IsSeen seen (Insert path) = HasPath seen path × HasKeys seen path
 IsSeen seen (Remove path) = HasPath seen path × HasKeys seen path
 IsSeen seen (Set path) = HasPath seen path × HasKeys seen path
 IsSeen seen (Rename path name) = HasPath seen path × HasNew seen path name.now
-IsSeen seen (Table keys) = HasPath seen (path_to keys) × (seen.has_header ≡ true)
-IsSeen seen (Element keys) = HasPath seen (path_to keys) × (seen.has_header ≡ true)
+IsSeen seen (Table keys) = HasPath seen (path_to keys)
+IsSeen seen (Element keys) = HasPath seen (path_to keys)
 
 -- the path of an array is, as if it were removed
 abbrev pub IsArraySeen : SeenPaths → List Part → Type 0
@@ -85,7 +85,6 @@ pub record GoesOn (old new : SeenPaths) : Type 0 where
   pub beginnings : (path : List Part) → HasBeginning old path → HasBeginning new path
   pub keys : (text : List ℕ) → HasKey old text → HasKey new text
   pub names : (text : List ℕ) → HasName old text → HasName new text
-  pub header : old.has_header ≡ true → new.has_header ≡ true
 
 -- ---- what is left alone
 

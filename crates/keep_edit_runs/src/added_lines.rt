@@ -1,15 +1,16 @@
 //! The lines that edits of a list add which are made at once, and the headers that they append: which lines come at a
 //! byte, and the tables whose headers come.
 //!
-//! Of lines that come at one byte the later one has to come after the earlier: one that ends a body does so; one of a
-//! table that dotted keys make only after lines of that table; and one header comes behind all other lines, as the last
-//! there. A line that comes later comes before that header or, if it is of the header's table, behind its line. A
-//! header that is appended is none of a table whose header came with a line, and goes through no table whose header
-//! comes later.
-ghost use Rattle.std.specs.Prelude.{◌≡◌, ℕ, IsTrue, List, None, false};
+//! Of lines that come at one byte those of a table that dotted keys make come first, then those that end a body, then
+//! one with a header, and lines of the header's table behind it; and all come before headers that are appended at the
+//! end of the text. A line that comes later than others there comes behind those of its kind and before the next kind.
+//! Two tables that dotted keys make have no lines at one byte, and two headers don't come to one. A header that is
+//! appended is none of a table whose header came with a line, and goes through no table whose header comes later.
+ghost use Rattle.std.specs.Prelude.{◌≡◌, ℕ, [], IfSome, IsTrue, List, None, false};
+ghost use Rattle.keep_edit_plan.specs.Headers.{key_texts};
 ghost use Rattle.keep_edit_plan.specs.TextEdits.{change_of};
-ghost use Rattle.keep_edit_runs.specs.AddedLines.{IsAloneKept, IsEndKept, IsHeaderKept, IsKnownAt, IsTableKept};
-ghost use Rattle.keep_edit_runs.specs.AddedLines.{IsFollowed, LetsAhead, brought_at};
+ghost use Rattle.keep_edit_runs.specs.AddedLines.{IsAloneKept, IsAppendedKept, IsCountBehind, IsCounted, IsEndKept};
+ghost use Rattle.keep_edit_runs.specs.AddedLines.{IsHeaderKept, IsKnownAt, IsTableKept, PassesHeaderAt, brought_at};
 ghost use Rattle.keep_edit_runs.specs.Runs.{IsKeptAhead, IsKeptBehind, IsLineKept, IsOfBrought};
 ghost use Rattle.keep_edit_runs.specs.SeenHeaders.{HasAppended};
 ghost use Rattle.keep_path.specs.Path.{Part};
@@ -17,6 +18,7 @@ ghost use Rattle.keep_edit_spec.specs.InsertKinds.{Added};
 
 use crate::alike::is_same;
 use crate::at_once::{AtOnce, RunEdit};
+use crate::counts::Counts;
 use crate::outline::{Outline, Steps};
 use crate::seen::number_of;
 use crate::seen_headers::SeenHeaders;
@@ -24,26 +26,24 @@ use keep_edit_spec::LineKind;
 use std::alloc::Global;
 use std::collections::{HashMap, HashSet};
 
-/// The lines without a header that come at a byte.
-#[derive(Drop)]
-enum LinesAt<'a> {
-    /// The last of a body, maybe after others.
-    EndOfBody,
-    /// Lines of one table that dotted keys make, and no others.
-    OfTable(Steps<'a>),
-}
-
 /// The lines that edits add, and the headers that they append.
 #[derive(Drop)]
 pub struct AddedLines<'a> {
-    lines: HashMap<usize, LinesAt<'a>>,
+    /// The table of the lines at a byte that dotted keys make.
+    dotted: HashMap<usize, Steps<'a>>,
+    /// How many lines at a byte end a body.
+    ends: Counts,
     /// The table whose header comes at a byte, with its line, behind the lines there.
     brought: HashMap<usize, Steps<'a>>,
-    /// The bytes at which lines come behind such a header's.
-    followed: HashSet<usize>,
+    /// How many lines come at a byte with such a header and behind it.
+    headed: Counts,
+    /// Whether a line comes behind such a header's.
+    has_follower: bool,
     /// The tables whose headers come, each by a number that stands for its path.
     tables: HashSet<u64>,
     headers: SeenHeaders,
+    /// How many headers are appended.
+    appended: usize,
 }
 
 impl<'a> AddedLines<'a> {
@@ -51,15 +51,19 @@ impl<'a> AddedLines<'a> {
     pub fn new(alloc: Global) -> AddedLines<'a>
         ensures lines { (line : Added) → ¬ IsKnownAt result line }
         ensures brought { (at : ℕ) → brought_at result at ≡ None }
-        ensures followed { (at : ℕ) → ¬ IsFollowed result at }
+        ensures counts { IsCounted result [] [] }
+        ensures followed { result.has_follower ≡ false }
         ensures headers { (path : List Part) → ¬ HasAppended result.headers path }
     {
         AddedLines {
-            lines: HashMap::new(alloc),
+            dotted: HashMap::new(alloc),
+            ends: Counts::new(alloc),
             brought: HashMap::new(alloc),
-            followed: HashSet::new(alloc),
+            headed: Counts::new(alloc),
+            has_follower: false,
             tables: HashSet::new(alloc),
             headers: SeenHeaders::new(alloc),
+            appended: 0,
         }
     }
 
@@ -80,29 +84,37 @@ impl<'a> AddedLines<'a> {
             (Outline::Insert(first), Some(LineKind::WithHeader)) => {
                 !so_far.changes.take_up_to(at) && self.keep_header(at, first.parent())
             }
-            (Outline::Table(keys) | Outline::Element(keys), _) => self.headers.append_later(keys),
+            (Outline::Table(keys) | Outline::Element(keys), _) => self.keep_appended(keys),
             _ => true,
         }
     }
 
-    /// Keeps the line that an edit adds where a header comes, after these edits, so that it comes before that header.
-    /// Returns whether it is kept: not where an appended header is of that header's table or goes through it, or lines
-    /// come behind that header's, or the edits take the byte before it; nor one of a table that dotted keys make where
-    /// other lines come; nor any where memory was refused.
-    pub fn keep_ahead(&mut self, so_far: &AtOnce, outline: &Outline<'a>, edit: &RunEdit) -> bool
+    /// Keeps the line that an edit adds where lines and headers come that have to come behind it, after these edits, so
+    /// that it comes before them. Returns whether it is kept: not if the edits take the byte before it; nor where an
+    /// appended header is of the table of a header that comes there with a line, or goes through it, unless all come at
+    /// the end of the text; nor one of another table that dotted keys make than that of lines there; nor one with a
+    /// header, by the same as in `keep_line`; nor any where memory was refused.
+    pub fn keep_ahead(
+        &mut self,
+        so_far: &AtOnce,
+        outline: &Outline<'a>,
+        edit: &RunEdit,
+        is_at_end: bool,
+    ) -> bool
         ensures { IsTrue result → IsKeptAhead self.old so_far.now.changes outline.now (change_of edit.now.change).at
-            edit.now.line self.new }
+            edit.now.line is_at_end self.new }
     {
         let at = edit.change.place.start;
-        if !self.lets_ahead(at) || so_far.changes.take_up_to(at) {
+        if so_far.changes.take_up_to(at) || !(is_at_end || self.passes_header_at(at)) {
             return false;
         }
         match (outline, edit.line) {
-            (Outline::Insert(_), Some(LineKind::LastInBody)) => {
-                self.lines.insert(at, LinesAt::EndOfBody).is_ok()
-            }
+            (Outline::Insert(_), Some(LineKind::LastInBody)) => self.ends.add(at),
             (Outline::Insert(first), Some(LineKind::OfDotted)) => {
                 self.keep_alone(at, first.parent())
+            }
+            (Outline::Insert(first), Some(LineKind::WithHeader)) => {
+                self.keep_header(at, first.parent())
             }
             _ => false,
         }
@@ -113,9 +125,11 @@ impl<'a> AddedLines<'a> {
     pub fn keep_behind(&mut self, so_far: &AtOnce, outline: &Outline<'a>, at: usize) -> bool
         ensures { IsTrue result → IsKeptBehind self.old so_far.now.changes outline.now at self.new }
     {
-        self.brings_table(outline, at)
-            && !so_far.changes.take_up_to(at)
-            && self.followed.insert(at).is_ok()
+        if !self.brings_table(outline, at) || so_far.changes.take_up_to(at) {
+            return false;
+        }
+        self.has_follower = true;
+        self.headed.add(at)
     }
 
     /// Whether an insert is of a new key of the table whose header comes at a byte.
@@ -130,28 +144,54 @@ impl<'a> AddedLines<'a> {
 
     /// Whether no line comes behind a header's.
     pub fn has_no_follower(&self) -> bool
-        ensures { IsTrue result → (at : ℕ) → ¬ IsFollowed self.now at }
+        ensures { IsTrue result → self.now.has_follower ≡ false }
     {
-        self.followed.is_empty()
+        !self.has_follower
     }
 
-    /// Whether a line without a header comes where one with a header comes.
-    pub fn come_ahead(&self, edit: &RunEdit) -> bool {
-        matches!(edit.line, Some(LineKind::LastInBody | LineKind::OfDotted))
-            && self.has_header_at(edit.change.place.start)
+    /// Whether headers are appended.
+    pub fn has_appended(&self) -> bool
+        ensures { result ≡ false → self.now.appended ≡ 0 }
+    {
+        self.appended > 0
     }
 
-    /// Whether a header comes with a line at a byte, and no line behind that, and no appended header is of its table or
-    /// goes through that.
-    fn lets_ahead(&self, at: usize) -> bool
-        ensures { IsTrue result → LetsAhead self.now at }
+    /// How many lines and headers have to come behind the line that an edit adds, at its byte; 0 if it adds none. None
+    /// where they are too many to be counted.
+    pub fn count_behind(&self, edit: &RunEdit, is_at_end: bool) -> Option<usize>
+        ensures { IfSome result
+            (IsCountBehind self.now edit.now.line (change_of edit.now.change).at is_at_end) }
+    {
+        let at = edit.change.place.start;
+        let lines = match edit.line {
+            Some(LineKind::OfDotted) => self.ends.at(at).checked_add(self.headed.at(at))?,
+            Some(LineKind::LastInBody) => self.headed.at(at),
+            Some(LineKind::WithHeader) => 0,
+            None => return Some(0),
+        };
+        lines.checked_add(if is_at_end { self.appended } else { 0 })
+    }
+
+    /// Whether no header comes with a line at a byte, or no appended header is of its table or goes through that.
+    fn passes_header_at(&self, at: usize) -> bool
+        ensures { IsTrue result → PassesHeaderAt self.now at }
     {
         match self.brought.get(&at) {
-            Some(table) => {
-                !self.followed.contains(&at) && !self.headers.has_appended_table(table)
-            }
-            None => false,
+            Some(table) => !self.headers.has_appended_table(table),
+            None => true,
         }
+    }
+
+    /// Keeps the keys of an appended header. Returns whether they are kept: not those of a table whose header came with
+    /// a line, nor any where memory was refused.
+    fn keep_appended(&mut self, keys: &[String]) -> bool
+        ensures { IsTrue result → IsAppendedKept self.old (key_texts keys.now) self.new }
+    {
+        let Some(appended) = self.appended.checked_add(1) else {
+            return false;
+        };
+        self.appended = appended;
+        self.headers.append_later(keys)
     }
 
     /// Keeps that a line at a byte ends a body. Returns whether it is kept: it is not behind a header, nor where memory
@@ -159,26 +199,25 @@ impl<'a> AddedLines<'a> {
     fn keep_end(&mut self, at: usize) -> bool
         ensures { IsTrue result → IsEndKept self.old at self.new }
     {
-        !self.has_header_at(at) && self.lines.insert(at, LinesAt::EndOfBody).is_ok()
+        !self.has_header_at(at) && self.ends.add(at)
     }
 
-    /// Keeps a table as the one of the lines at a byte. Returns whether it is: it is not where there are other lines or
-    /// a header, nor where memory was refused.
+    /// Keeps a table as the one of the lines at a byte that dotted keys make. Returns whether it is: it is not where
+    /// there are others, or lines that end a body, or a header, nor where memory was refused.
     fn keep_table(&mut self, at: usize, table: Steps<'a>) -> bool
         ensures { IsTrue result → IsTableKept self.old at table.entry self.new }
     {
-        !self.has_header_at(at) && self.keep_alone(at, table)
+        !self.has_header_at(at) && self.ends.at(at) == 0 && self.keep_alone(at, table)
     }
 
-    /// Keeps a table as the one of the lines without a header at a byte. Returns whether it is: it is not where there
-    /// are others, nor where memory was refused.
+    /// Keeps a table as the one of the lines at a byte that dotted keys make. Returns whether it is: it is not where
+    /// there is another, nor where memory was refused.
     fn keep_alone(&mut self, at: usize, table: Steps<'a>) -> bool
         ensures { IsTrue result → IsAloneKept self.old at table.entry self.new }
     {
-        match self.lines.get(&at) {
-            Some(LinesAt::OfTable(other)) => is_same(other, &table),
-            Some(_) => false,
-            None => self.lines.insert(at, LinesAt::OfTable(table)).is_ok(),
+        match self.dotted.get(&at) {
+            Some(other) => is_same(other, &table),
+            None => self.dotted.insert(at, table).is_ok(),
         }
     }
 
@@ -191,10 +230,10 @@ impl<'a> AddedLines<'a> {
         if self.has_header_at(at) || self.tables.contains(&number) {
             return false;
         }
-        if !self.headers.bring(&table) {
+        if !self.headers.bring(&table) || self.brought.insert(at, table).is_err() {
             return false;
         }
-        self.brought.insert(at, table).is_ok() && self.tables.insert(number).is_ok()
+        self.tables.insert(number).is_ok() && self.headed.add(at)
     }
 
     /// Whether a line with a header comes at a byte.

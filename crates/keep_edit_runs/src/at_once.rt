@@ -242,11 +242,17 @@ impl<'a> AtOnce<'a> {
         self.add_change(change)
     }
 
-    /// Adds an edit that adds a line, which has this number in the list, with its change right before the last of those
-    /// that begin where it does. Returns whether it was added: it is not where none begins there, or that one takes
-    /// bytes, nor if it writes a carriage return, nor where memory is refused. Then no change was added.
-    pub fn add_ahead(&mut self, number: usize, outline: Outline<'a>, change: TextEdit) -> bool
-        ensures changes { IsTrue result → IsPutAhead self.old.changes (change_of change) self.new.changes }
+    /// Adds an edit that adds a line, which has this number in the list, with its change before the last of those that
+    /// begin where it does, so many. Returns whether it was added: it is not where no or fewer begin there, or the last
+    /// one takes bytes, nor if it writes a carriage return, nor where memory is refused. Then no change was added.
+    pub fn add_ahead(
+        &mut self,
+        number: usize,
+        outline: Outline<'a>,
+        change: TextEdit,
+        count: usize,
+    ) -> bool
+        ensures changes { IsTrue result → IsPutAhead self.old.changes (change_of change) count self.new.changes }
         ensures outlines { IsTrue result → self.new.outlines.items ≡ self.old.outlines.items ++ outline.entry ∷ [] }
         ensures plain { IsTrue result → IsPlain (string_bytes change.new) }
         ensures are_plain { self.new.are_plain ≡ self.old.are_plain }
@@ -255,6 +261,6 @@ impl<'a> AtOnce<'a> {
         if !is_plain(change.new.as_str()) || !self.add_outline(number, outline) {
             return false;
         }
-        self.changes.add_ahead(change).unwrap_or(false)
+        self.changes.add_ahead(change, count).unwrap_or(false)
     }
 }

@@ -14,8 +14,8 @@ use keep_syntax::Span;
 
 impl Before<'_> {
     /// Adds an edit, which has this number in the list, in order with the lines so far: behind all others where its
-    /// change begins; or, if no element went, before a header that comes there, or its line alone behind that of a
-    /// header of its table. Returns whether it was added; if not, no change was.
+    /// change begins; or, if no element went, before those that have to come behind it there, or its line alone behind
+    /// that of a header of its table. Returns whether it was added; if not, no change was.
     pub(crate) fn add_in_order<'a>(
         &self,
         so_far: &mut AtOnce<'a>,
@@ -41,16 +41,22 @@ impl Before<'_> {
         {
             return is_none_gone && self.add_behind(so_far, lines, number, edit, outline, place);
         }
-        if lines.come_ahead(&made) {
-            return is_none_gone
-                && lines.keep_ahead(so_far, &outline, &made)
-                && so_far.add_ahead(number, outline, made.change);
+        let is_at_end = place.start == self.text.len();
+        match lines.count_behind(&made, is_at_end) {
+            Some(0) => {
+                lines.keep_line(so_far, &outline, &made) && so_far.add(number, outline, made.change)
+            }
+            Some(count) => {
+                is_none_gone
+                    && lines.keep_ahead(so_far, &outline, &made, is_at_end)
+                    && so_far.add_ahead(number, outline, made.change, count)
+            }
+            None => false,
         }
-        lines.keep_line(so_far, &outline, &made) && so_far.add(number, outline, made.change)
     }
 
     /// Adds an edit that would bring the header of its table to this place, where that of an earlier one comes: its
-    /// line alone, behind that. Returns whether it was added; if not, no change was.
+    /// line alone, behind that, if no header is appended there. Returns whether it was added; if not, no change was.
     fn add_behind<'a>(
         &self,
         so_far: &mut AtOnce<'a>,
@@ -69,6 +75,9 @@ impl Before<'_> {
             × (All (λ c. IsPlain c.new) so_far.old.changes → All (λ c. IsPlain c.new) so_far.new.changes) }
         ensures refused { result ≡ false → so_far.new.changes ≡ so_far.old.changes }
     {
+        if place.start == self.text.len() && lines.has_appended() {
+            return false;
+        }
         let Some(line) = self.line_alone(edit) else {
             return false;
         };

@@ -112,7 +112,7 @@ impl Before<'_> {
         requires run { IsRunOn self.now run.old }
         requires within { All (IsChangeIn self.now.text) run.old.so_far.changes }
         ensures placed { IsTrue result
-            → IsPlacedAmong run.old.so_far.outlines.items self.now.text run.old.so_far.changes outline.now at }
+            → IsPlacedAmong self.now.text run.old.so_far.changes outline.now at }
         ensures text { run.new.is_text_plain ≡ true → IsPlain self.now.text }
         ensures rest { run.new ≡ with_text run.old run.new.is_text_plain }
     {
@@ -120,25 +120,22 @@ impl Before<'_> {
             return true;
         }
         run.is_text_plain = run.is_text_plain || is_plain(self.text);
-        run.is_text_plain && self.keeps_place(&run.so_far, outline, at, run.paths.has_header())
+        run.is_text_plain && self.keeps_place(&run.so_far, outline, at)
     }
 
     /// Whether an edit that writes a line or a header at a byte can do so after these changes as before them. They
     /// write no carriage return. A header can if none of them takes the byte before it. So can a line, or it comes in
-    /// the place of one that is taken; and not at the end, if a header was written.
-    fn keeps_place(&self, so_far: &AtOnce, outline: &Outline, at: usize, has_header: bool) -> bool
+    /// the place of one that is taken.
+    fn keeps_place(&self, so_far: &AtOnce, outline: &Outline, at: usize) -> bool
         requires { All (IsChangeIn self.now.text) so_far.now.changes }
         ensures plain { IsTrue result → so_far.now.are_plain ≡ true }
-        ensures kept { IsTrue result → IsPlaceKept self.now.text so_far.now.changes outline.now at has_header }
+        ensures kept { IsTrue result → IsPlaceKept self.now.text so_far.now.changes outline.now at }
     {
         if !so_far.are_plain {
             return false;
         }
         match outline {
-            Outline::Insert(_) => {
-                let text = self.text;
-                !(has_header && at == text.len()) && so_far.changes.allows_line_at(text, at)
-            }
+            Outline::Insert(_) => so_far.changes.allows_line_at(self.text, at),
             Outline::Table(_) | Outline::Element(_) => !so_far.changes.take_up_to(at),
             _ => true,
         }

@@ -16,6 +16,7 @@ mod again;
 mod alike;
 mod at_once;
 mod before;
+mod counts;
 mod filled;
 mod filled_tables;
 mod gone;

@@ -82,7 +82,6 @@ pub struct SeenPaths<'a> {
     keys: HashSet<&'a str>,
     // the new keys of renames
     names: HashSet<&'a str>,
-    has_header: bool,
 }
 
 impl<'a> SeenPaths<'a> {
@@ -93,7 +92,6 @@ impl<'a> SeenPaths<'a> {
             beginnings: HashSet::new(alloc),
             keys: HashSet::new(alloc),
             names: HashSet::new(alloc),
-            has_header: false,
         }
     }
 
@@ -116,10 +114,7 @@ impl<'a> SeenPaths<'a> {
                 self.add_new(number_beside(path, key), key)?;
                 self.add_path(path)
             }
-            Outline::Table(keys) | Outline::Element(keys) => {
-                self.has_header = true;
-                self.add_names(keys)
-            }
+            Outline::Table(keys) | Outline::Element(keys) => self.add_names(keys),
         }
     }
 
@@ -248,13 +243,6 @@ impl<'a> SeenPaths<'a> {
     {
         self.names.insert(key)?;
         Ok(())
-    }
-
-    /// Whether keys of a header were added.
-    pub fn has_header(&self) -> bool
-        ensures { result ≡ self.now.has_header }
-    {
-        self.has_header
     }
 
     /// Whether an edit is known by its paths to be left alone by each one whose paths were added, and to be elsewhere

@@ -38,6 +38,8 @@ pub mod EndsWithout
 pub mod SetAfterRemove
 pub mod AddsAgain
 pub mod AheadOfHeader
+pub mod AheadOfEnd
+pub mod AheadOfAppended
 pub mod InsertAfterRemove
 pub mod RenameAfterRemove
 pub mod LineMore
@@ -181,8 +183,15 @@ pub mod LineOnWay
 pub mod SaidOnWay
 pub mod AddedKeys
 pub mod LinesAfterBody
-pub mod HeaderLast
+pub mod AheadDocuments
+pub mod OtherOrder
+pub mod BehindLine
+pub mod OneMoreBelow
+pub mod GatheredEdits
+pub mod EditsAhead
 pub mod LinesAhead
+pub mod AheadChanges
+pub mod BehindCounts
 pub mod LinesBehind
 pub mod BroughtLines
 pub mod BroughtWay

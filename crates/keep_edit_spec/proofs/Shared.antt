@@ -126,3 +126,4 @@ pub use Rattle.keep_edit_spec.proofs.Remove.RemoveLinePlace.{head_text, line_val
 pub use Rattle.keep_edit_spec.proofs.Remove.RemoveSectionPlace.{none_some}
 pub use Rattle.keep_edit_spec.proofs.Lists.ElementRunLaws.{element_run_goes_on, element_run_goes_on_by_entry}
 pub use Rattle.keep_edit_spec.proofs.Lists.ElementRunLaws.{element_run_goes_on_without, run_is_element_run}
+pub use Rattle.keep_edit_spec.proofs.Lists.BehindCounts.{counts_behind}

@@ -32,6 +32,12 @@ is_last_in_body LastInBody = true
 is_last_in_body OfDotted = false
 is_last_in_body WithHeader = false
 
+-- it has a header before it
+abbrev pub has_header : LineKind → Bool
+has_header LastInBody = false
+has_header OfDotted = false
+has_header WithHeader = true
+
 -- an insert that adds such a line
 abbrev pub AddsAs : LineKind → Profile → ℕ → Document → List Part → Value → TextChange → Type 0
 AddsAs LastInBody profile limit s path value c = AddsLine profile limit s path value c

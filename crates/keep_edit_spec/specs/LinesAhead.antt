@@ -1,23 +1,27 @@
--- Lists of edits that are made at once, where a line comes to the byte at which an earlier edit brought a header: it
--- comes before that header, as if its edit had been made first.
-use Rattle.std.specs.Prelude.{◌≡◌, ◌≢◌, ◌⊎◌, ℕ, ◌<◌, false, IsTrue, List, ◌∷◌, ◌++◌, None, All, Any}
-use Rattle.std.specs.List.{list_any}
+-- Lists of edits that are made at once, where a line comes to a byte at which earlier edits of the list have brought
+-- what has to come behind it: the line comes before that, as if its edit had been made first.
+use Rattle.std.specs.Prelude.{◌≡◌, ◌≢◌, ◌⊎◌, ℕ, ◌+◌, ◌==◌, ◌&&◌, ◌<◌, not, Bool, true, false, IsTrue, List, ◌∷◌, ◌++◌}
+use Rattle.std.specs.Prelude.{None, All, filter, if◌then◌else◌, length}
+use Rattle.std.specs.List.{count_by, list_any}
 use Rattle.keep_types.specs.declared.leaf.Profile.{Profile}
 use Rattle.keep_syntax.specs.Tree.{Document, Value, text}
 use Rattle.keep_path.specs.Path.{Part}
 use Rattle.keep_edit_spec.specs.AddedLines.{first_new}
+use Rattle.keep_edit_spec.specs.AppendedHeaders.{AppendsElement, AppendsTable}
 use Rattle.keep_edit_spec.specs.BroughtHeaders.{BringsHeader}
-use Rattle.keep_edit_spec.specs.Edits.{edited_document, insert}
-use Rattle.keep_edit_spec.specs.InsertKinds.{Added, AddsAs, IsAfterLine, IsHeaderAt, added_as}
+use Rattle.keep_edit_spec.specs.Edits.{append_element, append_table, edited_document, insert, remove, rename, set}
+use Rattle.keep_edit_spec.specs.InsertKinds.{Added, AddsAs, IsAfterLine, IsHeaderAt, added_as, is_last_in_body}
+use Rattle.keep_edit_spec.specs.InsertKinds.{has_header, kind_of}
 use Rattle.keep_edit_spec.specs.Laws.{IsEditable}
 use Rattle.keep_edit_spec.specs.Refusals.{refusal}
-use Rattle.keep_edit_spec.specs.RunLists.{AreAtOnce, IsOneOf, MadeEdit, changes_of, document_after, lines_of, made}
-use Rattle.keep_edit_spec.specs.RunLists.{seen_of}
-use Rattle.keep_edit_spec.specs.Runs.{ArePlain, IsBeforeHeaders, IsPlain, IsSeenStill, LeavesAlone, LetsTable}
-use Rattle.keep_edit_spec.specs.Runs.{MakesChange, is_insert, seen, takes_up_to}
+use Rattle.keep_edit_spec.specs.RunLists.{AreAtOnce, MadeEdit, changes_of, document_after, lines_of, made, seen_of}
+use Rattle.keep_edit_spec.specs.Runs.{ArePlain, IsPlain, IsSeenStill, LeavesAlone, LetsTable, PassesBy, is_header}
+use Rattle.keep_edit_spec.specs.Runs.{is_insert, seen, takes_up_to}
 use Rattle.keep_edit_spec.specs.TextChanges.{IsBeside, TextChange}
 use Rattle.keep_edit_spec.specs.declared.line_kind.LineKind.{LineKind}
-use Rattle.keep_edit_spec.specs.declared.line_kind.LineKind.TheVariants.{WithHeader}
+use Rattle.keep_edit_spec.specs.declared.line_kind.LineKind.TheVariants.{LastInBody, OfDotted, WithHeader}
+
+-- ---- two edits
 
 -- An insert that adds a line without a header adds the same one, at the same byte, after another insert brought the
 -- header of its table there.
@@ -31,42 +35,130 @@ StillAddsAhead =
     → AddsAs kind profile limit (edited_document s (insert path value)) other more d
     × IsSeenStill s (edited_document s (insert path value)) (insert other more)
 
+-- So does one of a table that dotted keys make, after another insert added a line there that ends its body.
+abbrev pub StillAddsAheadOfEnd : Type 0
+StillAddsAheadOfEnd =
+    (profile : Profile) (limit : ℕ) (s : Document) (path : List Part) (value : Value) (c : TextChange)
+    (other : List Part) (more : Value) (d : TextChange)
+    → IsEditable profile limit s → AddsAs LastInBody profile limit s path value c
+    → AddsAs OfDotted profile limit s other more d
+    → first_new s path ≢ first_new s other → c.at ≡ d.at
+    → AddsAs OfDotted profile limit (edited_document s (insert path value)) other more d
+    × IsSeenStill s (edited_document s (insert path value)) (insert other more)
+
+-- So does any insert that adds a line at the end of the text, after a header was appended there that passes by its
+-- path, and by the table of a header that it brings.
+abbrev pub StillAddsAheadOfTable : Type 0
+StillAddsAheadOfTable =
+    (profile : Profile) (limit : ℕ) (s : Document) (keys : List (List ℕ)) (c : TextChange)
+    (kind : LineKind) (other : List Part) (more : Value) (d : TextChange)
+    → IsEditable profile limit s → AppendsTable profile limit s keys c
+    → AddsAs kind profile limit s other more d
+    → PassesBy keys (first_new s other) → LetsTable (added_as s other d) (append_table keys) → c.at ≡ d.at
+    → AddsAs kind profile limit (edited_document s (append_table keys)) other more d
+    × IsSeenStill s (edited_document s (append_table keys)) (insert other more)
+
+abbrev pub StillAddsAheadOfElement : Type 0
+StillAddsAheadOfElement =
+    (profile : Profile) (limit : ℕ) (s : Document) (keys : List (List ℕ)) (c : TextChange)
+    (kind : LineKind) (other : List Part) (more : Value) (d : TextChange)
+    → IsEditable profile limit s → AppendsElement profile limit s keys c
+    → AddsAs kind profile limit s other more d
+    → PassesBy keys (first_new s other) → LetsTable (added_as s other d) (append_element keys) → c.at ≡ d.at
+    → AddsAs kind profile limit (edited_document s (append_element keys)) other more d
+    × IsSeenStill s (edited_document s (append_element keys)) (insert other more)
+
+-- ---- what comes behind a line
+
+-- A line of the first kind comes before one of the second that comes to the same byte, whichever was added first: lines
+-- of tables that dotted keys make, then those at the end of the body, then headers with their lines.
+abbrev pub comes_before : LineKind → LineKind → Bool
+comes_before OfDotted LastInBody = true
+comes_before OfDotted WithHeader = true
+comes_before LastInBody WithHeader = true
+comes_before OfDotted OfDotted = false
+comes_before LastInBody OfDotted = false
+comes_before LastInBody LastInBody = false
+comes_before WithHeader kind = false
+
+-- The edit comes behind a line of that kind at that byte: it adds such a line there, or appends a header, and the byte
+-- is at the end of the text.
+abbrev pub comes_behind : Document → LineKind → ℕ → MadeEdit → Bool
+comes_behind s kind at m = elim m.edit [
+  | insert path value ↦ (m.change.at == at) && comes_before kind (kind_of s path)
+  | append_table keys ↦ at == length (text s)
+  | append_element keys ↦ at == length (text s)
+  | set path value ↦ false
+  | rename path name ↦ false
+  | remove path ↦ false
+]
+
+-- those of the edits, and the others
+abbrev pub behind : Document → LineKind → ℕ → List MadeEdit → List MadeEdit
+behind s kind at ms = filter (comes_behind s kind at) ms
+
+abbrev pub before : Document → LineKind → ℕ → List MadeEdit → List MadeEdit
+before s kind at ms = filter (λ m. not (comes_behind s kind at m)) ms
+
+-- the edits with one more, which adds a line of that kind: it comes after the others and before those
+abbrev pub with_ahead : Document → LineKind → List MadeEdit → MadeEdit → List MadeEdit
+with_ahead s kind ms m = behind s kind m.change.at ms ++ m ∷ before s kind m.change.at ms
+
 -- ---- in a run
 
--- A line comes to a byte at which one of these edits brings a header, and comes after all other lines there. Headers
--- that are appended pass by that header's table, whichever comes first. No edit takes the byte before it. Either all of
--- them add lines, or each newline is alike, and no header is appended there. None of the edits follows that header.
-pub record ComesAhead (profile : Profile) (limit : ℕ) (s : Document) (ms : List MadeEdit) (line : Added)
-    (c : TextChange) : Type 0 where
-  pub first : All (λ m. MakesChange profile limit s m.edit m.change ⊎ (m.change.at ≢ c.at)) ms
-  pub header : Any (IsHeaderAt c.at) (lines_of s ms)
-  pub after : All (λ l. l.kind ≢ WithHeader → IsAfterLine l line) (lines_of s ms)
-  pub passed : All (λ l. IsHeaderAt c.at l → All (LetsTable l) (seen_of s ms)) (lines_of s ms)
+-- A line comes after all others at its byte, or they come behind it. Headers that are appended pass by its table, if it
+-- has a header; and by those of headers that come there with lines, unless all are at the end. No edit takes the byte
+-- before it. Either all edits add lines, or each newline is alike.
+pub record ComesAhead (s : Document) (ms : List MadeEdit) (kind : LineKind) (line : Added) (c : TextChange)
+    : Type 0 where
+  pub after : All (λ l. IsAfterLine l line ⊎ ((l.at ≡ c.at) × (comes_before kind l.kind ≡ true))) (lines_of s ms)
+  pub lets : All (LetsTable line) (seen_of s ms)
+  pub passed : c.at ≢ length (text s)
+      → All (λ l. IsHeaderAt c.at l → All (LetsTable l) (seen_of s ms)) (lines_of s ms)
   pub clear : list_any (takes_up_to c.at) (changes_of ms) ≡ false
-  pub alike : All (λ e. IsTrue (is_insert e)) (seen_of s ms)
-      ⊎ (ArePlain (text s) (changes_of ms) × (IsPlain c.new × IsBeforeHeaders (text s) (seen_of s ms) c.at))
+  pub alike : All (λ e. IsTrue (is_insert e)) (seen_of s ms) ⊎ (ArePlain (text s) (changes_of ms) × IsPlain c.new)
 
--- Such an insert after these edits: it is not refused, and makes the document that they make if it comes before the one
--- that brings the header, which comes last then. Its change is right before the last one that begins there.
+-- Such an insert after these edits: it is not refused, and makes the document that they make if it comes before those
+-- that come behind its line. Its change is right before as many of those at its byte, the last ones.
 pub record IsRunAhead (profile : Profile) (limit : ℕ) (s : Document) (ms : List MadeEdit) (path : List Part)
-    (value : Value) (c : TextChange) : Type 0 where
-  pub header : MadeEdit
-  pub rest : List MadeEdit
-  pub one : IsOneOf header ms rest
+    (value : Value) (kind : LineKind) (c : TextChange) : Type 0 where
   pub allowed : refusal profile limit (document_after s ms) (insert path value) ≡ None
   pub same : edited_document (document_after s ms) (insert path value)
-      ≡ document_after s (header ∷ made (insert path value) c ∷ rest)
-  pub still : AreAtOnce profile limit s (header ∷ made (insert path value) c ∷ rest)
-  pub put : (before after : List TextChange) (d : TextChange) → changes_of ms ≡ before ++ d ∷ after → d.at ≡ c.at
-      → All (λ x. c.at < x.at) after
-      → changes_of (header ∷ made (insert path value) c ∷ rest) ≡ before ++ c ∷ d ∷ after
+      ≡ document_after s (with_ahead s kind ms (made (insert path value) c))
+  pub still : AreAtOnce profile limit s (with_ahead s kind ms (made (insert path value) c))
+  pub put : (first between last : List TextChange) → changes_of ms ≡ first ++ between ++ last
+      → All (λ x. x.at ≡ c.at) between → All (λ x. c.at < x.at) last → 0 < length between
+      → length between ≡ length (behind s kind c.at ms)
+      → changes_of (with_ahead s kind ms (made (insert path value) c)) ≡ first ++ c ∷ between ++ last
 
 abbrev pub RunGoesOnAhead : Type 0
 RunGoesOnAhead =
     (profile : Profile) (limit : ℕ) (s : Document) (ms : List MadeEdit) (path : List Part) (value : Value)
     (kind : LineKind) (c : TextChange)
     → IsEditable profile limit s → AreAtOnce profile limit s ms
-    → AddsAs kind profile limit s path value c → kind ≢ WithHeader
+    → AddsAs kind profile limit s path value c
     → All (λ f. LeavesAlone f (seen s (insert path value))) (seen_of s ms)
-    → All (λ d. IsBeside d c) (changes_of ms) → ComesAhead profile limit s ms (added_as s path c) c
-    → IsRunAhead profile limit s ms path value c
+    → All (λ d. IsBeside d c) (changes_of ms) → ComesAhead s ms kind (added_as s path c) c
+    → IsRunAhead profile limit s ms path value kind c
+
+-- ---- how many come behind
+
+-- a line at that byte, at the end of a body, or with a header
+abbrev pub is_end_at : ℕ → Added → Bool
+is_end_at at l = (l.at == at) && is_last_in_body l.kind
+
+abbrev pub is_headed_at : ℕ → Added → Bool
+is_headed_at at l = (l.at == at) && has_header l.kind
+
+-- how many of these lines come behind one of that kind at that byte
+abbrev pub lines_behind : LineKind → ℕ → List Added → ℕ
+lines_behind OfDotted at lines =
+    count_by (is_end_at at) lines + count_by (is_headed_at at) lines
+lines_behind LastInBody at lines = count_by (is_headed_at at) lines
+lines_behind WithHeader at lines = 0
+
+abbrev pub CountsBehind : Type 0
+CountsBehind =
+    (s : Document) (kind : LineKind) (at : ℕ) (ms : List MadeEdit)
+    → length (behind s kind at ms)
+    ≡ lines_behind kind at (lines_of s ms) + (if at == length (text s) then count_by is_header (seen_of s ms) else 0)

@@ -172,11 +172,17 @@ pub fn runs_go_on_again()
     ensures inserted { inserts.RunGoesOnInserted }
 {}
 
-/// A line that comes to the byte at which an earlier edit of such a list brought a header comes before that header. The
-/// list goes on by it as if the header had come last.
+/// A line that comes to a byte at which earlier edits of such a list brought what has to come behind it comes before
+/// that: a line of a table that dotted keys make before one at the end of the body, both before a header that came with
+/// its line, and any line before a header that was appended at the end of the text. The list goes on by it as if those
+/// had come last.
 pub fn lines_come_ahead()
-    ensures line { ahead.StillAddsAhead }
+    ensures header { ahead.StillAddsAhead }
+    ensures line { ahead.StillAddsAheadOfEnd }
+    ensures table { ahead.StillAddsAheadOfTable }
+    ensures element { ahead.StillAddsAheadOfElement }
     ensures run { ahead.RunGoesOnAhead }
+    ensures count { ahead.CountsBehind }
 {}
 
 /// So is a run of inserts that each add the next item of one array.

@@ -8,7 +8,7 @@
 -- which is the same (BroughtEnds). So the same line comes, where the first of the header's lines begins (AddsAgain,
 -- DottedAgain): as after a change behind it, which leaves it where it is.
 --
--- Theorem: `adds_ahead`.
+-- Theorems: `adds_ahead`; `unmoved`.
 use Rattle.std.proofs.Common.{◌≡◌, ◌≢◌, ℕ, suc, ◌≤◌, true, List, [], length, refl, sym, ap, subst, ◌∙◌, arith, Some}
 use Rattle.std.proofs.Common.{inl, inr}
 use Rattle.std.proofs.lemmas.Bool.{lt-ltb}
@@ -39,6 +39,13 @@ use Rattle.keep_edit_spec.proofs.Lists.LineKinds.{seen_still}
 use Rattle.keep_edit_spec.proofs.Lists.NewPaths.{InsertsKeys, dotted_keys, line_keys}
 use Rattle.keep_edit_spec.proofs.Lists.Places.{at_is}
 
+-- a change that leaves what comes to that byte where it is
+abbrev pub behind : ℕ → TextChange
+behind at = change_at (suc at) 0 []
+
+pub unmoved : (at : ℕ) → moved_by (behind at) at ≡ at
+unmoved at = rw (lt-ltb at (suc at) (omega arith)) refl
+
 module _ (profile : Profile) (limit : ℕ) (s : Document) (path : List Part) (value : Value) (c : TextChange)
     (other : List Part) (more : Value) (d : TextChange) (fine : IsEditable profile limit s)
     (h : BringsHeader profile limit s path value c) (other_keys : first_new s path ≢ first_new s other)
@@ -62,15 +69,8 @@ module _ (profile : Profile) (limit : ℕ) (s : Document) (path : List Part) (va
       same_number profile limit s fine m n few h.closed
       (sym is ∙ sym at ∙ brought.at_is profile limit s path value c h)
 
-  -- a change that leaves it where it is
-  abbrev behind : TextChange
-  behind = change_at (suc d.at) 0 []
-
-  unmoved : moved_by behind d.at ≡ d.at
-  unmoved = rw (lt-ltb d.at (suc d.at) (omega arith)) refl
-
-  starts : line_start now n ≡ moved_by behind d.at
-  starts = new_start profile limit s path value c h ∙ at ∙ sym unmoved
+  starts : line_start now n ≡ moved_by (behind d.at) d.at
+  starts = new_start profile limit s path value c h ∙ at ∙ sym (unmoved d.at)
 
   -- ---- at the end of a body
 
@@ -88,8 +88,8 @@ module _ (profile : Profile) (limit : ℕ) (s : Document) (path : List Part) (va
 
     adds_now : AddsLineStill profile limit s now other more d
     adds_now =
-        subst (λ (i : ℕ). AddsLineStill profile limit s now other more (record d { at = i })) unmoved
-        (adds_there profile limit s now other more d k n ends closed_now behind starts
+        subst (λ (i : ℕ). AddsLineStill profile limit s now other more (record d { at = i })) (unmoved d.at)
+        (adds_there profile limit s now other more d k n ends closed_now (behind d.at) starts
         (newline_stays profile limit s path value c h fine)
         (holder_stays profile limit s path value c fine h other more its other_keys)
         (refusal_stays profile limit s path value c fine h other more its other_keys) (inl (omega arith)))
@@ -125,8 +125,8 @@ module _ (profile : Profile) (limit : ℕ) (s : Document) (path : List Part) (va
 
     adds_dotted_now : StillAdds true profile limit s now other more d
     adds_dotted_now =
-        subst (λ (i : ℕ). StillAdds true profile limit s now other more (record d { at = i })) unmoved
-        (dotted_again profile limit s now other more behind d k lead.number there
+        subst (λ (i : ℕ). StillAdds true profile limit s now other more (record d { at = i })) (unmoved d.at)
+        (dotted_again profile limit s now other more (behind d.at) d k lead.number there
         (ap (line_start now) next ∙ starts) (newline_stays profile limit s path value c h fine)
         (holder_stays profile limit s path value c fine h other more its_dotted other_keys)
         (refusal_stays profile limit s path value c fine h other more its_dotted other_keys))

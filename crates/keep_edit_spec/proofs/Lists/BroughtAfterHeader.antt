@@ -7,8 +7,8 @@
 -- the insert is not refused (KeysAfterHeader). The other header comes behind that body, so the place stays, and the
 -- same lines come (BroughtAgain).
 --
--- Theorems: `brought_after_table`, `brought_after_element`.
-use Rattle.std.proofs.Common.{◌≡◌, ◌≢◌, ℕ, ◌≤◌, true, List, [], length, refl, sym, ap, ◌∙◌, length-append, arith}
+-- Theorems: `brought_after_table`, `brought_after_element`; `brings_now`: at any byte that a change leaves where it is.
+use Rattle.std.proofs.Common.{◌≡◌, ℕ, ◌≤◌, true, List, [], length, refl, sym, ap, ◌∙◌, length-append, arith}
 use Rattle.std.proofs.Common.{Option}
 use Rattle.keep_types.specs.declared.leaf.Profile.{Profile}
 use Rattle.keep_syntax.specs.Tree.{Content, Document, Value, element, header}
@@ -44,7 +44,8 @@ module _ (profile : Profile) (limit : ℕ) (s : Document) (keys : List (List ℕ
     (other : List Part) (more : Value) (d : TextChange) (fine : IsEditable profile limit s)
     (h : HeaderComes s keys c content) (is : is_header content ≡ true) (k : BringsHeader profile limit s other more d)
     (clear : PassesBy keys (first_new s other)) (beside : PassesBy keys (holder other (mentions_in s)))
-    (apart : c.at ≢ d.at) where
+    (beyond : TextChange)
+    (stays : moved_by beyond d.at ≡ d.at) where
   abbrev now : Document
   now = (headed s content).to
 
@@ -88,15 +89,15 @@ module _ (profile : Profile) (limit : ℕ) (s : Document) (keys : List (List ℕ
 
   -- ---- the lines
 
-  begins_at : line_start now (body_end k.number (lines now)) ≡ moved_by c d.at
+  begins_at : line_start now (body_end k.number (lines now)) ≡ moved_by beyond d.at
   begins_at =
       ap (line_start now) end_now ∙ starts_stay s content (body_end k.number (lines s)) k.closed
-      ∙ sym (at_is profile limit s other more d k)
-      ∙ sym (at_headed s keys c content h profile fine.valid (insert other more) d k.is apart)
+      ∙ sym (at_is profile limit s other more d k) ∙ sym stays
 
-  brings_now : newline_of now ≡ newline_of s → StillBrings profile limit s now other more (moved c d)
+  -- the same lines, where a change beyond them leaves them
+  pub brings_now : newline_of now ≡ newline_of s → StillBrings profile limit s now other more (moved beyond d)
   brings_now same =
-      brought_again profile limit s now other more c d k k.number there begins_at same
+      brought_again profile limit s now other more beyond d k k.number there begins_at same
       (holder_headed s keys c content h profile limit other more its clear node_now nothing)
       (refusal_headed s keys c content h profile limit other more its clear node_now nothing)
 
@@ -107,7 +108,8 @@ brought_after_table profile limit s keys c other more d fine h k clear beside ap
     let one : Content = header [] (key_with keys) [] in
     let come : HeaderComes s keys c one = table_comes profile limit s keys c fine h in
     after_header (λ (t : Document). StillBrings profile limit s t other more (moved c d)) s one keys c come
-    (brings_now profile limit s keys c one other more d fine come refl k clear beside apart
+    (brings_now profile limit s keys c one other more d fine come refl k clear beside c
+    (at_headed s keys c one come profile fine.valid (insert other more) d k.is apart)
     (ap (λ (o : Option (Changed Document)). newline_of (changed_or_same s o).to) (sym come.made) ∙ same))
 
 pub brought_after_element : BroughtAfterElement
@@ -115,5 +117,6 @@ brought_after_element profile limit s keys c other more d fine h k clear beside 
     let one : Content = element [] (key_with keys) [] in
     let come : HeaderComes s keys c one = element_comes profile limit s keys c fine h in
     after_header (λ (t : Document). StillBrings profile limit s t other more (moved c d)) s one keys c come
-    (brings_now profile limit s keys c one other more d fine come refl k clear beside apart
+    (brings_now profile limit s keys c one other more d fine come refl k clear beside c
+    (at_headed s keys c one come profile fine.valid (insert other more) d k.is apart)
     (ap (λ (o : Option (Changed Document)). newline_of (changed_or_same s o).to) (sym come.made) ∙ same))

@@ -5,7 +5,8 @@
 -- each follows the one before, one that takes bytes at a place is the only one there (`one_there`). Of two at a place
 -- the one that is put in later is the later one (`put_ahead`).
 --
--- Theorems: `with_both`, `beside_back`, `put_in_place`, `one_in_place`, `put_ahead`; `goes_before`, `goes_past`.
+-- Theorems: `with_both`, `beside_back`, `put_in_place`, `one_in_place`, `put_ahead`; `follow_low`, `goes_before`,
+-- `goes_past`.
 use Rattle.std.proofs.Common.{◌≡◌, ◌≢◌, ℕ, ◌+◌, ◌<◌, ◌≤◌, List, [], ◌∷◌, ◌++◌, All, refl, sym, ap, ap₂}
 use Rattle.std.proofs.Common.{◌∙◌, arith, inl, inr, subst}
 use Rattle.std.specs.Prelude.{◌⊎◌}
@@ -90,7 +91,7 @@ is_put (x ∷ rest) c = elim (cases_lt c.at x.at) [
 ]
 
 -- each begins where those before it end, or later
-follow_low : (from : ℕ) (before after : List TextChange) (x : TextChange) → Follow from (before ++ x ∷ after)
+pub follow_low : (from : ℕ) (before after : List TextChange) (x : TextChange) → Follow from (before ++ x ∷ after)
     → from ≤ x.at
 follow_low from [] after x follow = follow.0
 follow_low from (y ∷ before) after x follow =

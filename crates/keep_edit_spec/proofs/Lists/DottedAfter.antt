@@ -5,7 +5,7 @@
 -- last line is in the same body as before (OneLineMore), and the next one begins at the moved place (Places). So the
 -- same line comes (DottedAgain).
 --
--- Theorems: `dotted_still`; `bare_by`.
+-- Theorems: `dotted_still`; `bare_by`, `bare_now`.
 use Rattle.std.proofs.Common.{◌≡◌, ℕ, suc, true, List, [], ◌∷◌, ◌++◌, length, take, drop, refl, sym, ap, subst, ◌∙◌}
 use Rattle.std.proofs.Common.{length-append, arith, Option, Some, None}
 use Rattle.std.proofs.lemmas.List.{take-append-drop}
@@ -43,11 +43,7 @@ bare_by s now (p ∷ ps) e still =
 
 module _ (profile : Profile) (limit : ℕ) (s now : Document) (n : ℕ) (name : Name) (value : Value) (c : TextChange)
     (p : PutsKeyval s now n name value c) (fine : IsEditable profile limit s)
-    (other : List Part) (more : Value) (d : TextChange) (k : AddsDotted profile limit s other more d) (j : ℕ)
-    (number : suc j ≡ later_line n (suc k.number))
-    (holds : holder other (mentions_in now) ≡ holder other (mentions_in s))
-    (allowed : refusal profile limit now (insert other more) ≡ None)
-    (last : last_line (leads_dotted (holder other (mentions_in s))) start (lines now) ≡ Some j) where
+    (other : List Part) (more : Value) (d : TextChange) (k : AddsDotted profile limit s other more d) where
   abbrev b : List Part
   b = holder other (mentions_in s)
 
@@ -66,39 +62,43 @@ module _ (profile : Profile) (limit : ℕ) (s now : Document) (n : ℕ) (name : 
   now_are : lines now ≡ first ++ x.line ∷ rest
   now_are = lines_are s now n name value c p
 
-  bare_now : end_of now b ≡ None
+  pub bare_now : end_of now b ≡ None
   bare_now =
       bare_by s now b k.bare
       (λ none. ap (last_line (begins b) start) now_are
       ∙ none_still (begins b) start first x.line rest refl refl (ap (last_line (begins b) start) cut ∙ none))
 
-  body_now : (reading_at j (lines now)).body ≡ (reading_at k.number (lines s)).body
-  body_now =
-      ap (λ (ls : List Line). (reading_at j ls).body) now_are
-      ∙ body_still start first x.line rest k.number j refl
-      (number ∙ ap (λ (m : ℕ). later_line m (suc k.number)) (sym (first_long s now n name value c p)))
-      (subst (λ (ls : List Line).
-      (reading_after_lines start (take (suc k.number) ls)).body ≡ (reading_after_lines start (take k.number ls)).body)
-      (sym cut) (before profile limit s other more d k).at_body)
-      ∙ ap (λ (ls : List Line). (reading_at k.number ls).body) cut
+  module _ (j : ℕ) (number : suc j ≡ later_line n (suc k.number))
+      (holds : holder other (mentions_in now) ≡ holder other (mentions_in s))
+      (allowed : refusal profile limit now (insert other more) ≡ None)
+      (last : last_line (leads_dotted (holder other (mentions_in s))) start (lines now) ≡ Some j) where
+    body_now : (reading_at j (lines now)).body ≡ (reading_at k.number (lines s)).body
+    body_now =
+        ap (λ (ls : List Line). (reading_at j ls).body) now_are
+        ∙ body_still start first x.line rest k.number j refl
+        (number ∙ ap (λ (m : ℕ). later_line m (suc k.number)) (sym (first_long s now n name value c p)))
+        (subst (λ (ls : List Line).
+        (reading_after_lines start (take (suc k.number) ls)).body ≡ (reading_after_lines start (take k.number ls)).body)
+        (sym cut) (before profile limit s other more d k).at_body)
+        ∙ ap (λ (ls : List Line). (reading_at k.number ls).body) cut
 
-  there : IsLastThere s other k.number now j
-  there = record {
-    bare = bare_now;
-    last = last;
-    body = body_now;
-    closed = omega (arith, number, few_still s now n name value c p (suc k.number) k.closed);
-  }
+    there : IsLastThere s other k.number now j
+    there = record {
+      bare = bare_now;
+      last = last;
+      body = body_now;
+      closed = omega (arith, number, few_still s now n name value c p (suc k.number) k.closed);
+    }
 
-  begins_at : line_start now (suc j) ≡ moved_by c d.at
-  begins_at =
-      let bom : List ℕ = text_of (bom_leaves s.bom) in
-      let es : List Ended = take n s.ended ++ x ∷ drop n s.ended in
-      ap (λ (t : Document). line_start t (suc j)) p.is
-      ∙ sym (length-append bom (ended_text (take (suc j) es)))
-      ∙ ap (λ (i : ℕ). length (bom ++ ended_text (take i es))) number
-      ∙ line_moves profile bom s.ended fine.valid.ended n (suc k.number) x c d p.few k.closed p.adds p.line p.at
-      (at_is profile limit s other more d k)
+    begins_at : line_start now (suc j) ≡ moved_by c d.at
+    begins_at =
+        let bom : List ℕ = text_of (bom_leaves s.bom) in
+        let es : List Ended = take n s.ended ++ x ∷ drop n s.ended in
+        ap (λ (t : Document). line_start t (suc j)) p.is
+        ∙ sym (length-append bom (ended_text (take (suc j) es)))
+        ∙ ap (λ (i : ℕ). length (bom ++ ended_text (take i es))) number
+        ∙ line_moves profile bom s.ended fine.valid.ended n (suc k.number) x c d p.few k.closed p.adds p.line p.at
+        (at_is profile limit s other more d k)
 
-  pub dotted_still : StillAdds true profile limit s now other more (moved c d)
-  dotted_still = dotted_again profile limit s now other more c d k j there begins_at p.newline holds allowed
+    pub dotted_still : StillAdds true profile limit s now other more (moved c d)
+    dotted_still = dotted_again profile limit s now other more c d k j there begins_at p.newline holds allowed

@@ -6,8 +6,8 @@
 -- still, and the insert is not refused (KeysAfterHeader). The header comes behind that line, so the place stays, and
 -- the same line comes (DottedAgain).
 --
--- Theorems: `dotted_after_table`, `dotted_after_element`.
-use Rattle.std.proofs.Common.{◌≡◌, ◌≢◌, ℕ, suc, true, List, [], ◌∷◌, length, map, refl, sym, ap, subst, ◌∙◌}
+-- Theorems: `dotted_after_table`, `dotted_after_element`; `adds_now`: at any byte that a change leaves where it is.
+use Rattle.std.proofs.Common.{◌≡◌, ℕ, suc, true, List, [], ◌∷◌, length, map, refl, sym, ap, subst, ◌∙◌}
 use Rattle.std.proofs.Common.{length-append, arith, Option, Some, inr}
 use Rattle.std.proofs.lemmas.List.{length-map}
 use Rattle.keep_types.specs.declared.leaf.Profile.{Profile}
@@ -44,7 +44,8 @@ use Rattle.keep_edit_spec.proofs.Lists.OneLineMore.{reading_alike}
 module _ (profile : Profile) (limit : ℕ) (s : Document) (keys : List (List ℕ)) (c : TextChange) (content : Content)
     (other : List Part) (more : Value) (d : TextChange) (fine : IsEditable profile limit s)
     (h : HeaderComes s keys c content) (is : is_header content ≡ true) (k : AddsDotted profile limit s other more d)
-    (clear : PassesBy keys (first_new s other)) (apart : c.at ≢ d.at) where
+    (clear : PassesBy keys (first_new s other)) (beyond : TextChange)
+    (stays : moved_by beyond d.at ≡ d.at) where
   abbrev now : Document
   now = (headed s content).to
 
@@ -96,14 +97,14 @@ module _ (profile : Profile) (limit : ℕ) (s : Document) (keys : List (List ℕ
 
   -- ---- the line
 
-  begins_at : line_start now (suc n) ≡ moved_by c d.at
+  begins_at : line_start now (suc n) ≡ moved_by beyond d.at
   begins_at =
-      starts_stay s content (suc n) k.closed ∙ sym (line.at_is profile limit s other more d k)
-      ∙ sym (at_headed s keys c content h profile fine.valid (insert other more) d k.is apart)
+      starts_stay s content (suc n) k.closed ∙ sym (line.at_is profile limit s other more d k) ∙ sym stays
 
-  adds_now : newline_of now ≡ newline_of s → StillAdds true profile limit s now other more (moved c d)
+  -- the same line, where a change beyond it leaves it
+  pub adds_now : newline_of now ≡ newline_of s → StillAdds true profile limit s now other more (moved beyond d)
   adds_now same =
-      dotted_again profile limit s now other more c d k n there begins_at same
+      dotted_again profile limit s now other more beyond d k n there begins_at same
       (holder_headed s keys c content h profile limit other more its clear node_now (h.new a made))
       (refusal_headed s keys c content h profile limit other more its clear node_now (h.new a made))
 
@@ -114,7 +115,8 @@ dotted_after_table profile limit s keys c other more d fine h k clear apart same
     let one : Content = header [] (key_with keys) [] in
     let come : HeaderComes s keys c one = table_comes profile limit s keys c fine h in
     after_header (λ (t : Document). StillAdds true profile limit s t other more (moved c d)) s one keys c come
-    (adds_now profile limit s keys c one other more d fine come refl k clear apart
+    (adds_now profile limit s keys c one other more d fine come refl k clear c
+    (at_headed s keys c one come profile fine.valid (insert other more) d k.is apart)
     (ap (λ (o : Option (Changed Document)). newline_of (changed_or_same s o).to) (sym come.made) ∙ same))
 
 pub dotted_after_element : DottedAfterElement
@@ -122,5 +124,6 @@ dotted_after_element profile limit s keys c other more d fine h k clear apart sa
     let one : Content = element [] (key_with keys) [] in
     let come : HeaderComes s keys c one = element_comes profile limit s keys c fine h in
     after_header (λ (t : Document). StillAdds true profile limit s t other more (moved c d)) s one keys c come
-    (adds_now profile limit s keys c one other more d fine come refl k clear apart
+    (adds_now profile limit s keys c one other more d fine come refl k clear c
+    (at_headed s keys c one come profile fine.valid (insert other more) d k.is apart)
     (ap (λ (o : Option (Changed Document)). newline_of (changed_or_same s o).to) (sym come.made) ∙ same))

@@ -7,7 +7,7 @@
 -- as the line does (`number`). The document says of the second path what it said (SaidOnWay), and the same line comes
 -- (DottedAfter).
 --
--- Theorem: `dotted_after_line`.
+-- Theorems: `dotted_after_line`; `last_now`: wherever the lines come.
 use Rattle.std.proofs.Common.{◌≡◌, ℕ, suc, ◌+◌, Bool, true, false, List, [], ◌∷◌, ◌++◌, length, map, take, drop, refl}
 use Rattle.std.proofs.Common.{sym, ap, ap₂, subst, ◌∙◌, append_assoc, arith, Option, Some, inl, inr}
 use Rattle.std.specs.Option.{option_map}
@@ -43,8 +43,7 @@ use Rattle.keep_edit_spec.proofs.Lists.SaidOnWay.{holder_stays, refusal_stays}
 
 module _ (profile : Profile) (limit : ℕ) (s : Document) (path : List Part) (value : Value) (c : TextChange)
     (other : List Part) (more : Value) (d : TextChange) (fine : IsEditable profile limit s)
-    (h : AddsLine profile limit s path value c) (k : AddsDotted profile limit s other more d)
-    (order : AreInOrder (added_at s path c false) (added_at s other d true)) where
+    (h : AddsLine profile limit s path value c) (k : AddsDotted profile limit s other more d) where
   abbrev ms : List Mention
   ms = mentions_in s
 
@@ -125,7 +124,7 @@ module _ (profile : Profile) (limit : ℕ) (s : Document) (path : List Part) (va
       by true e = absurd (no_lead e)
       by false e = e
 
-  last_now : last_line (leads_dotted b) start (lines now) ≡ Some j
+  pub last_now : last_line (leads_dotted b) start (lines now) ≡ Some j
   last_now =
       ap (last_line (leads_dotted b) start) (lines_are s now n name value c put)
       ∙ last_without (leads_dotted b) start first x.line rest refl leads_none
@@ -135,26 +134,27 @@ module _ (profile : Profile) (limit : ℕ) (s : Document) (path : List Part) (va
 
   -- ---- its place
 
-  two_places : n ≡ suc k.number → ⊥
-  two_places is =
-      let bom : List ℕ = text_of (bom_leaves s.bom) in
-      let at : c.at ≡ d.at =
-      at_is profile limit s path value c h ∙ ap (λ (i : ℕ). length bom + width (take i s.ended)) is
-      ∙ sym (dotted.at_is profile limit s other more d k) in
-      let both : false ≡ true = (order.table refl at).0 in
-      absurd cc
+  module _ (order : AreInOrder (added_at s path c false) (added_at s other d true)) where
+    two_places : n ≡ suc k.number → ⊥
+    two_places is =
+        let bom : List ℕ = text_of (bom_leaves s.bom) in
+        let at : c.at ≡ d.at =
+        at_is profile limit s path value c h ∙ ap (λ (i : ℕ). length bom + width (take i s.ended)) is
+        ∙ sym (dotted.at_is profile limit s other more d k) in
+        let both : false ≡ true = (order.table refl at).0 in
+        absurd cc
 
-  number : suc j ≡ later_line n (suc k.number)
-  number = elim (cases_lt k.number n) [
-    | inl l ↦ elim (cases_lt (suc k.number) n) [
-      | inl less ↦ omega (arith, later_before n k.number l, later_before n (suc k.number) less)
-      | inr g ↦ absurd (two_places (omega (arith, l, g)))
+    number : suc j ≡ later_line n (suc k.number)
+    number = elim (cases_lt k.number n) [
+      | inl l ↦ elim (cases_lt (suc k.number) n) [
+        | inl less ↦ omega (arith, later_before n k.number l, later_before n (suc k.number) less)
+        | inr g ↦ absurd (two_places (omega (arith, l, g)))
+      ]
+      | inr g ↦ omega (arith, later_from n k.number g, later_from n (suc k.number) (omega (arith, g)))
     ]
-    | inr g ↦ omega (arith, later_from n k.number g, later_from n (suc k.number) (omega (arith, g)))
-  ]
 
-  pub dotted_after_line : StillAdds true profile limit s now other more (moved c d)
-  dotted_after_line =
-      dotted_still profile limit s now n name value c put fine other more d k j number
-      (holder_stays profile limit s path value way other more its order.other)
-      (refusal_stays profile limit s path value way other more its order.other) last_now
+    pub dotted_after_line : StillAdds true profile limit s now other more (moved c d)
+    dotted_after_line =
+        dotted_still profile limit s now n name value c put fine other more d k j number
+        (holder_stays profile limit s path value way other more its order.other)
+        (refusal_stays profile limit s path value way other more its order.other) last_now

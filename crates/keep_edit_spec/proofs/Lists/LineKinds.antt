@@ -5,13 +5,14 @@
 -- which is the holder of the path (`table_is`). A line that brings no header is of the kind that tells whether dotted
 -- keys make its table (`line_kind`).
 --
--- Theorems: `kind_is`, `keys_of_line`, `table_is`, `seen_still`, `as_of_kind`; `as_kind`.
+-- Theorems: `kind_is`, `keys_of_line`, `table_is`, `of_table`, `seen_still`, `as_of_kind`; `as_kind`.
 use Rattle.std.proofs.Common.{◌≡◌, ℕ, Bool, true, false, List, refl, sym, ap, subst, ◌∙◌}
 use Rattle.keep_types.specs.declared.leaf.Profile.{Profile}
 use Rattle.keep_syntax.specs.Tree.{Document, Value}
 use Rattle.keep_path.specs.Path.{Part, key, without_last}
 use Rattle.keep_meaning.specs.Meaning.{mentions_in}
 use Rattle.keep_edit_spec.specs.AddedLines.{first_new}
+use Rattle.keep_edit_spec.specs.BroughtHeaders.{BringsHeader}
 use Rattle.keep_edit_spec.specs.DottedLines.{AddsLineTo}
 use Rattle.keep_edit_spec.specs.Edits.{insert}
 use Rattle.keep_edit_spec.specs.InsertKinds.{AddsAs, added_as, kind_of, table_of}
@@ -41,6 +42,14 @@ pub table_is : (profile : Profile) (limit : ℕ) (s : Document) (path : List Par
 table_is profile limit s path value c h =
     ap without_last (first_path profile limit s path value h)
     ∙ without_last-snoc (holder path (mentions_in s)) (key h.text)
+
+-- what holds of the table of a line with a header
+pub of_table : (P : List Part → Type 0) (profile : Profile) (limit : ℕ) (s : Document) (path : List Part)
+    (value : Value) (c : TextChange) → BringsHeader profile limit s path value c
+    → (kind_of s path ≡ WithHeader → P (table_of (added_as s path c))) → P (holder path (mentions_in s))
+of_table P profile limit s path value c h holds =
+    subst P (table_is profile limit s path value c (keys_of_line WithHeader profile limit s path value c h))
+    (holds (kind_is WithHeader profile limit s path value c h))
 
 -- ---- in another document
 

@@ -29,7 +29,7 @@ use Rattle.keep_edit_spec.proofs.Lists.OtherHeaderApart.{element_goes_past, tabl
 use Rattle.keep_edit_spec.proofs.Lists.StillAppends.{apart_goes_not, said}
 use Rattle.keep_edit_spec.proofs.Rename.KeyTexts.{key_texts}
 
-apart_differ : (keys more : List (List ℕ)) → strip (map key keys) (map key more) ≡ None → keys ≡ more → ⊥
+pub apart_differ : (keys more : List (List ℕ)) → strip (map key keys) (map key more) ≡ None → keys ≡ more → ⊥
 apart_differ keys more none e =
     let p : List Part = map key keys in
     let some : strip p (map key more) ≡ Some [] =

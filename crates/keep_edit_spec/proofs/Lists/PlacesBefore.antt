@@ -1,10 +1,10 @@
--- A new line or header that keeps its place after some edits keeps it after fewer of them, without one of the changes.
+-- A new line or header that keeps its place after some edits keeps it after fewer of them, and in any other order.
 --
 -- What is asked is asked of each edit, of each line and of each change, so of fewer too. Among edits of any kind more
 -- is asked (`keeps_place`), and nothing of a remove (`among_with_remove`).
 --
--- Theorems: `placed_before`, and among edits of any kind `among_before`; `behind_before`: of a line behind a header
--- that came; `keeps_place`, `among_with_remove`.
+-- Theorems: `placed_over`; `behind_over`: of a line behind a header that came; without one of the changes:
+-- `placed_before`, and among edits of any kind `among_before`; `behind_before`; `keeps_place`, `among_with_remove`.
 use Rattle.std.proofs.Common.{◌≡◌, ℕ, ◌<◌, Bool, false, List, [], ◌∷◌, length, suc, All, ◌⊎◌, inl, inr}
 use Rattle.std.specs.Prelude.{IsTrue}
 use Rattle.std.specs.List.{list_any}
@@ -20,32 +20,25 @@ use Rattle.keep_edit_spec.specs.Runs.{ArePlain, IsBeforeHeaders, IsInOrder, IsPl
 use Rattle.keep_edit_spec.specs.Runs.{IsNoSecond, LetsCome, LetsTable, is_header, is_insert, takes_up_to}
 use Rattle.keep_edit_spec.specs.RunLists.{KeepsBehind}
 use Rattle.keep_edit_spec.specs.TextChanges.{IsBeside, TextChange, change_at, with_change}
-use Rattle.keep_edit_spec.proofs.Lists.TextChanges.{none_with, rest_of_all}
+use Rattle.keep_edit_spec.proofs.Lists.TextChanges.{rest_of_all}
 
-plain_before : (bytes : List ℕ) (changes : List TextChange) (c : TextChange) → ArePlain bytes (with_change changes c)
-    → ArePlain bytes changes
-plain_before bytes changes c (plain, new) = (plain, rest_of_all (λ x. IsPlain x.new) changes c new)
+module _ (bytes : List ℕ) (changes fewer : List TextChange)
+    (have : (P : TextChange → Type 0) → All P changes → All P fewer) where
+  plain_over : ArePlain bytes changes → ArePlain bytes fewer
+  plain_over (plain, new) = (plain, have (λ x. IsPlain x.new) new)
 
-clear_before : (bytes : List ℕ) (changes : List TextChange) (c d : TextChange)
-    → IsPlainBefore bytes (with_change changes c) d.at → IsPlainBefore bytes changes d.at
-clear_before bytes changes c d (plain, clear) =
-    (plain_before bytes changes c plain, (none_with (takes_up_to d.at) changes c clear).1)
-
-lets_before : (bytes : List ℕ) (changes : List TextChange) (c : TextChange) (at : ℕ)
-    → All (LetsCome bytes (with_change changes c) at) (with_change changes c) → All (LetsCome bytes changes at) changes
-lets_before bytes changes c at all =
-    All-weaker (LetsCome bytes (with_change changes c) at) (LetsCome bytes changes at) by changes
-    (rest_of_all (LetsCome bytes (with_change changes c) at) changes c all)
-  where
-    by : (x : TextChange) → LetsCome bytes (with_change changes c) at x → LetsCome bytes changes at x
-    by x (inl clear) = inl clear
-    by x (inr h) = inr (record {
-      takes = h.takes;
-      said = h.said;
-      stays =
-          rest_of_all (λ y. IsBeside y (change_at h.said.from (suc (length h.said.line)) [])) changes c h.stays;
-      alone = rest_of_all (λ y. y.at ≡ x.at → 0 < y.size) changes c h.alone;
-    })
+  lets_over : (at : ℕ) → All (LetsCome bytes changes at) changes → All (LetsCome bytes fewer at) fewer
+  lets_over at all =
+      All-weaker (LetsCome bytes changes at) (LetsCome bytes fewer at) by fewer (have (LetsCome bytes changes at) all)
+    where
+      by : (x : TextChange) → LetsCome bytes changes at x → LetsCome bytes fewer at x
+      by x (inl clear) = inl clear
+      by x (inr h) = inr (record {
+        takes = h.takes;
+        said = h.said;
+        stays = have (λ y. IsBeside y (change_at h.said.from (suc (length h.said.line)) [])) h.stays;
+        alone = have (λ y. y.at ≡ x.at → 0 < y.size) h.alone;
+      })
 
 pub each_none : {A : Type 0} (test : A → Bool) (xs : List A) → list_any test xs ≡ false → All (λ x. test x ≡ false) xs
 each_none test [] none = All-nil (λ x. test x ≡ false)
@@ -53,74 +46,99 @@ each_none test (x ∷ xs) none =
     let parts = or_parts (test x) (list_any test xs) none in
     All-cons (λ y. test y ≡ false) x xs parts.0 (each_none test xs parts.1)
 
--- what holds of each of the edits holds of each of the fewer, and of the lines
+-- what holds of each of the edits holds of each of the fewer, and of the lines, and of the changes
 module _ (s : Document) (edits fewer : List Edit) (are : (P : Edit → Type 0) → All P edits → All P fewer)
     (lines less : List Added) (each : (P : Added → Type 0) → All P lines → All P less)
-    (changes : List TextChange) (c : TextChange) where
+    (changes some : List TextChange) (have : (P : TextChange → Type 0) → All P changes → All P some) where
   abbrev bytes : List ℕ
   bytes = text s
 
-  headers_before : (at : ℕ) → IsBeforeHeaders bytes edits at → IsBeforeHeaders bytes fewer at
-  headers_before at (inl none) =
+  headers_over : (at : ℕ) → IsBeforeHeaders bytes edits at → IsBeforeHeaders bytes fewer at
+  headers_over at (inl none) =
       inl (list_any_none is_header fewer (are (λ e. is_header e ≡ false) (each_none is_header edits none)))
-  headers_before at (inr before) = inr before
+  headers_over at (inr before) = inr before
 
-  order_before : (line : Added) → IsInOrder edits (with_change changes c) lines line → IsInOrder fewer changes less line
-  order_before line order = record {
+  none_over : (at : ℕ) → list_any (takes_up_to at) changes ≡ false → list_any (takes_up_to at) some ≡ false
+  none_over at none =
+      list_any_none (takes_up_to at) some
+      (have (λ x. takes_up_to at x ≡ false) (each_none (takes_up_to at) changes none))
+
+  clear_over : (at : ℕ) → IsPlainBefore bytes changes at → IsPlainBefore bytes some at
+  clear_over at (plain, clear) = (plain_over bytes changes some have plain, none_over at clear)
+
+  order_over : (line : Added) → IsInOrder edits changes lines line → IsInOrder fewer some less line
+  order_over line order = record {
     after = each (λ l. IsAfterLine l line) order.after;
-    stays = λ is. (none_with (takes_up_to line.at) changes c (order.stays is)).1;
+    stays = λ is. none_over line.at (order.stays is);
     passed = are (LetsTable line) order.passed;
   }
 
-  header_before : (d : TextChange)
-      → All (λ e. IsTrue (is_header e)) edits ⊎ IsPlainBefore bytes (with_change changes c) d.at
-      → All (λ e. IsTrue (is_header e)) fewer ⊎ IsPlainBefore bytes changes d.at
-  header_before d (inl all) = inl (are (λ x. IsTrue (is_header x)) all)
-  header_before d (inr plain) = inr (clear_before bytes changes c d plain)
+  header_over : (at : ℕ) → All (λ e. IsTrue (is_header e)) edits ⊎ IsPlainBefore bytes changes at
+      → All (λ e. IsTrue (is_header e)) fewer ⊎ IsPlainBefore bytes some at
+  header_over at (inl all) = inl (are (λ x. IsTrue (is_header x)) all)
+  header_over at (inr plain) = inr (clear_over at plain)
 
   -- where a line can come among others
   abbrev AreLet : List Edit → List TextChange → ℕ → Type 0
   AreLet edits changes at =
       ArePlain bytes changes × (All (LetsCome bytes changes at) changes × IsBeforeHeaders bytes edits at)
 
-  let_before : (at : ℕ) → AreLet edits (with_change changes c) at → AreLet fewer changes at
-  let_before at (plain, (lets, before)) =
-      (plain_before bytes changes c plain, (lets_before bytes changes c at lets, headers_before at before))
+  let_over : (at : ℕ) → AreLet edits changes at → AreLet fewer some at
+  let_over at (plain, (lets, before)) = (
+    plain_over bytes changes some have plain,
+    (lets_over bytes changes some have at lets, headers_over at before),
+  )
 
-  pub behind_before : (d : TextChange) → KeepsBehind s edits (with_change changes c) d → KeepsBehind s fewer changes d
-  behind_before d (clear, h) = (
-    (none_with (takes_up_to d.at) changes c clear).1,
+  pub behind_over : (d : TextChange) → KeepsBehind s edits changes d → KeepsBehind s fewer some d
+  behind_over d (clear, h) = (
+    none_over d.at clear,
     elim h [
       | inl all ↦ inl (are (λ x. IsTrue (is_insert x)) all)
-      | inr (plain, before) ↦ inr (plain_before bytes changes c plain, headers_before d.at before)
+      | inr (plain, before) ↦ inr (plain_over bytes changes some have plain, headers_over d.at before)
     ],
   )
+
+  pub placed_over : (f : Edit) (d : TextChange) → KeepsPlace s edits changes lines f d
+      → KeepsPlace s fewer some less f d
+  placed_over (insert path value) d (order, h) = (
+    order_over (added_as s path d) order,
+    elim h [
+      | inl all ↦ inl (are (λ x. IsTrue (is_insert x)) all)
+      | inr lets ↦ inr (let_over d.at lets)
+    ],
+  )
+  placed_over (append_table keys) d (passed, h) = (each (IsNoSecond keys) passed, header_over d.at h)
+  placed_over (append_element keys) d (passed, h) = (each (IsNoSecond keys) passed, header_over d.at h)
+  placed_over (remove path) d h = tt
+  placed_over (set path value) d h = tt
+  placed_over (rename path name) d h = tt
+
+  among_over : (f : Edit) (d : TextChange) → KeepsPlaceAmong s edits changes lines f d
+      → KeepsPlaceAmong s fewer some less f d
+  among_over (insert path value) d (order, lets) = (order_over (added_as s path d) order, let_over d.at lets)
+  among_over (append_table keys) d (passed, plain) = (each (IsNoSecond keys) passed, clear_over d.at plain)
+  among_over (append_element keys) d (passed, plain) = (each (IsNoSecond keys) passed, clear_over d.at plain)
+  among_over (remove path) d h = tt
+  among_over (set path value) d h = tt
+  among_over (rename path name) d h = tt
+
+-- the same without one of the changes
+module _ (s : Document) (edits fewer : List Edit) (are : (P : Edit → Type 0) → All P edits → All P fewer)
+    (lines less : List Added) (each : (P : Added → Type 0) → All P lines → All P less)
+    (changes : List TextChange) (c : TextChange) where
+  others : (P : TextChange → Type 0) → All P (with_change changes c) → All P changes
+  others P = rest_of_all P changes c
+
+  pub behind_before : (d : TextChange) → KeepsBehind s edits (with_change changes c) d → KeepsBehind s fewer changes d
+  behind_before = behind_over s edits fewer are lines less each (with_change changes c) changes others
 
   pub placed_before : (f : Edit) (d : TextChange) → KeepsPlace s edits (with_change changes c) lines f d
       → KeepsPlace s fewer changes less f d
-  placed_before (insert path value) d (order, h) = (
-    order_before (added_as s path d) order,
-    elim h [
-      | inl all ↦ inl (are (λ x. IsTrue (is_insert x)) all)
-      | inr lets ↦ inr (let_before d.at lets)
-    ],
-  )
-  placed_before (append_table keys) d (passed, h) = (each (IsNoSecond keys) passed, header_before d h)
-  placed_before (append_element keys) d (passed, h) = (each (IsNoSecond keys) passed, header_before d h)
-  placed_before (remove path) d h = tt
-  placed_before (set path value) d h = tt
-  placed_before (rename path name) d h = tt
+  placed_before = placed_over s edits fewer are lines less each (with_change changes c) changes others
 
   pub among_before : (f : Edit) (d : TextChange) → KeepsPlaceAmong s edits (with_change changes c) lines f d
       → KeepsPlaceAmong s fewer changes less f d
-  among_before (insert path value) d (order, lets) = (order_before (added_as s path d) order, let_before d.at lets)
-  among_before (append_table keys) d (passed, plain) =
-      (each (IsNoSecond keys) passed, clear_before bytes changes c d plain)
-  among_before (append_element keys) d (passed, plain) =
-      (each (IsNoSecond keys) passed, clear_before bytes changes c d plain)
-  among_before (remove path) d h = tt
-  among_before (set path value) d h = tt
-  among_before (rename path name) d h = tt
+  among_before = among_over s edits fewer are lines less each (with_change changes c) changes others
 
 -- ---- among edits of any kind
 

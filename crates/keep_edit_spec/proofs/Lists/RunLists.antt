@@ -103,7 +103,7 @@ lines_apart s m (x ∷ later) earlier none =
     ap (with_line s x.edit x.change) (lines_apart s m later earlier none)
 
 -- with the line of an edit, of fewer lines
-line_more : (P : Added → Type 0) (s : Document) (e : Edit) (c : TextChange) (lines less : List Added)
+pub line_more : (P : Added → Type 0) (s : Document) (e : Edit) (c : TextChange) (lines less : List Added)
     → (All P lines → All P less) → All P (with_line s e c lines) → All P (with_line s e c less)
 line_more P s (insert path value) c lines less are h =
     All-cons P (added_as s path c) less (All-head P (added_as s path c) lines h)
@@ -114,10 +114,10 @@ line_more P s (remove path) c lines less are h = are h
 line_more P s (append_table keys) c lines less are h = are h
 line_more P s (append_element keys) c lines less are h = are h
 
-any_first : (P : Added → Type 0) (l : Added) (ls : List Added) → P l → Any P (l ∷ ls)
+pub any_first : (P : Added → Type 0) (l : Added) (ls : List Added) → P l → Any P (l ∷ ls)
 any_first P l ls h = (0, l, omega arith, refl, h)
 
-any_later : (P : Added → Type 0) (l : Added) (ls : List Added) → Any P ls → Any P (l ∷ ls)
+pub any_later : (P : Added → Type 0) (l : Added) (ls : List Added) → Any P ls → Any P (l ∷ ls)
 any_later P l ls (n, m, few, same, h) = (suc n, m, omega (arith, few), same, h)
 
 pub all_hold : (P : Edit → Type 0) → ((e : Edit) → P e) → (es : List Edit) → All P es
@@ -231,7 +231,7 @@ module _ (profile : Profile) (limit : ℕ) (s : Document) (e : Edit) (c : TextCh
       by (append_element keys) ih h = ih h
 
   -- so an edit that follows the header of another does so without it
-  follows_other : (later earlier : List MadeEdit) (f : Edit) (d : TextChange) → c.at ≢ d.at
+  pub follows_other : (later earlier : List MadeEdit) (f : Edit) (d : TextChange) → c.at ≢ d.at
       → Follows profile limit s (lines_of s (later ++ one ∷ earlier)) f d
       → Follows profile limit s (lines_of s (later ++ earlier)) f d
   follows_other later earlier (insert path value) d apart h = record {

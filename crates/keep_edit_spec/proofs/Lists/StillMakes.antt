@@ -8,7 +8,6 @@ use Rattle.std.proofs.Common.{◌≡◌, ◌≢◌, ℕ, Bool, true, false, List
 use Rattle.keep_types.specs.declared.leaf.Profile.{Profile}
 use Rattle.keep_syntax.specs.Tree.{Document, Value}
 use Rattle.keep_path.specs.Path.{Part, beside}
-use Rattle.keep_meaning.specs.Meaning.{mentions_in}
 use Rattle.keep_edit_spec.specs.AddedLines.{first_new}
 use Rattle.keep_edit_spec.specs.BroughtHeaders.{BringsHeader}
 use Rattle.keep_edit_spec.specs.ClearedLines.{ClearsLine}
@@ -16,9 +15,9 @@ use Rattle.keep_edit_spec.specs.DottedLines.{AddsLineTo, AreInOrder, added_at}
 use Rattle.keep_edit_spec.specs.Edits.{Edit, append_element, append_table, edited_document, insert, place, remove}
 use Rattle.keep_edit_spec.specs.Edits.{rename, set}
 use Rattle.keep_edit_spec.specs.ElementRuns.{IsElsewhere, changed_path}
-use Rattle.keep_edit_spec.specs.InsertKinds.{AddsAs, IsAfterAs, added_as, kind_of, table_of}
+use Rattle.keep_edit_spec.specs.InsertKinds.{AddsAs, IsAfterAs, added_as, kind_of}
 use Rattle.keep_edit_spec.specs.Laws.{IsEditable}
-use Rattle.keep_edit_spec.specs.Look.{holder, keys_in}
+use Rattle.keep_edit_spec.specs.Look.{keys_in}
 use Rattle.keep_edit_spec.specs.RemovedLines.{RemovesLine}
 use Rattle.keep_edit_spec.specs.RemovedSections.{RemovesSection}
 use Rattle.keep_edit_spec.specs.Runs.{AreApart, IsStillPlaced, LeavesAlone, MakesChange, PassesBy}
@@ -53,7 +52,7 @@ use Rattle.keep_edit_spec.proofs.Lists.InsertAfterSet.{insert_after_set}
 use Rattle.keep_edit_spec.proofs.Lists.InsertInPlace.{insert_in_place}
 use Rattle.keep_edit_spec.proofs.Lists.LineAfterBrought.{dotted_after_brought, line_after_brought}
 use Rattle.keep_edit_spec.proofs.Lists.LineApart.{cleared_apart, line_apart}
-use Rattle.keep_edit_spec.proofs.Lists.LineKinds.{as_kind, keys_of_line, kind_is, line_kind, table_is}
+use Rattle.keep_edit_spec.proofs.Lists.LineKinds.{as_kind, keys_of_line, kind_is, line_kind, of_table, table_is}
 use Rattle.keep_edit_spec.proofs.Lists.MadeChanges.{removes_there}
 use Rattle.keep_edit_spec.proofs.Lists.MadeStill.{MakesStill, adds_still, brings_still, line_after, none_in_place}
 use Rattle.keep_edit_spec.proofs.Lists.MadeStill.{not_in_place, remove_after}
@@ -98,14 +97,6 @@ other_path profile limit s path c other d fine h k beside same =
     first.start ∙ ap (λ (p : List Part). (place s (remove p)).start) same
     ∙ sym (removes_there profile limit s other d fine k).0.start in
     elim beside [ inl ends ↦ omega (arith, ends, starts, some) | inr before ↦ omega (arith, before.0, starts) ]
-
--- what holds of the table of a line with a header
-of_table : (P : List Part → Type 0) (profile : Profile) (limit : ℕ) (s : Document) (path : List Part) (value : Value)
-    (c : TextChange) → BringsHeader profile limit s path value c
-    → (kind_of s path ≡ WithHeader → P (table_of (added_as s path c))) → P (holder path (mentions_in s))
-of_table P profile limit s path value c h holds =
-    subst P (table_is profile limit s path value c (keys_of_line WithHeader profile limit s path value c h))
-    (holds (kind_is WithHeader profile limit s path value c h))
 
 swapped : (path other : List Part) → AreApart path other → AreApart other path
 swapped path other apart = (apart.1, apart.0)

@@ -1,6 +1,7 @@
 -- The search ends after the last edit that begins where the new one does. That one is at the same place, so both take
--- nothing there: the new one comes before it, and the edits still follow one another.
-use Rattle.std.proofs.Common.{◌≡◌, ◌-◌, ℕ, List, All, leb, insert, map, is_ok, sym, subst, ap, ◌∙◌, rules, arith}
+-- nothing there. The new one comes `count` edits before the place where the search ends. The edit that it comes before
+-- begins at the same byte, so all from that one to the last do, and the edits still follow one another.
+use Rattle.std.proofs.Common.{◌≡◌, ◌+◌, ◌-◌, ℕ, List, All, leb, insert, map, is_ok, sym, subst, ap, ◌∙◌, rules, arith}
 use Rattle.std.proofs.Common.{eqb-true, true, false, Bool, get_or, ◌<◌, if◌then◌else◌}
 use Rattle.std.specs.Prelude.{◌==◌}
 use Rattle.std.proofs.lemmas.Fn.{always_returns_same}
@@ -34,38 +35,52 @@ module _ (c : goal.Joined-insert-2) where
       subst (λ ts. IsPlaceOf edit ts number) c.deref.ensures.value
       (place_found edit c.deref.result.now number c.partition_point-after.ensures.bound point)
 
-  abbrev last : TextEdit
-  last = c.index.result.now
+  abbrev first : ℕ
+  first = number - c.args.count
 
-  some : 0 < number
-  some = omega (arith, c.if-after-eq0.false)
+  some : 0 < c.args.count
+  some = omega (arith, c.if-count-eq0.false)
+
+  enough : first + c.args.count ≡ number
+  enough = omega (arith, c.if-count-after.false)
+
+  -- the one it is put before
+  abbrev next : TextEdit
+  next = c.index.result.now
+
+  next_is : get_or edits first edit ≡ next
+  next_is =
+      sym (get_or_read edits first next (omega (arith, place_is.within, some, enough)) c.index.ensures edit)
+
+  start : start_of (get_or edits first edit) ≡ edit.place.start
+  start = ap start_of next_is ∙ omega (arith, c.if-index-start.false)
 
   -- the last that begins there
-  last_is : (get_or edits (number - 1) edit) ≡ last
-  last_is =
-      sym (get_or_read edits (number - 1) last (omega (arith, place_is.within, some)) c.index.ensures edit)
+  abbrev last : TextEdit
+  last = c.index-else-index-start.result.now
 
-  same_place : (last.place.start ≡ edit.place.start) × (last.place.end ≡ edit.place.end)
-  same_place =
-      let (starts, ends) =
-      both_same c.ne.result (last.place.start == edit.place.start) (last.place.end == edit.place.end) c.ne.ensures
-      c.if-ne.false in
-      (eqb-true last.place.start edit.place.start starts, eqb-true last.place.end edit.place.end ends)
+  last_is : get_or edits (number - 1) edit ≡ last
+  last_is =
+      sym (get_or_read edits (number - 1) last (omega (arith, place_is.within, some, enough))
+      c.index-else-index-start.ensures edit)
+
+  same_end : last.place.end ≡ edit.place.end
+  same_end =
+      eqb-true last.place.end edit.place.end
+      (both_same c.ne.result (last.place.start == edit.place.start) (last.place.end == edit.place.end) c.ne.ensures
+      c.if-ne.false).1
 
   none : edit.place.start ≡ edit.place.end
   none = omega (arith, c.if-start-end.false)
 
-  start : start_of (get_or edits (number - 1) edit) ≡ edit.place.start
-  start = ap start_of last_is ∙ same_place.0
-
   end : (get_or edits (number - 1) edit).place.end ≡ edit.place.end
-  end = ap (λ (t : TextEdit). t.place.end) last_is ∙ same_place.1
+  end = ap (λ (t : TextEdit). t.place.end) last_is ∙ same_end
 
-  follow : Follow 0 (map change_of (insert edits (number - 1) edit))
-  follow = follow_ahead edit edits number place_is some c.self.invariant.0 none start end
+  follow : Follow 0 (map change_of (insert edits first edit))
+  follow = follow_ahead edit edits number place_is first c.args.count enough some c.self.invariant.0 none start end
 
-  put : IsPutAhead (map change_of edits) (change_of edit) (map change_of (insert edits (number - 1) edit))
-  put = put_ahead edit edits number place_is some c.self.invariant.0 none start end
+  put : IsPutAhead (map change_of edits) (change_of edit) c.args.count (map change_of (insert edits first edit))
+  put = put_ahead edit edits number place_is first c.args.count enough some c.self.invariant.0 none start end
 
 -- what the invariant says
 abbrev Kept : List TextEdit → Type 0
@@ -77,16 +92,16 @@ both P false xs ys h k = k
 
 pub invariant_of-self : goal.invariant_of-self
 invariant_of-self c =
-    let ordered : All IsOrdered (insert (edits c) (number c - 1) (edit c)) =
-    all_insert IsOrdered (edits c) (edit c) (number c - 1) (omega (arith, none c)) c.self.invariant.1 in
+    let ordered : All IsOrdered (insert (edits c) (first c) (edit c)) =
+    all_insert IsOrdered (edits c) (edit c) (first c) (omega (arith, none c)) c.self.invariant.1 in
     subst Kept (sym c.insert.ensures.items)
-    (both Kept (is_ok c.insert.result) (insert (edits c) (number c - 1) (edit c)) (edits c) (follow c, ordered)
+    (both Kept (is_ok c.insert.result) (insert (edits c) (first c) (edit c)) (edits c) (follow c, ordered)
     c.self.invariant)
 
 pub returns-clause-put : goal.returns-clause-put
 returns-clause-put c =
-    let now : IsPutAhead c.args.self.now (change_of (edit c))
-    (map change_of (insert (edits c) (number c - 1) (edit c))) =
-    subst (λ (old : List TextChange). IsPutAhead old (change_of (edit c))
-    (map change_of (insert (edits c) (number c - 1) (edit c)))) c.self.view_is (put c) in
+    let now : IsPutAhead c.args.self.now (change_of (edit c)) c.args.count
+    (map change_of (insert (edits c) (first c) (edit c))) =
+    subst (λ (old : List TextChange). IsPutAhead old (change_of (edit c)) c.args.count
+    (map change_of (insert (edits c) (first c) (edit c)))) c.self.view_is (put c) in
     search (rules, now)

@@ -31,4 +31,4 @@ returns-in-Table-default c = λ yes.
       | in-Table-default-2 w ↦ inr (search rules)
     ] in
     appended_kept c.args.self.now c.args.so_far.now.changes x c.args.edit.now.change.place.start c.args.edit.now.line
-    keys c.append_later.new.self appends (c.append_later.ensures yes)
+    keys c.keep_appended.new.self appends (c.keep_appended.ensures yes)

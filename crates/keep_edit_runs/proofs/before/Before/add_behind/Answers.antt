@@ -1,13 +1,16 @@
-use Rattle.std.proofs.Common.{◌≡◌, ◌∙◌, All, eqb-true, false, subst, sym, true}
+use Rattle.std.proofs.Common.{◌≡◌, ◌∙◌, All, ap, eqb-true, false, inl, inr, length, subst, sym, true}
 use Rattle.std.specs.Prelude.{◌==◌}
 use Rattle.std.proofs.lemmas.Bool.{and_parts}
 use Rattle.keep_edit_spec.specs.Runs.{IsPlain}
 use Rattle.keep_edit_spec.specs.TextChanges.{TextChange}
 use Rattle.keep_edit_spec.proofs.Shared.{all_with}
+use Rattle.keep_edit_plan.specs.Reading.{ProfiledText}
 use Rattle.keep_edit_plan.specs.TextEdits.{change_of}
 use Rattle.keep_edit_runs.specs.Runs.{IsKeptBehind}
 use Rattle.keep_edit_runs.proofs.before.Before.add_behind.Goals as goal
-use Rattle.keep_edit_runs.proofs.before.Before.add_behind.Goals.{else-eq, then-eq}
+use Rattle.keep_edit_runs.proofs.before.Before.add_behind.Goals.{else-eq, else-place-self-via-else-place-self}
+use Rattle.keep_edit_runs.proofs.before.Before.add_behind.Goals.{else-place-self-via-then-place-self+else-has_appended}
+use Rattle.keep_edit_runs.proofs.before.Before.add_behind.Goals.{then-eq}
 
 pub returns-then-keep_behind-clause-added : goal.returns-then-keep_behind-clause-added
 returns-then-keep_behind-clause-added c = λ added.
@@ -17,6 +20,13 @@ returns-then-keep_behind-clause-added c = λ added.
       | then-eq w ↦ record {
         line = line;
         alone = c.in-Some.ensures;
+        ends = elim c.else-place-self.branch [
+          | else-place-self-via-then-place-self+else-has_appended v ↦ inr
+              (v.has_appended.ensures v.if-has_appended.false)
+          | else-place-self-via-else-place-self v ↦ inl
+              (λ same. v.if-place-self.false
+              (same ∙ ap (λ (now : ProfiledText). length now.text) (sym c.self.view_is)))
+        ];
         place = eqb-true line.place.start c.args.place.start
             (and_parts (line.place.start == c.args.place.start) (line.place.end == c.args.place.end)
             (sym c.eq.ensures ∙ w.if-eq.true)).0;

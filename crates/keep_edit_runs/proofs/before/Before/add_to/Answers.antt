@@ -87,7 +87,7 @@ returns-clause-added c = λ added.
           c.in-Some.ensures.made;
       alone = left.alone;
       elsewhere = left.elsewhere;
-      placed = subst (λ (s : AtOnce). IsPlacedAmong s.outlines.items now.text s.changes o t.at) same
+      placed = subst (λ (s : AtOnce). IsPlacedAmong now.text s.changes o t.at) same
           (c.keeps_place_in.ensures.placed c.if-not-keeps_place_in.false);
       added = in_order now x old then o t made.line c.is_empty-is_none_gone.result
           (record then { so_far = c.add_in_order.new.so_far; lines = c.add_in_order.new.lines }) same_then same_lines

@@ -22,7 +22,7 @@ loop-number-init c =
     let now = c.args.self.now in
     let (no_outlines, none) = c.new-so_far.ensures in (
       subst₂ (λ os cs. AreMadeTo edits first first now os cs c.new-lines.result) (sym no_outlines) (sym none)
-          (no_changes edits first now c.new-lines.result c.new-lines.ensures.brought),
+          (no_changes edits first now c.new-lines.result c.new-lines.ensures.brought c.new-lines.ensures.counts),
       subst (All (IsSeen c.new-keys.result)) (sym no_outlines) (All-nil (IsSeen c.new-keys.result)),
       c.new-planner.ensures ∙ c.as_ref.ensures,
     )
@@ -160,7 +160,7 @@ loop-number-preserved c =
           subst (λ (cs : List TextChange). AreMadeTo edits first (suc number) now (outlines ++ o ∷ []) cs next)
           (sym behind.changes_are)
           (more_changes edits first number now outlines changes adds next x x o change made.line so_far low
-          (sym c.index-edits-number.is) makes alone behind.beside placed behind.kept)
+          (sym c.index-edits-number.is) makes alone behind.beside placed behind.kept behind.ends)
       | inr (sure, inr follows) ↦
           more_following edits first number now outlines changes new adds next x x o change made.line so_far low
           (sym c.index-edits-number.is) makes alone placed follows

@@ -9,5 +9,4 @@ returns-clause-others c =
       beginnings = λ path had. had;
       keys = λ text had. had;
       names = λ text had. had;
-      header = λ had. had;
     }

@@ -8,5 +8,4 @@ returns-clause-others c =
       beginnings = λ path had. had;
       keys = added.1;
       names = λ text had. had;
-      header = λ had. had;
     }

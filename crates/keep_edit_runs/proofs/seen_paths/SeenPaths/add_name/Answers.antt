@@ -8,5 +8,4 @@ returns-clause-others c =
       beginnings = λ path had. had;
       keys = λ text had. had;
       names = added.1;
-      header = λ had. had;
     }
