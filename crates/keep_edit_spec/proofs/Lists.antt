@@ -217,6 +217,8 @@ pub mod BroughtAfterRename
 pub mod BroughtAfterRemove
 pub mod BroughtAfterTaken
 pub mod BroughtAfterHeader
+pub mod BroughtBelow
+pub mod AheadOfBrought
 pub mod BroughtAfterLine
 pub mod BroughtBeside
 pub mod BroughtTexts

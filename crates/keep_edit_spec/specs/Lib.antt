@@ -37,3 +37,4 @@ pub mod BroughtHeaders
 pub mod InsertKinds
 pub mod ElementRuns
 pub mod FilledTables
+pub mod HeadersBelow

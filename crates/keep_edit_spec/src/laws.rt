@@ -9,6 +9,7 @@ ghost use Rattle.keep_edit_spec.specs.ElementRuns as elements;
 ghost use Rattle.keep_edit_spec.specs.EntryChanges as parts;
 ghost use Rattle.keep_edit_spec.specs.EntryEdits as entries;
 ghost use Rattle.keep_edit_spec.specs.FilledTables as filled;
+ghost use Rattle.keep_edit_spec.specs.HeadersBelow as below;
 ghost use Rattle.keep_edit_spec.specs.InsertLists as inserts;
 ghost use Rattle.keep_edit_spec.specs.KeyvalLines as keyvals;
 ghost use Rattle.keep_edit_spec.specs.Laws as spec;
@@ -183,6 +184,15 @@ pub fn lines_come_ahead()
     ensures element { ahead.StillAddsAheadOfElement }
     ensures run { ahead.RunGoesOnAhead }
     ensures count { ahead.CountsBehind }
+{}
+
+/// An insert that brings the header of its table brings it at the end of the text after a header was appended there
+/// that goes through the table; and it brings the same, at the same byte, after another insert brought a header there
+/// that does not.
+pub fn headers_come_below()
+    ensures table { below.StillBringsBelowTable }
+    ensures element { below.StillBringsBelowElement }
+    ensures ahead { below.StillBringsAhead }
 {}
 
 /// So is a run of inserts that each add the next item of one array.

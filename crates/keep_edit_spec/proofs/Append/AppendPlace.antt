@@ -72,7 +72,7 @@ pub record IsCutAt (at : ℕ) (given : List ℕ) (c : Changed Page) : Type 0 whe
   pub old : c.old ≡ []
   pub new : c.new ≡ given
 
-before_last : (new : List Ended) (newline : Written) (es : List Ended) (last : Line)
+pub before_last : (new : List Ended) (newline : Written) (es : List Ended) (last : Line)
     → IsCutAt (length (ended_text es)) (ended_text new) (put_lines (length es) new newline es last)
 before_last new newline [] last = record { start = refl; old = refl; new = refl }
 before_last new newline (e ∷ es) last =

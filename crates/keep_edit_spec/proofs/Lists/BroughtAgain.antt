@@ -1,14 +1,14 @@
 -- An insert that brings the header of its table brings the same in another document, if its table stays a node that no
--- header defines and no dotted keys make, it is not refused, and the body of the last header that goes through the
--- table ends where the change moves it.
+-- header defines and no dotted keys make, and it is not refused: where the body of the last header ends that goes
+-- through the table (`brought_there`), which may be where a change moves it (`brought_again`).
 --
--- Then the same three lines come after that body (BroughtLines), at the moved place (`place_now`). Where the document
--- says the same but at another path and under it, the table is a node still, since a header goes through it
--- (NewHolder). So it is the holder, and the insert is not refused (SaidBeside).
+-- The same three lines come after that body (BroughtLines; `place_now`). Where the document says the same but at
+-- another path and under it, the table is a node still, since a header goes through it (NewHolder). So it is the
+-- holder, and the insert is not refused (SaidBeside).
 --
--- Theorems: `brought_again`; `brought_said`: in a document that says the same but at another path and under it;
--- `brought_cut`: where only a run there is gone.
-use Rattle.std.proofs.Common.{◌≡◌, ℕ, ◌≤◌, true, List, ◌∷◌, ◌++◌, length, map, take, sym, ap, ◌∙◌, length-append}
+-- Theorems: `brought_there`, `brought_again`; `brought_said`: in a document that says the same but at another path and
+-- under it; `brought_cut`: where only a run there is gone.
+use Rattle.std.proofs.Common.{◌≡◌, ℕ, ◌≤◌, true, List, ◌∷◌, ◌++◌, length, map, take, refl, sym, ap, ◌∙◌, length-append}
 use Rattle.std.proofs.Common.{Some, None}
 use Rattle.keep_types.specs.declared.leaf.Profile.{Profile}
 use Rattle.keep_syntax.specs.Tree.{Written, Content, Value, Document, bom_leaves, text_of}
@@ -41,9 +41,11 @@ pub record IsThroughThere (s : Document) (other : List Part) (now : Document) (j
   pub last : last_line (leads_through (holder other (mentions_in s))) start (lines now) ≡ Some j
   pub closed : body_end j (lines now) ≤ length now.ended
 
-module _ (profile : Profile) (limit : ℕ) (s now : Document) (other : List Part) (more : Value) (c d : TextChange)
+-- The same header comes there by this change, which has the same bytes.
+module _ (profile : Profile) (limit : ℕ) (s now : Document) (other : List Part) (more : Value) (d e : TextChange)
     (k : BringsHeader profile limit s other more d) (j : ℕ) (there : IsThroughThere s other now j)
-    (at : line_start now (body_end j (lines now)) ≡ moved_by c d.at) (newline : newline_of now ≡ newline_of s) where
+    (at : line_start now (body_end j (lines now)) ≡ e.at) (adds : e.size ≡ 0) (new : e.new ≡ d.new)
+    (newline : newline_of now ≡ newline_of s) where
   abbrev a : List Part
   a = holder other (mentions_in s)
 
@@ -73,17 +75,17 @@ module _ (profile : Profile) (limit : ℕ) (s now : Document) (other : List Part
         brings_at now other more k.text k.more j new_now bare_now dots_now last_now
         ∙ ap (λ (q : List Part). at_line now n (header_lines q (k.text ∷ k.more) more)) holds
 
-    place_now : place now (insert other more) ≡ put_in (moved_by c d.at) d.new
+    place_now : place now (insert other more) ≡ put_in e.at e.new
     place_now =
         let bom : List ℕ = text_of (bom_leaves now.bom) in
         let from : ℕ = length (bom ++ ended_text (take n now.ended)) in
         puts_place now (insert other more) contents n changed_now there.closed
         ∙ ap (λ (w : Written). put_in from (ended_text (map (new_line w) contents))) newline
-        ∙ ap (put_in from) (sym (new_is profile limit s other more d k))
-        ∙ ap (λ (i : ℕ). put_in i d.new) (length-append bom (ended_text (take n now.ended)) ∙ at)
+        ∙ ap (put_in from) (sym (new ∙ new_is profile limit s other more d k))
+        ∙ ap (λ (i : ℕ). put_in i e.new) (length-append bom (ended_text (take n now.ended)) ∙ at)
 
-    pub brought_again : StillBrings profile limit s now other more (moved c d)
-    brought_again = (
+    pub brought_there : StillBrings profile limit s now other more e
+    brought_there = (
       record {
         utf8 = k.utf8;
         given = k.given;
@@ -96,18 +98,30 @@ module _ (profile : Profile) (limit : ℕ) (s now : Document) (other : List Part
         number = j;
         last = last_now;
         closed = there.closed;
-        adds = k.adds;
+        adds = adds;
         is = place_now;
       },
       holds,
     )
+
+-- where a change moves it
+module _ (profile : Profile) (limit : ℕ) (s now : Document) (other : List Part) (more : Value) (c d : TextChange)
+    (k : BringsHeader profile limit s other more d) (j : ℕ) (there : IsThroughThere s other now j)
+    (at : line_start now (body_end j (lines now)) ≡ moved_by c d.at) (newline : newline_of now ≡ newline_of s) where
+  abbrev table : List Part
+  table = holder other (mentions_in s)
+
+  pub brought_again : holder other (mentions_in now) ≡ table → refusal profile limit now (insert other more) ≡ None
+      → StillBrings profile limit s now other more (moved c d)
+  brought_again =
+      brought_there profile limit s now other more d (moved c d) k j there at k.adds refl newline
 
   -- in a document that says the same but at a zone's path and under it
   pub brought_said : (zone : List Part) → IsSaidBeside zone (mentions_in s) (mentions_in now) → strip zone other ≡ None
       → StillBrings profile limit s now other more (moved c d)
   brought_said zone said clear =
       let its : InsertsKeys profile limit s other more = brought_keys profile limit s other more d k in
-      let node : is_node a (mentions_in now) ≡ true = through_node now a j there.last in
+      let node : is_node table (mentions_in now) ≡ true = through_node now table j there.last in
       brought_again (holder_beside profile limit s zone now said other more its clear node)
       (refusal_beside profile limit s zone now said other more its clear node)
 

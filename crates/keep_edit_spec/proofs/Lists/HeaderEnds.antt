@@ -43,7 +43,7 @@ none_begins a r l e = ap (λ (x : Content). begins a r (plain_line x)) e
 none_leads : (a : List Part) (r : Reading) (l : Line) → l.content ≡ blank → leads_dotted a r l ≡ false
 none_leads a r l e = ap (λ (x : Content). leads_dotted a r (plain_line x)) e
 
-none_through : (a : List Part) (r : Reading) (l : Line) → l.content ≡ blank → leads_through a r l ≡ false
+pub none_through : (a : List Part) (r : Reading) (l : Line) → l.content ≡ blank → leads_through a r l ≡ false
 none_through a r l e = ap (λ (x : Content). is_header x && has is_through a (line_mentions r l)) e
 
 header_leads : (a : List Part) (r : Reading) (c : Content) → is_header c ≡ true

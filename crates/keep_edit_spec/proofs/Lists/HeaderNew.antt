@@ -202,7 +202,7 @@ not_made s p (inr by_dots) =
 
 -- ---- what a header says
 
-way_states : (a : List Part) (ms : List Mention) → AllOf (λ (m : Mention). fact_of m.kind ≡ None) ms
+pub way_states : (a : List Part) (ms : List Mention) → AllOf (λ (m : Mention). fact_of m.kind ≡ None) ms
     → AllOf (λ (m : Mention). is_element m.kind ≡ false) ms → AllOf (StatesNothing a) ms
 way_states a [] h g = tt
 way_states a (m ∷ ms) h g = ((λ e. (h.0, g.0)), way_states a ms h.1 g.1)
