@@ -9,10 +9,11 @@ given to the program as one script, and then each edit as a script of its own, o
 itself. Texts, faults and the number of the refused edit have to be the same. KIND is the name of the method that makes the lists
 here, if all are to be of that kind.
 Most lists are of edits of one kind, a fifth of them of edits of all kinds in turn, among them removes of tables and of elements, and
-inserts into tables that dotted keys make. Some are of new tables and elements, each with keys of its own. A fifth of the lines that
-are changed have a comment. Values are set and keys renamed again, values are set that were inserted, and edits of entries come back
-to a value, which goes on in the row. Among the edits are some that end it: one that is refused, any other of a path that was there
-before, one that is in another's, one that adds a line at the place of a line of another table.
+inserts into tables that dotted keys make. Some are of lines that come to one byte in an order that jumps, some of new tables and
+elements, each with keys of its own. A fifth of the lines that are changed have a comment. Values are set and keys renamed again,
+values are set that were inserted, and edits of entries come back to a value, which goes on in the row. Among the edits are some that
+end it: one that is refused, any other of a path that was there before, one that is in another's, one that adds a line at the place of
+a line of another table.
 """
 import sys
 from pathlib import Path
@@ -47,7 +48,7 @@ class Run:
         self.text = document_of(self.random, lambda it: not self.ran([b"check"], it).returncode)
         self.entries = [tuple(it.rsplit(b"\t", 1)) for it in self.ran([b"list"], self.text).stdout.split(b"\n")[:-1]]
         kinds = (self.inserts, self.items, self.removes, self.sections, self.sets, self.renames, self.tables, self.elements)
-        kinds += (self.gone_elements, self.gone_below, self.dotted, self.brought, self.filled)
+        kinds += (self.gone_elements, self.gone_below, self.dotted, self.brought, self.in_any_order, self.filled)
         kinds += (self.parts,) + 3 * (self.all_kinds,)
         self.edits = (getattr(self, kind) if kind else self.random.choice(kinds))()
 
@@ -172,6 +173,27 @@ class Run:
                     edits.append(edit_of(b"table", table + b"_%d" % number))
                     continue
             edits.append(self.insert_or_set(given, later, table, number, several))
+        return edits
+
+    def in_any_order(self):
+        """New keys of a few tables of dotted keys, of those that hold them, and of the last tables of the text, which headers define
+        or none, in an order that jumps: so most lines come to the byte of others that have to come behind them. In two thirds of
+        the lists headers are appended between, now and then below one of these tables."""
+        random, nests, paths = self.random, self.with_dotted(), self.with_implicit()
+        if not nests or not paths:
+            return self.inserts()
+        last = [path for table in paths[-4:] for path in (table, table + b".sub") if random.random() < 0.7]
+        tables = [b"", b"dot", b"dots[0]", *(path for nest in nests for path in nest), *last]
+        tables = random.sample(tables, random.randint(2, len(tables)))
+        several, headers, given, edits = random.choice((0, 0.2)), random.choice((0, 0.1, 0.3)), [], []
+        for number in range(self.many):
+            table = random.choice(tables)
+            if random.random() < headers:
+                below = b"" if random.random() < 0.95 or b"[" in table else table + b"."
+                op, name = random.choice(((b"table", b"h_%d" % number), (b"element", b"hs_%d" % (number % 5))))
+                edits.append(edit_of(op, below.lstrip(b".") + name))
+            else:
+                edits.append(self.insert_or_set(given, 0, table, number, several))
         return edits
 
     def items(self):
