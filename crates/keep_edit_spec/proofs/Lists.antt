@@ -232,3 +232,13 @@ pub mod NextElement
 pub mod TableOpened
 pub mod ElementOpened
 pub mod FilledRunLaws
+pub mod SwappedEnds
+pub mod EndTexts
+pub mod EndEdits
+pub mod EndHeaders
+pub mod EndElements
+pub mod EndJoined
+pub mod KeysThrough
+pub mod BroughtOverEnds
+pub mod EndOwnLines
+pub mod EndBelow

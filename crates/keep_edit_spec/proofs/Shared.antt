@@ -127,3 +127,10 @@ pub use Rattle.keep_edit_spec.proofs.Remove.RemoveSectionPlace.{none_some}
 pub use Rattle.keep_edit_spec.proofs.Lists.ElementRunLaws.{element_run_goes_on, element_run_goes_on_by_entry}
 pub use Rattle.keep_edit_spec.proofs.Lists.ElementRunLaws.{element_run_goes_on_without, run_is_element_run}
 pub use Rattle.keep_edit_spec.proofs.Lists.BehindCounts.{counts_behind}
+pub use Rattle.keep_edit_spec.proofs.Lists.BehindHeaders.{follows_now, made_now}
+pub use Rattle.keep_edit_spec.proofs.Lists.EndBelow.{end_goes_on_below}
+pub use Rattle.keep_edit_spec.proofs.Lists.EndEdits.{end_comes_after_entry, end_comes_later}
+pub use Rattle.keep_edit_spec.proofs.Lists.EndElements.{end_comes_after_element}
+pub use Rattle.keep_edit_spec.proofs.Lists.EndHeaders.{end_goes_on}
+pub use Rattle.keep_edit_spec.proofs.Lists.EndJoined.{document_joined, ends_joined, ends_split, fine_after, plain_after}
+pub use Rattle.keep_edit_spec.proofs.Lists.EndTexts.{IsLonger, end_editable, end_text, with_ends}

@@ -36,5 +36,6 @@ pub mod DottedLines
 pub mod BroughtHeaders
 pub mod InsertKinds
 pub mod ElementRuns
+pub mod EndEdits
 pub mod FilledTables
 pub mod HeadersBelow

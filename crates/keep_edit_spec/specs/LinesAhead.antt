@@ -46,15 +46,15 @@ StillAddsAheadOfEnd =
     → AddsAs OfDotted profile limit (edited_document s (insert path value)) other more d
     × IsSeenStill s (edited_document s (insert path value)) (insert other more)
 
--- So does any insert that adds a line at the end of the text, after a header was appended there that passes by its
--- path, and by the table of a header that it brings.
+-- So does any insert that adds a line, after a header was appended that passes by its path, and by the table of a
+-- header that it brings. The line may come at the end of the text, where the header comes.
 abbrev pub StillAddsAheadOfTable : Type 0
 StillAddsAheadOfTable =
     (profile : Profile) (limit : ℕ) (s : Document) (keys : List (List ℕ)) (c : TextChange)
     (kind : LineKind) (other : List Part) (more : Value) (d : TextChange)
     → IsEditable profile limit s → AppendsTable profile limit s keys c
     → AddsAs kind profile limit s other more d
-    → PassesBy keys (first_new s other) → LetsTable (added_as s other d) (append_table keys) → c.at ≡ d.at
+    → PassesBy keys (first_new s other) → LetsTable (added_as s other d) (append_table keys)
     → AddsAs kind profile limit (edited_document s (append_table keys)) other more d
     × IsSeenStill s (edited_document s (append_table keys)) (insert other more)
 
@@ -64,7 +64,7 @@ StillAddsAheadOfElement =
     (kind : LineKind) (other : List Part) (more : Value) (d : TextChange)
     → IsEditable profile limit s → AppendsElement profile limit s keys c
     → AddsAs kind profile limit s other more d
-    → PassesBy keys (first_new s other) → LetsTable (added_as s other d) (append_element keys) → c.at ≡ d.at
+    → PassesBy keys (first_new s other) → LetsTable (added_as s other d) (append_element keys)
     → AddsAs kind profile limit (edited_document s (append_element keys)) other more d
     × IsSeenStill s (edited_document s (append_element keys)) (insert other more)
 
@@ -118,10 +118,15 @@ pub record ComesAhead (s : Document) (ms : List MadeEdit) (kind : LineKind) (lin
   pub clear : list_any (takes_up_to c.at) (changes_of ms) ≡ false
   pub alike : All (λ e. IsTrue (is_insert e)) (seen_of s ms) ⊎ (ArePlain (text s) (changes_of ms) × IsPlain c.new)
 
--- Such an insert after these edits: it is not refused, and makes the document that they make if it comes before those
--- that come behind its line. Its change is right before as many of those at its byte, the last ones.
+-- Such an insert after these edits: it adds its line there still, with the same bytes, and is seen as before. It is not
+-- refused, and makes the document that they make if it comes before those that come behind its line. Its change is
+-- right before as many of those at its byte, the last ones.
 pub record IsRunAhead (profile : Profile) (limit : ℕ) (s : Document) (ms : List MadeEdit) (path : List Part)
     (value : Value) (kind : LineKind) (c : TextChange) : Type 0 where
+  pub there : TextChange
+  pub new_is : there.new ≡ c.new
+  pub makes : AddsAs kind profile limit (document_after s ms) path value there
+  pub seen_still : IsSeenStill s (document_after s ms) (insert path value)
   pub allowed : refusal profile limit (document_after s ms) (insert path value) ≡ None
   pub same : edited_document (document_after s ms) (insert path value)
       ≡ document_after s (with_ahead s kind ms (made (insert path value) c))

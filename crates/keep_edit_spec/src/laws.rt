@@ -6,6 +6,7 @@ ghost use Rattle.keep_edit_spec.specs.AppendedStatements as headers;
 ghost use Rattle.keep_edit_spec.specs.BroughtHeaders as brought;
 ghost use Rattle.keep_edit_spec.specs.DottedLines as dotted;
 ghost use Rattle.keep_edit_spec.specs.ElementRuns as elements;
+ghost use Rattle.keep_edit_spec.specs.EndEdits as ends;
 ghost use Rattle.keep_edit_spec.specs.EntryChanges as parts;
 ghost use Rattle.keep_edit_spec.specs.EntryEdits as entries;
 ghost use Rattle.keep_edit_spec.specs.FilledTables as filled;
@@ -193,6 +194,17 @@ pub fn headers_come_below()
     ensures table { below.StillBringsBelowTable }
     ensures element { below.StillBringsBelowElement }
     ensures ahead { below.StillBringsAhead }
+{}
+
+/// Edits that write at the end of the text come after any other that they leave alone, whichever was made first: each
+/// makes the change that it makes without the other, and both make one document. A header goes on with them; and so
+/// does an insert into a table through which one of them goes, right behind that.
+pub fn ends_come_later()
+    ensures later { ends.EndComesLater }
+    ensures entry { ends.EndComesAfterEntry }
+    ensures element { ends.EndComesAfterElement }
+    ensures header { ends.EndGoesOn }
+    ensures below { ends.EndGoesOnBelow }
 {}
 
 /// So is a run of inserts that each add the next item of one array.

@@ -8,7 +8,7 @@
 -- each comes by as many bytes further on as the line has (`further_on`). So both texts are the same, and a text is
 -- that of one document (`same_made`).
 --
--- Theorem: `documents_ahead`.
+-- Theorems: `documents_ahead`; `adds_bytes`: new lines have bytes.
 use Rattle.std.proofs.Common.{◌≡◌, ◌≢◌, ◌<◌, ◌≤◌, ◌+◌, ℕ, true, false, List, [], ◌∷◌, ◌++◌, All, None, length, refl}
 use Rattle.std.proofs.Common.{sym, ap, subst, subst₂, ◌∙◌, arith, inl, inr, length-append, ◌&&◌}
 use Rattle.std.specs.Prelude.{Any, ◌==◌}
@@ -102,7 +102,7 @@ module _ (profile : Profile) (limit : ℕ) (s : Document) (fine : IsEditable pro
         length-append (newline_of s).text (content_text content ++ (newline_of s).text),
       )
 
-  adds_bytes : (kind : LineKind) (path : List Part) (value : Value) (c : TextChange)
+  pub adds_bytes : (kind : LineKind) (path : List Part) (value : Value) (c : TextChange)
       → AddsAs kind profile limit s path value c → 0 < length c.new
   adds_bytes LastInBody path value c h =
       subst (λ (t : List ℕ). 0 < length t)
@@ -525,12 +525,12 @@ module _ (profile : Profile) (limit : ℕ) (s : Document) (fine : IsEditable pro
             by (append_table keys) is its (inl (makes, placed)) alone apart =
                 let (is_now, seen_now) = others_run.later (append_table keys) b.change makes alone h.1.1.0 placed in
                 of_table profile limit others keys here kind path value there others_run.editable is_now ih.makes
-                (passes keys apart) (passes_table b [] behind lets h g ih keys its) same_place
+                (passes keys apart) (passes_table b [] behind lets h g ih keys its)
             by (append_table keys) is its (inr (follows, keeps)) alone apart = absurd follows
             by (append_element keys) is its (inl (makes, placed)) alone apart =
                 let (is_now, seen_now) = others_run.later (append_element keys) b.change makes alone h.1.1.0 placed in
                 of_element profile limit others keys here kind path value there others_run.editable is_now ih.makes
-                (passes keys apart) (passes_table b [] behind lets h g ih keys its) same_place
+                (passes keys apart) (passes_table b [] behind lets h g ih keys its)
             by (append_element keys) is its (inr (follows, keeps)) alone apart = absurd follows
             by (set other new) is its makes alone apart = absurd cc
             by (rename other name) is its makes alone apart = absurd cc
@@ -592,6 +592,16 @@ module _ (profile : Profile) (limit : ℕ) (s : Document) (fine : IsEditable pro
                 (made_now profile limit s d (bs ++ rest) fine h.1.1.1).0,
           )))
 
+-- The insert after edits that come behind its line: it adds the line where it does after those before them, and makes
+-- the document that all make with it before them.
+pub record IsMadeAhead (profile : Profile) (limit : ℕ) (s : Document) (path : List Part) (value : Value)
+    (kind : LineKind) (c : TextChange) (bs rest : List MadeEdit) : Type 0 where
+  pub allowed : refusal profile limit (document_after s (bs ++ rest)) (insert path value) ≡ None
+  pub makes : AddsAs kind profile limit (document_after s (bs ++ rest)) path value (moved_past (changes_of rest) c)
+  pub seen : IsSeenStill s (document_after s (bs ++ rest)) (insert path value)
+  pub same : edited_document (document_after s (bs ++ rest)) (insert path value)
+      ≡ document_after s (bs ++ made (insert path value) c ∷ rest)
+
 pub documents_ahead : (profile : Profile) (limit : ℕ) (s : Document) (path : List Part) (value : Value)
     (kind : LineKind) (c : TextChange) (bs rest : List MadeEdit)
     → StillAddsAheadOfEnd → StillAddsAheadOfTable → StillAddsAheadOfElement → PutAheadOf
@@ -599,15 +609,16 @@ pub documents_ahead : (profile : Profile) (limit : ℕ) (s : Document) (path : L
     → All (λ b. comes_behind s kind c.at b ≡ true) bs → All (λ m. comes_behind s kind c.at m ≡ false) rest
     → All (LetsTable (added_as s path c)) (seen_of s (bs ++ rest))
     → AreAtOnce profile limit s (bs ++ rest) → AreAtOnce profile limit s (bs ++ made (insert path value) c ∷ rest)
-    → (refusal profile limit (document_after s (bs ++ rest)) (insert path value) ≡ None)
-    × (edited_document (document_after s (bs ++ rest)) (insert path value)
-    ≡ document_after s (bs ++ made (insert path value) c ∷ rest))
+    → IsMadeAhead profile limit s path value kind c bs rest
 documents_ahead profile limit s path value kind c bs rest of_end of_table of_element put_ahead_of fine adds all before
     lets h g =
     let there : IsAhead profile limit s fine path value kind c adds rest bs =
     ahead_of_all profile limit s fine path value kind c adds rest of_end of_table of_element put_ahead_of before bs all
-    lets h g in (
-      change_allowed profile limit (document_after s (bs ++ rest)) (insert path value) (moved_past (changes_of rest) c)
-          (kind, there.makes),
-      there.same,
-    )
+    lets h g in
+    record {
+      allowed = change_allowed profile limit (document_after s (bs ++ rest)) (insert path value)
+          (moved_past (changes_of rest) c) (kind, there.makes);
+      makes = there.makes;
+      seen = there.seen;
+      same = there.same;
+    }

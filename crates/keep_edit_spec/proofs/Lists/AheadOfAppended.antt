@@ -1,9 +1,9 @@
--- An insert that adds a line at the end of the text adds the same one at the same byte after a header was appended
--- there, if the header's keys lead neither to the first new key nor to the table of a header that the line brings.
+-- An insert that adds a line, maybe at the end of the text, adds the same one at the same byte after a header was
+-- appended, if the header's keys lead neither to the first new key nor to the table of a header that the line brings.
 --
 -- The header comes behind all lines of the document, so each begins where it did; the line of the insert comes before
--- the header's lines, where these begin. The holder is the same, the insert is not refused, and its line comes after
--- the same one as before: that holds at any byte which some change leaves where it is (InsertAfterHeader,
+-- the header's lines, maybe where these begin. The holder is the same, the insert is not refused, and its line comes
+-- after the same one as before: that holds at any byte which some change leaves where it is (InsertAfterHeader,
 -- DottedAfterHeader, BroughtAfterHeader), and one right behind the byte does (`unmoved`). The first newline is the
 -- same, too, since the text has one (HeaderLines).
 --
@@ -82,14 +82,14 @@ module _ (profile : Profile) (limit : ℕ) (s : Document) (keys : List (List ℕ
 -- ---- of a table, and of an element
 
 pub adds_ahead_of_table : StillAddsAheadOfTable
-adds_ahead_of_table profile limit s keys c kind other more d fine h k clear lets at =
+adds_ahead_of_table profile limit s keys c kind other more d fine h k clear lets =
     let one : Content = header [] (key_with keys) [] in
     let come : HeaderComes s keys c one = table_comes profile limit s keys c fine h in
     after_header (AddsThere kind profile limit s other more d) s one keys c come
     (adds_now profile limit s keys c one other more d fine come refl h.closed clear kind k lets)
 
 pub adds_ahead_of_element : StillAddsAheadOfElement
-adds_ahead_of_element profile limit s keys c kind other more d fine h k clear lets at =
+adds_ahead_of_element profile limit s keys c kind other more d fine h k clear lets =
     let one : Content = element [] (key_with keys) [] in
     let come : HeaderComes s keys c one = element_comes profile limit s keys c fine h in
     after_header (AddsThere kind profile limit s other more d) s one keys c come

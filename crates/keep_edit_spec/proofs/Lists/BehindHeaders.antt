@@ -8,8 +8,9 @@
 -- edits), and with it they are a run (`run_with_line`): what comes at that byte later can't be a line of a table that
 -- dotted keys make, since one comes there that has a header by the first document.
 --
--- Theorems: `run_behind`: the run, in which such inserts add their lines; `made_now`: each edit makes its change after
--- those before it; `run_goes_on_behind`; `not_both`: an insert that makes its change follows no header.
+-- Theorems: `run_behind`: the run, in which such inserts add their lines; `follows_now`: so does one more; `made_now`:
+-- each edit makes its change after those before it; `run_goes_on_behind`; `not_both`: an insert that makes its change
+-- follows no header.
 use Rattle.std.proofs.Common.{◌≡◌, ◌≢◌, ◌⊎◌, ◌+◌, ℕ, zero, suc, List, [], ◌∷◌, ◌++◌, length, All, refl, sym, ap, ap₂}
 use Rattle.std.proofs.Common.{subst, ◌∙◌, arith, inl, inr, false}
 use Rattle.std.specs.Prelude.{Any, IsTrue}
@@ -512,6 +513,17 @@ run_goes_on_behind profile limit s ms path value c fine h follows alone beside k
     let before = run_behind profile limit s ms fine h in
     longer profile limit s (seen_of s ms) (changes_of ms) (lines_of s ms) (document_after s ms) before.run before.lets
     path value c follows alone beside keeps
+
+-- such an insert adds its line at the end of the body of its table, whose header is there after the edits
+pub follows_now : (profile : Profile) (limit : ℕ) (s : Document) (ms : List MadeEdit) (path : List Part)
+    (value : Value) (c : TextChange)
+    → IsEditable profile limit s → AreAtOnce profile limit s ms
+    → FollowsHeader profile limit s (lines_of s ms) path value c
+    → All (λ e. LeavesAlone e (seen s (insert path value))) (seen_of s ms)
+    → All (λ d. IsBeside d c) (changes_of ms) → KeepsBehind s (seen_of s ms) (changes_of ms) c
+    → AddsLineStill profile limit s (document_after s ms) path value (moved_past (changes_of ms) c)
+follows_now profile limit s ms path value c fine h follows alone beside keeps =
+    (run_behind profile limit s ms fine h).lets path value c follows alone beside keeps
 
 -- after those before it each edit makes its change, as others see it
 pub made_now : (profile : Profile) (limit : ℕ) (s : Document) (m : MadeEdit) (ms : List MadeEdit)

@@ -5,7 +5,7 @@
 -- line at that byte can't come after a line behind which it should have come (`not_after`), nor one of any kind after a
 -- header that is appended there (`no_line_there`). What takes bytes is beside the line, so it takes none from there on.
 --
--- Theorems: `at_byte`, `left_back`, `ends_elsewhere`, `elsewhere`.
+-- Theorems: `table_back`, `element_back`, `insert_back`, `at_byte`, `left_back`, `ends_elsewhere`, `elsewhere`.
 use Rattle.std.proofs.Common.{◌≡◌, ◌≢◌, ◌⊎◌, ℕ, Bool, true, false, ◌&&◌, List, ◌∷◌, length, All, refl, sym, subst, ◌∙◌}
 use Rattle.std.proofs.Common.{arith, inl, inr}
 use Rattle.std.specs.Prelude.{IsTrue, ◌==◌}
@@ -63,7 +63,8 @@ not_after a l m later other same after = by (kinds_apart a l.kind m.kind later o
     by (inr (is, head)) = subst (λ (b : LineKind). IsAfterAs b l m) is after same head
 
 -- What appends a header is left alone by what it leaves alone.
-table_back : (keys : List (List ℕ)) (f : Edit) → LeavesAlone (append_table keys) f → LeavesAlone f (append_table keys)
+pub table_back : (keys : List (List ℕ)) (f : Edit) → LeavesAlone (append_table keys) f
+    → LeavesAlone f (append_table keys)
 table_back keys (insert other more) h = h
 table_back keys (remove other) h = h
 table_back keys (set other more) h = h
@@ -71,7 +72,7 @@ table_back keys (rename other name) h = h
 table_back keys (append_table more) h = λ same. h (sym same)
 table_back keys (append_element more) h = (h.1, h.0)
 
-element_back : (keys : List (List ℕ)) (f : Edit) → LeavesAlone (append_element keys) f
+pub element_back : (keys : List (List ℕ)) (f : Edit) → LeavesAlone (append_element keys) f
     → LeavesAlone f (append_element keys)
 element_back keys (insert other more) h = h
 element_back keys (remove other) h = h
@@ -82,7 +83,7 @@ element_back keys (append_element more) (inl same) = inl (sym same)
 element_back keys (append_element more) (inr apart) = inr (apart.1, apart.0)
 
 -- So is an insert.
-insert_back : (path : List Part) (value : Value) (f : Edit) → LeavesAlone (insert path value) f
+pub insert_back : (path : List Part) (value : Value) (f : Edit) → LeavesAlone (insert path value) f
     → LeavesAlone f (insert path value)
 insert_back path value (insert other more) h = λ same. h (sym same)
 insert_back path value (remove other) h = (h.1, h.0)

@@ -8,7 +8,8 @@
 -- removed then as in HeaderRunLaws: where the edits are elsewhere, they are elsewhere than the path that it had before,
 -- too (ElsewherePaths).
 --
--- Theorems: `run_is_element_run`, `element_run_goes_on`, `element_run_goes_on_without`, `element_run_goes_on_by_entry`.
+-- Theorems: `run_is_element_run`, `element_run_goes_on`, `element_run_goes_on_without`, `element_run_goes_on_by_entry`;
+-- `header_puts`.
 use Rattle.std.proofs.Common.{◌≡◌, ℕ, List, [], ◌∷◌, ◌++◌, refl, sym, ap, subst, arith, All, Some, inl}
 use Rattle.std.proofs.lemmas.List.Elements.{All-head, All-pop, All-tail}
 use Rattle.keep_types.specs.declared.leaf.Profile.{Profile}
@@ -135,7 +136,7 @@ run_is_element_run profile limit s ms fine h =
 -- ---- one element less
 
 -- a remove of a header, as an edit of the text
-header_puts : (profile : Profile) (limit : ℕ) (s : Document) (path : List Part) (c : TextChange)
+pub header_puts : (profile : Profile) (limit : ℕ) (s : Document) (path : List Part) (c : TextChange)
     → IsEditable profile limit s → RemovesHeader profile limit s path c → PutsChange profile limit s (remove path) c
 header_puts profile limit s path c fine h = record {
   within = header_within profile limit s path c h;

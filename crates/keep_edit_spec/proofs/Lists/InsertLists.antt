@@ -428,12 +428,18 @@ run_goes_on_inserted profile limit s ms path value more kind before c d after fi
     (subst (λ (l : List MadeEdit). IsPlain d.new ⊎ All (λ e. IsTrue (is_insert e)) (seen_of s l)) found.all plain)
     ours in
     let there_set = set_there profile limit s path own c more d kind fine its makes found.later found.earlier ours in
+    let put_there : TextChange =
+    there profile limit s path own c more d kind fine its makes (moved_by_all there_set.among.before c.at) in
     record {
       value = own;
       others = others;
       exchanged = record { later = found.later; earlier = found.earlier; all = found.all; other = refl };
       changes = found.changes;
       at = same;
+      there = put_there;
+      new_is = refl;
+      sets = subst (λ (l : List MadeEdit). SetsValue profile limit (document_after s l) path more put_there)
+          (sym found.all) there_set.sets;
       allowed = subst (λ (l : List MadeEdit). refusal profile limit (document_after s l) (set path more) ≡ None)
           (sym found.all) there_set.sets.allowed;
       same = ap (λ (l : List MadeEdit). edited_document (document_after s l) (set path more)) found.all

@@ -6,7 +6,7 @@
 -- them after all, and makes the same document (AheadDocuments); its change goes right before theirs (AheadChanges).
 --
 -- Theorem: `run_goes_on_ahead`.
-use Rattle.std.proofs.Common.{◌≡◌, ◌≢◌, ◌<◌, ℕ, Bool, true, false, not, List, [], ◌∷◌, ◌++◌, length, All, None, sym}
+use Rattle.std.proofs.Common.{◌≡◌, ◌<◌, ℕ, Bool, true, false, not, List, [], ◌∷◌, ◌++◌, length, All, None, sym}
 use Rattle.std.proofs.Common.{ap, refl, subst, ◌∙◌}
 use Rattle.std.proofs.lemmas.List.Elements.{All-cons, All-head, All-nil, All-tail, All-weaker, filter_passes}
 use Rattle.keep_types.specs.declared.leaf.Profile.{Profile}
@@ -19,11 +19,11 @@ use Rattle.keep_edit_spec.specs.Laws.{IsEditable}
 use Rattle.keep_edit_spec.specs.LinesAhead.{ComesAhead, RunGoesOnAhead, before, behind, comes_behind, with_ahead}
 use Rattle.keep_edit_spec.specs.Refusals.{refusal}
 use Rattle.keep_edit_spec.specs.RunLists.{AreAtOnce, MadeEdit, changes_of, document_after, lines_of, made, seen_of}
-use Rattle.keep_edit_spec.specs.Runs.{IsRun, LeavesAlone, LetsTable, seen}
-use Rattle.keep_edit_spec.specs.TextChanges.{Follow, IsBeside, TextChange, text_with}
+use Rattle.keep_edit_spec.specs.Runs.{IsRun, IsSeenStill, LeavesAlone, LetsTable, seen}
+use Rattle.keep_edit_spec.specs.TextChanges.{Follow, IsBeside, TextChange, moved_past, text_with}
 use Rattle.keep_edit_spec.specs.declared.line_kind.LineKind.{LineKind}
 use Rattle.keep_edit_spec.proofs.Lists.AheadChanges.{low_before, put_ahead_of, put_before_all}
-use Rattle.keep_edit_spec.proofs.Lists.AheadDocuments.{documents_ahead}
+use Rattle.keep_edit_spec.proofs.Lists.AheadDocuments.{IsMadeAhead, documents_ahead}
 use Rattle.keep_edit_spec.proofs.Lists.AheadOfAppended.{adds_ahead_of_element, adds_ahead_of_table}
 use Rattle.keep_edit_spec.proofs.Lists.AheadOfEnd.{adds_ahead_of_end}
 use Rattle.keep_edit_spec.proofs.Lists.BehindLine.{at_byte}
@@ -85,8 +85,7 @@ module _ (profile : Profile) (limit : ℕ) (s : Document) (ms : List MadeEdit) (
       by_seen s L sorted
       (all_sorted (comes_behind s kind c.at) (λ m. L (seen s m.edit)) ms (of_seen s L ms ahead.lets))
 
-  documents : (refusal profile limit (document_after s sorted) e ≡ None)
-      × (edited_document (document_after s sorted) e ≡ document_after s (with_ahead s kind ms (made e c)))
+  documents : IsMadeAhead profile limit s path value kind c bs rest
   documents =
       documents_ahead profile limit s path value kind c bs rest adds_ahead_of_end adds_ahead_of_table
       adds_ahead_of_element put_ahead_of fine adds all_behind none_behind lets sorted_at_once.0 still
@@ -114,12 +113,21 @@ module _ (profile : Profile) (limit : ℕ) (s : Document) (ms : List MadeEdit) (
 
 pub run_goes_on_ahead : RunGoesOnAhead
 run_goes_on_ahead profile limit s ms path value kind c fine all adds alone beside ahead = record {
+  there = moved_past (changes_of (before s kind c.at ms)) c;
+  new_is = refl;
+  makes = subst (λ (t : Document). AddsAs kind profile limit t path value
+      (moved_past (changes_of (before s kind c.at ms)) c))
+      (sym (same_gathered profile limit s ms path value kind c fine all adds alone beside ahead))
+      (documents profile limit s ms path value kind c fine all adds alone beside ahead).makes;
+  seen_still = subst (λ (t : Document). IsSeenStill s t (insert path value))
+      (sym (same_gathered profile limit s ms path value kind c fine all adds alone beside ahead))
+      (documents profile limit s ms path value kind c fine all adds alone beside ahead).seen;
   allowed = subst (λ (t : Document). refusal profile limit t (insert path value) ≡ None)
       (sym (same_gathered profile limit s ms path value kind c fine all adds alone beside ahead))
-      (documents profile limit s ms path value kind c fine all adds alone beside ahead).0;
+      (documents profile limit s ms path value kind c fine all adds alone beside ahead).allowed;
   same = ap (λ (t : Document). edited_document t (insert path value))
       (same_gathered profile limit s ms path value kind c fine all adds alone beside ahead)
-      ∙ (documents profile limit s ms path value kind c fine all adds alone beside ahead).1;
+      ∙ (documents profile limit s ms path value kind c fine all adds alone beside ahead).same;
   still = still profile limit s ms path value kind c fine all adds alone beside ahead;
   put = goes_ahead profile limit s ms path value kind c fine all adds alone beside ahead;
 }

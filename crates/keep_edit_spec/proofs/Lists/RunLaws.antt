@@ -7,8 +7,8 @@
 -- (PlacesBefore).
 --
 -- Theorems: `none_is_run`, `run_goes_on`; `text_with_edit`, `later_still`: an edit that makes its change after a run,
--- and another after it; `text_with_change`, `later_placed`: where it is known to be placed; `seen_on`, `same_seen`: as
--- others see an edit; `lines_before`.
+-- and another after it; `text_with_change`, `later_placed`: where it is known to be placed; `seen_here`, `seen_on`,
+-- `same_seen`: as others see an edit; `lines_before`.
 use Rattle.std.proofs.Common.{◌≡◌, ℕ, List, [], ◌∷◌, refl, sym, ap, subst, subst₂, ◌∙◌, arith, All, take, drop}
 use Rattle.std.proofs.lemmas.List.Elements.{All-head, All-tail}
 use Rattle.keep_types.specs.declared.leaf.Profile.{Profile}
@@ -28,7 +28,7 @@ use Rattle.keep_edit_spec.proofs.Lists.PlacesKept.{IsPlacedChange, change_placed
 
 -- ---- as others see an edit
 
-seen_here : (s : Document) (e : Edit) → IsSeenStill s s e
+pub seen_here : (s : Document) (e : Edit) → IsSeenStill s s e
 seen_here s (insert path value) = (refl, refl)
 seen_here s (set path value) = tt
 seen_here s (rename path name) = tt
