@@ -1,6 +1,5 @@
 //! Appending headers.
 ghost use Rattle.std.specs.Prelude.{◌≡◌, ◌+◌, ◌^◌, ◌<◌, ◌++◌, [], IfOk, OnOk, length, string_bytes};
-ghost use Rattle.keep_token.specs.Encoded.{encoded_key};
 ghost use Rattle.keep_syntax.specs.Tree as tree;
 ghost use Rattle.keep_edit_spec.specs.TextEnds as text_ends;
 ghost use Rattle.keep_edit_plan.specs.Headers.{edit_of, key_texts, keys_text, header_text, opening, closing};
@@ -13,8 +12,11 @@ use crate::plan::{IndexChange, Plan};
 use crate::text_edit::TextEdit;
 use keep_edit_spec::EditFault;
 use keep_syntax::Span;
-use keep_token::encode_key;
+use keep_token::push_key;
 use std::alloc::{AllocError, Global};
+
+/// Room for a header with its newlines, in bytes. Most headers need less, so that they are written into one allocation.
+pub(crate) const HEADER_ROOM: usize = 64;
 
 impl<'a> DocumentRef<'a> {
     /// The plan by which a header comes at the end of the text.
@@ -70,9 +72,9 @@ fn header_at_end(
         ≡ text_ends.header_at_end text.now newline.now (header_text header (key_texts keys.now))) }
     ensures counted { IfOk result (λ out. length text.now + length (string_bytes out) < 2 ^ 64) }
 {
-    let mut out = String::new(alloc);
+    let mut out = String::with_capacity(alloc, HEADER_ROOM)?;
     push_blank_line(&mut out, text, newline)?;
-    push_header(alloc, &mut out, keys, header)?;
+    push_header(&mut out, keys, header)?;
     out.push_str(newline)?;
     Ok(out)
 }
@@ -91,40 +93,27 @@ fn push_blank_line(out: &mut String, text: &str, newline: &str) -> Result<(), Al
 }
 
 /// Adds a header as it is written.
-fn push_header(
-    alloc: Global,
-    out: &mut String,
-    keys: &[String],
-    header: Header,
-) -> Result<(), AllocError>
+fn push_header(out: &mut String, keys: &[String], header: Header) -> Result<(), AllocError>
     ensures { OnOk result (string_bytes out.new ≡ string_bytes out.old ++ header_text header (key_texts keys.now)) }
 {
     out.push_str(header.opening())?;
-    push_keys(alloc, out, keys)?;
+    push_keys(out, keys)?;
     out.push_str(header.closing())
 }
 
 /// Adds keys with dots between them.
-fn push_keys(alloc: Global, out: &mut String, keys: &[String]) -> Result<(), AllocError>
+fn push_keys(out: &mut String, keys: &[String]) -> Result<(), AllocError>
     ensures { OnOk result (string_bytes out.new ≡ string_bytes out.old ++ keys_text (key_texts keys.now)) }
 {
     let Some((first, further)) = keys.split_first() else {
         return Ok(());
     };
-    push_key(alloc, out, first.as_str())?;
+    push_key(out, first.as_str())?;
     for name in further {
         out.push_str(".")?;
-        push_key(alloc, out, name.as_str())?;
+        push_key(out, name.as_str())?;
     }
     Ok(())
-}
-
-/// Adds a key as it is written.
-fn push_key(alloc: Global, out: &mut String, key: &str) -> Result<(), AllocError>
-    ensures { OnOk result (string_bytes out.new ≡ string_bytes out.old ++ encoded_key key.now) }
-{
-    let text = encode_key(alloc, key)?;
-    out.push_str(text.as_str())
 }
 
 /// Whether a text is empty but for a byte order mark.

@@ -1,5 +1,6 @@
 //! Inserting values.
-ghost use Rattle.std.specs.Prelude.{◌≡◌, suc, ◌++◌, ◌∷◌, [], ◌<◌, List, Some, Ok, IfOk, length, drop, string_bytes};
+ghost use Rattle.std.specs.Prelude.{◌≡◌, suc, ◌++◌, ◌∷◌, [], ◌<◌, List, Some, Ok, IfOk, IfSome, length, drop};
+ghost use Rattle.std.specs.Prelude.{string_bytes};
 ghost use Rattle.std.specs.List.{list_any};
 ghost use Rattle.keep_types.specs.declared.leaf.Profile.TheVariants.{Wide};
 ghost use Rattle.keep_syntax.specs.Contract.{values_of};
@@ -36,6 +37,10 @@ use keep_edit_spec::EditFault;
 use keep_rules::{Kind, NodeId, Origin, Path, Step, ValueText};
 use keep_syntax::{STANDARD_DEPTH, Span, Syntax};
 use std::alloc::{AllocError, Global};
+
+/// Room for what a line has beside its value, in bytes: its keys, ` = ` and newlines. Most lines need less, so that
+/// they are written into one allocation.
+pub(crate) const LINE_ROOM: usize = 32;
 
 /// Where a value is inserted.
 #[derive(Clone, Copy)]
@@ -81,12 +86,12 @@ impl<'a> DocumentRef<'a> {
     {
         // The invariant of a document is known to the proof from where a field of it is looked at.
         let _text = self.text;
-        let given = value.as_str();
+        let _given = value.as_str();
         let insertion = self.insertion(path, value)?;
-        let Ok(mut new) = String::with_capacity(alloc, given.len()) else {
+        let Some(mut new) = room_for(alloc, value, LINE_ROOM) else {
             return Err(EditFault::Memory);
         };
-        let Ok(at) = self.push_insertion(alloc, &mut new, path, insertion, value) else {
+        let Ok(at) = self.push_insertion(&mut new, path, insertion, value) else {
             return Err(EditFault::Memory);
         };
         let place = Span { start: at, end: at };
@@ -99,7 +104,6 @@ impl<'a> DocumentRef<'a> {
     /// Adds what is inserted, and returns the byte offset at which it is. The only error is out of memory.
     fn push_insertion(
         &self,
-        alloc: Global,
         out: &mut String,
         path: &Path,
         insertion: Insertion,
@@ -122,26 +126,26 @@ impl<'a> DocumentRef<'a> {
             }
             Spot::AfterEntry(entry) => {
                 out.push_str(", ")?;
-                push_keyed(alloc, out, path, from, value)?;
+                push_keyed(out, path, from, value)?;
                 Ok(self.syntax.value(entry).span.end)
             }
             Spot::InEmpty(brackets) => {
-                push_keyed(alloc, out, path, from, value)?;
+                push_keyed(out, path, from, value)?;
                 Ok(after_bracket(self.text, self.syntax.value(brackets).span.start))
             }
             Spot::AfterBody(header) => {
                 let at = self.body_end(header);
-                self.push_line(alloc, out, at, path, from, value)?;
+                self.push_line(out, at, path, from, value)?;
                 Ok(at)
             }
             Spot::AfterLine(keyval) => {
                 let at = self.keyval_end(keyval);
-                self.push_line(alloc, out, at, path, from, value)?;
+                self.push_line(out, at, path, from, value)?;
                 Ok(at)
             }
             Spot::NewSection(header) => {
                 let at = self.body_end(Some(header));
-                self.push_section(alloc, out, at, path, from, value)?;
+                self.push_section(out, at, path, from, value)?;
                 Ok(at)
             }
         }
@@ -272,6 +276,13 @@ impl<'a> DocumentRef<'a> {
             Origin::Tables => Err(EditFault::NotTable),
         }
     }
+}
+
+/// An empty text with room for a value and for so many bytes beside it. None where memory was refused.
+pub(crate) fn room_for(alloc: Global, value: &ValueText, beside: usize) -> Option<String>
+    ensures { IfSome result (λ out. string_bytes out ≡ []) }
+{
+    String::with_capacity(alloc, value.as_str().len().saturating_add(beside)).ok()
 }
 
 /// The byte offset after a bracket of the text.

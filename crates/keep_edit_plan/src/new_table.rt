@@ -15,6 +15,7 @@ ghost use Rattle.keep_edit_plan.specs.TextEdits.{change_of};
 use crate::append::ends_in_newline;
 use crate::document::DocumentRef;
 use crate::header::Header;
+use crate::insert::{LINE_ROOM, room_for};
 use crate::set::ends_in_key;
 use crate::text_edit::TextEdit;
 use keep_rules::{Index, NodeId, Origin, Path, Step, ValueText};
@@ -77,8 +78,8 @@ impl<'a> DocumentRef<'a> {
             return None;
         }
         let at = self.text.len();
-        let mut line = String::new(alloc);
-        self.push_line(alloc, &mut line, at, path, path.len() - 1, value)
+        let mut line = room_for(alloc, value, LINE_ROOM)?;
+        self.push_line(&mut line, at, path, path.len() - 1, value)
             .ok()?;
         Some(TextEdit {
             place: Span { start: at, end: at },

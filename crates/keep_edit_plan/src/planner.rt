@@ -11,7 +11,7 @@ ghost use Rattle.keep_edit_plan.specs.Reading.{IsAcceptedValue, IsTextOfTree, Is
 ghost use Rattle.keep_edit_plan.specs.TextEdits.{change_of};
 
 use crate::document::DocumentRef;
-use crate::insert::Spot;
+use crate::insert::{LINE_ROOM, Spot, room_for};
 use crate::text_edit::TextEdit;
 use keep_edit_spec::LineKind;
 use keep_rules::{Path, ValueText};
@@ -122,9 +122,9 @@ impl<'a> Planner<'a> {
         if self.document.is_open(at) || value.depth() > 0 && at == self.document.lines_start() {
             return None;
         }
-        let mut line = String::new(alloc);
+        let mut line = room_for(alloc, value, LINE_ROOM)?;
         self.document
-            .push_line(alloc, &mut line, at, path, insertion.from, value)
+            .push_line(&mut line, at, path, insertion.from, value)
             .ok()?;
         Some(TextEdit {
             place: Span { start: at, end: at },

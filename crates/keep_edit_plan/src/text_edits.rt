@@ -80,6 +80,24 @@ impl TextEdits {
         }
     }
 
+    /// Whether an edit overlaps none of these, so that it could be added.
+    pub fn leave(&self, edit: &TextEdit) -> bool
+        requires { IsOrdered edit.now }
+        ensures { IsTrue result → All (λ c. IsBeside c (change_of edit.now)) self.now }
+    {
+        let start = edit.place.start;
+        let after = self
+            .edits
+            .partition_point(|begun| begun.place.start <= start);
+        if after > 0 && self.edits[after - 1].place.end > start {
+            return false;
+        }
+        if after < self.edits.len() && self.edits[after].place.start < edit.place.end {
+            return false;
+        }
+        true
+    }
+
     /// Puts an edit that takes nothing before the last of those that begin where it does, so many. Returns whether it
     /// did: not where no or fewer edits begin there, or where the last one takes bytes.
     ///

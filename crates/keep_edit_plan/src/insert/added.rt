@@ -7,12 +7,15 @@ ghost use Rattle.keep_edit_plan.specs.Answers.{IsSpanOf};
 ghost use Rattle.keep_edit_plan.specs.TextEdits.{change_of};
 ghost use Rattle.keep_edit_plan.specs.Reading.{IsAcceptedValue, IsTextOfTree, IsTextOfValue, limit};
 
-use super::{Spot, after_bracket};
+use super::{Spot, after_bracket, room_for};
 use crate::document::DocumentRef;
 use crate::text_edit::TextEdit;
 use keep_rules::{Path, ValueText};
 use keep_syntax::Span;
 use std::alloc::Global;
+
+/// Room for the comma and the space before an item, in bytes.
+const COMMA_ROOM: usize = 2;
 
 impl<'a> DocumentRef<'a> {
     /// What an insert of a value adds to the text, if the path is that of the next item of an array, after all others.
@@ -47,7 +50,7 @@ impl<'a> DocumentRef<'a> {
             ),
             _ => return None,
         };
-        let mut added = String::new(alloc);
+        let mut added = room_for(alloc, value, COMMA_ROOM)?;
         if before > 0 || !is_first {
             added.push_str(", ").ok()?;
         }

@@ -7,7 +7,8 @@ ghost use Rattle.keep_edit_plan.specs.Answers.{IsSpanOf};
 ghost use Rattle.keep_edit_plan.specs.Reading.{IsAcceptedValue, IsTextOfTree, IsTextOfValue, limit};
 ghost use Rattle.keep_edit_plan.specs.TextEdits.{change_of};
 
-use super::Spot;
+use super::{Spot, room_for};
+use crate::append::HEADER_ROOM;
 use crate::document::DocumentRef;
 use crate::text_edit::TextEdit;
 use keep_rules::{Path, ValueText};
@@ -36,8 +37,8 @@ impl<'a> DocumentRef<'a> {
         if self.is_open(at) {
             return None;
         }
-        let mut section = String::new(alloc);
-        self.push_section(alloc, &mut section, at, path, insertion.from, value)
+        let mut section = room_for(alloc, value, HEADER_ROOM)?;
+        self.push_section(&mut section, at, path, insertion.from, value)
             .ok()?;
         Some(TextEdit {
             place: Span { start: at, end: at },

@@ -7,7 +7,7 @@ ghost use Rattle.keep_edit_plan.specs.Answers.{IsSpanOf};
 ghost use Rattle.keep_edit_plan.specs.Reading.{IsAcceptedValue, IsTextOfTree, IsTextOfValue, limit};
 ghost use Rattle.keep_edit_plan.specs.TextEdits.{change_of};
 
-use super::Spot;
+use super::{LINE_ROOM, Spot, room_for};
 use crate::document::DocumentRef;
 use crate::text_edit::TextEdit;
 use keep_rules::{Path, ValueText};
@@ -35,8 +35,8 @@ impl<'a> DocumentRef<'a> {
         if self.is_open(at) {
             return None;
         }
-        let mut line = String::new(alloc);
-        self.push_line(alloc, &mut line, at, path, insertion.from, value)
+        let mut line = room_for(alloc, value, LINE_ROOM)?;
+        self.push_line(&mut line, at, path, insertion.from, value)
             .ok()?;
         Some(TextEdit {
             place: Span { start: at, end: at },

@@ -9,13 +9,12 @@ ghost use Rattle.keep_edit_plan.specs.Reading.{IsTextOfValue};
 ghost use Rattle.keep_edit_plan.specs.Writing.{keys_between, keys_text, AddsStep};
 
 use keep_rules::{Path, Step, ValueText};
-use keep_token::encode_key;
-use std::alloc::{AllocError, Global};
+use keep_token::push_key;
+use std::alloc::AllocError;
 
 /// Adds the keys among the steps of a path from number `from` on and before number `to`, with dots between them: each
 /// bare if it can be, else as a basic string. Indexes are left out. The only error is out of memory.
 pub(crate) fn push_keys(
-    alloc: Global,
     out: &mut String,
     path: &Path,
     from: usize,
@@ -29,13 +28,13 @@ pub(crate) fn push_keys(
         let Some(step) = path.step(number) else {
             return Ok(());
         };
-        dot = push_step(alloc, out, dot, step)?;
+        dot = push_step(out, dot, step)?;
     }
     Ok(())
 }
 
 /// Adds a step if it is a key, after a dot if it is a further one. Returns whether the next key is a further one.
-fn push_step(alloc: Global, out: &mut String, dot: bool, step: &Step) -> Result<bool, AllocError>
+fn push_step(out: &mut String, dot: bool, step: &Step) -> Result<bool, AllocError>
     ensures { IfOk result (λ further. AddsStep dot further (part_of step.now) (string_bytes out.old)
         (string_bytes out.new)) }
 {
@@ -44,8 +43,7 @@ fn push_step(alloc: Global, out: &mut String, dot: bool, step: &Step) -> Result<
             if dot {
                 out.push_str(".")?;
             }
-            let key = encode_key(alloc, text.as_str())?;
-            out.push_str(key.as_str())?;
+            push_key(out, text.as_str())?;
             Ok(true)
         }
         Step::Index(_) => Ok(dot),
@@ -55,7 +53,6 @@ fn push_step(alloc: Global, out: &mut String, dot: bool, step: &Step) -> Result<
 /// Adds `KEYS = VALUE`, with the steps of a path from number `from` on as keys, or the value alone if there are none.
 /// The only error is out of memory.
 pub(crate) fn push_keyed(
-    alloc: Global,
     out: &mut String,
     path: &Path,
     from: usize,
@@ -67,7 +64,7 @@ pub(crate) fn push_keyed(
 {
     let to = path.len();
     if from < to {
-        push_keys(alloc, out, path, from, to)?;
+        push_keys(out, path, from, to)?;
         out.push_str(" = ")?;
     }
     out.push_str(value.as_str())?;

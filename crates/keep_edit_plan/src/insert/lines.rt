@@ -15,7 +15,7 @@ use crate::insert::keys::{push_keyed, push_keys};
 use crate::remove::{body_end, section_end};
 use keep_rules::{Path, ValueText};
 use keep_syntax::Owner;
-use std::alloc::{AllocError, Global};
+use std::alloc::AllocError;
 
 impl<'a> DocumentRef<'a> {
     /// Where the body ends, as a byte offset, of the header with this statement number, or of the root: at the end of
@@ -46,7 +46,6 @@ impl<'a> DocumentRef<'a> {
     /// line has none. The steps of the path from number `from` on are the keys. The only error is out of memory.
     pub(crate) fn push_line(
         &self,
-        alloc: Global,
         out: &mut String,
         at: usize,
         path: &Path,
@@ -62,7 +61,7 @@ impl<'a> DocumentRef<'a> {
     {
         let newline = self.newline();
         self.push_missing(out, at, newline)?;
-        push_keyed(alloc, out, path, from, value)?;
+        push_keyed(out, path, from, value)?;
         out.push_str(newline)?;
         Ok(())
     }
@@ -72,7 +71,6 @@ impl<'a> DocumentRef<'a> {
     /// those after it the keyval's. The only error is out of memory.
     pub(crate) fn push_section(
         &self,
-        alloc: Global,
         out: &mut String,
         at: usize,
         path: &Path,
@@ -91,10 +89,10 @@ impl<'a> DocumentRef<'a> {
         self.push_missing(out, at, newline)?;
         out.push_str(newline)?;
         out.push_str("[")?;
-        push_keys(alloc, out, path, 0, from)?;
+        push_keys(out, path, 0, from)?;
         out.push_str("]")?;
         out.push_str(newline)?;
-        push_keyed(alloc, out, path, from, value)?;
+        push_keyed(out, path, from, value)?;
         out.push_str(newline)?;
         Ok(())
     }

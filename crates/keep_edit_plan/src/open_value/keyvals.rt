@@ -9,8 +9,11 @@ use super::keys::are_other_keys;
 use super::putting::{can_be_nested, place_in, with_item_at, with_place_of};
 use super::{EntryPlace, OpenValue};
 use keep_rules::{Kind, ValueText};
-use keep_token::encode_key;
+use keep_token::push_key;
 use std::alloc::Global;
+
+/// Room for what a keyval has beside its key and its value, in bytes: ` = `, and the quotation marks of a key.
+const KEYVAL_ROOM: usize = 5;
 
 impl OpenValue {
     /// The value with a keyval more, after the last. None if the value is no inline table, if a key there begins with
@@ -70,7 +73,9 @@ fn is_new_key(
 fn keyval_text(alloc: Global, name: &str, value: &str) -> Option<String>
     ensures { IfSome result (λ text. string_bytes text ≡ keyval_text name.now value.now) }
 {
-    let mut text = encode_key(alloc, name).ok()?;
+    let room = name.len().saturating_add(value.len());
+    let mut text = String::with_capacity(alloc, room.saturating_add(KEYVAL_ROOM)).ok()?;
+    push_key(&mut text, name).ok()?;
     text.push_str(" = ").ok()?;
     text.push_str(value).ok()?;
     Some(text)

@@ -11,7 +11,7 @@ loop-name-init c = sym (append-nil (string_bytes c.push_key.new.out))
 pub loop-name-preserved : goal.loop-name-preserved
 loop-name-preserved c =
     let before = string_bytes c.push_key.new.out ++ keys_so_far c.in-Some.further.now c.loop-name.name-index in
-    c.in_ok-push_key-2.ensures
+    c.in_ok-push_key-2.ensures.pushed
     ∙ ap (λ t. t ++ encoded_key c.as_str-in-loop-name.result.now)
     (c.in_ok-push_str.ensures.bytes ∙ ap (λ t. t ++ codes ".") c.loop-name.invariant)
     ∙ ap (λ k. (before ++ codes ".") ++ encoded_key k) c.as_str-in-loop-name.ensures.value
@@ -22,7 +22,7 @@ pub returns : goal.returns
 returns c =
     c.loop-name.invariant
     ∙ ap (λ t. t ++ keys_so_far c.in-Some.further.now c.loop-name.name-index)
-    (c.in_ok-push_key.ensures ∙ ap (λ k. string_bytes c.args.out.now ++ encoded_key k) c.as_str.ensures.value)
+    (c.in_ok-push_key.ensures.pushed ∙ ap (λ k. string_bytes c.args.out.now ++ encoded_key k) c.as_str.ensures.value)
     ∙ append_assoc (string_bytes c.args.out.now) (encoded_key (string_bytes c.in-Some.first.now))
     (keys_so_far c.in-Some.further.now c.loop-name.name-index)
     ∙ ap (λ t. string_bytes c.args.out.now ++ t)

@@ -62,7 +62,7 @@ returns-clause-added c = λ s read v value.
     sym c.if-is_open.false ∙ c.is_open.ensures s read in
     dotted_is_added _ _ _ c.args.path.now s v c.args.value.now c.in_ok-insertion.insertion h read value there
     c.insertion.ensures.utf8 c.in-AfterLine.keyval c.in-AfterLine.is c.keyval_end-at.result _
-    (string_bytes c.push_line.new.out) (c.keyval_end-at.ensures s read) c.new-line.ensures.bytes
+    (string_bytes c.push_line.new.out) (c.keyval_end-at.ensures s read) c.in_ok-line.ensures
     (done _ c.push_line.result _ c.in_ok-ok.ensures.value (c.push_line.ensures s read v value)) closed
 
 pub returns-clause-within : goal.returns-clause-within

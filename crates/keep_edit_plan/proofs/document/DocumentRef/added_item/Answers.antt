@@ -62,7 +62,7 @@ returns-clause-added c = λ s read v value.
           inl (
             ap string_bytes w.added-is
                 ∙ pushed w.push_str.result _ _ _ _ w.in_ok-ok.ensures.value w.push_str.ensures.bytes
-                ∙ ap (λ t. t ++ codes ", ") c.new-added.ensures.bytes,
+                ∙ ap (λ t. t ++ codes ", ") c.in_ok-added.ensures,
             elim w.then-before-gt0.branch [
               | then-before-gt0-via-then-before-gt0 w' ↦ inl w'.if-before-gt0.true
               | then-before-gt0-via-else-before-gt0+then-not-is_first w' ↦ inr w'.if-not-is_first.true
@@ -70,7 +70,7 @@ returns-clause-added c = λ s read v value.
           )
       | else-before-gt0+else-not-is_first w ↦
           inr (
-            ap string_bytes w.added-is ∙ c.new-added.ensures.bytes,
+            ap string_bytes w.added-is ∙ c.in_ok-added.ensures,
             (omega (arith, w.if-before-gt0.false), w.if-not-is_first.false),
           )
     ] in

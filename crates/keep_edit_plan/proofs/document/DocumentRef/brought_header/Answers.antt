@@ -75,7 +75,7 @@ returns-clause-added c = λ s read v value.
     sym c.if-is_open.false ∙ c.is_open.ensures s read in
     header_is_brought _ _ _ c.args.path.now s v c.args.value.now c.in_ok-insertion.insertion h read value there
     c.insertion.ensures.utf8 c.in-NewSection.header c.in-NewSection.is c.body_end-at.result _
-    (string_bytes c.push_section.new.out) (c.body_end-at.ensures s read) c.new-section.ensures.bytes
+    (string_bytes c.push_section.new.out) (c.body_end-at.ensures s read) c.in_ok-section.ensures
     (done _ c.push_section.result _ c.in_ok-ok.ensures.value (c.push_section.ensures s read v value)) closed
 
 pub returns-clause-within : goal.returns-clause-within

@@ -26,9 +26,9 @@ returns-clause-planned c = λ s read v value.
     let h = seen c.self.view_is c.self.invariant in
     let at =
     inserted_at _ _ _ c.args.path.now s v c.args.value.now _ h read value
-    (c.in_ok-insertion.ensures.insertion s read v value) c.insertion.ensures.utf8 c.in-Ok-push_insertion.at _ _
-    c.in-Ok.ensures.bytes
-    (c.in-Ok-push_insertion.ensures s read v value (c.in_ok-insertion.ensures.insertion s read v value)) in
+    (c.in_ok-insertion.ensures.insertion s read v value) c.insertion.ensures.utf8 c.in-Ok.at _ _
+    c.in-Some.ensures
+    (c.in-Ok.ensures s read v value (c.in_ok-insertion.ensures.insertion s read v value)) in
     planned c.args.self.now s (insert c.args.path.now v) _ _
     read at (insert_law _ _ _ c.args.path.now s v c.args.value.now _ h read value
     (c.in_ok-insertion.ensures.insertion s read v value) c.insertion.ensures.utf8) c.insertion_change.result
@@ -41,9 +41,9 @@ returns-clause-of_edit c =
     let (v, value) = c.as_str-given.ensures.accepted in
     let at =
     inserted_at _ _ _ c.args.path.now h.tree v c.args.value.now _ h h.read value
-    (c.in_ok-insertion.ensures.insertion h.tree h.read v value) c.insertion.ensures.utf8 c.in-Ok-push_insertion.at _ _
-    c.in-Ok.ensures.bytes
-    (c.in-Ok-push_insertion.ensures h.tree h.read v value
+    (c.in_ok-insertion.ensures.insertion h.tree h.read v value) c.insertion.ensures.utf8 c.in-Ok.at _ _
+    c.in-Some.ensures
+    (c.in-Ok.ensures h.tree h.read v value
     (c.in_ok-insertion.ensures.insertion h.tree h.read v value)) in
     of_plan c.args.self.now h.tree (insert c.args.path.now v) _ _
     h.read at (insert_law _ _ _ c.args.path.now h.tree v c.args.value.now _ h h.read value

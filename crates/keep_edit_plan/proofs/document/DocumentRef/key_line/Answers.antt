@@ -20,5 +20,5 @@ returns-clause-line c = λ s read v value.
     (omega (arith, c.if-depth-gt-STANDARD_DEPTH.false))
     (ap ends_in_newline (sym (text_seen c.self.view_is)) ∙ sym c.ends_in_newline.ensures
     ∙ c.if-not-ends_in_newline.false)
-    (ap length (text_seen c.self.view_is)) (ap (λ n. n - 1) c.len.ensures.count) c.new-line.ensures.bytes
+    (ap length (text_seen c.self.view_is)) (ap (λ n. n - 1) c.len.ensures.count) c.in_ok-line.ensures
     (done _ c.push_line.result _ c.in_ok-ok.ensures.value (c.push_line.ensures s read v value))

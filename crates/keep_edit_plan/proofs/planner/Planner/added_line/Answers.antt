@@ -101,7 +101,7 @@ returns-clause-added c = λ s read v value.
     ] in
     line_is_added _ _ _ c.args.path.now s v c.args.value.now c.in_ok-insertion.insertion h read value there
     c.insertion.ensures.utf8 c.in-AfterBody.header c.in-AfterBody.is c.body_end-at.result _
-    (string_bytes c.push_line.new.out) (c.body_end-at.ensures.end s read) c.new-line.ensures.bytes
+    (string_bytes c.push_line.new.out) (c.body_end-at.ensures.end s read) c.in_ok-line.ensures
     (done _ c.push_line.result _ c.in_ok-ok.ensures.value (c.push_line.ensures s then_read v value)) closed later
 
 pub returns-clause-within : goal.returns-clause-within
