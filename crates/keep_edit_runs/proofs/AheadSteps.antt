@@ -5,7 +5,8 @@
 -- the document that it makes after all of them. So it is not refused, the edits up to it are made, and the text is that
 -- with its change right before as many of those at its byte as are counted.
 --
--- Theorems: `more_ahead`; `each_ahead`: what holds of each change holds with one more before others.
+-- Theorems: `more_ahead`; `each_ahead`: what holds of each change holds with one more before others; `made_there`: the
+-- insert makes such a change in the document after the edits.
 use Rattle.std.proofs.Common.{◌≡◌, ◌≢◌, ◌<◌, ◌+◌, ◌∷◌, ◌++◌, [], ℕ, suc, Bool, List, take, length, get_or, refl, sym}
 use Rattle.std.proofs.Common.{ap, subst, ◌∙◌, All, IsUtf8, inl, inr, None, Option, Some, eqb-true, false, true, zero}
 use Rattle.std.proofs.Common.{arith}
@@ -13,6 +14,7 @@ use Rattle.std.specs.Prelude.{◌⊎◌, ◌==◌, Any, IsTrue, if◌then◌else
 use Rattle.std.specs.List.{AllByRecursion, count_by, list_any}
 use Rattle.std.proofs.lemmas.List.Elements.{All-cons, All-head, All-nil, All-tail, All-weaker}
 use Rattle.std.proofs.lemmas.Str.{IsUtf8-string_bytes}
+use Rattle.keep_types.specs.declared.leaf.Profile.{Profile}
 use Rattle.keep_types.specs.declared.leaf.Profile.TheVariants.{Wide}
 use Rattle.keep_syntax.specs.Tree.{Document, Value, text}
 use Rattle.keep_path.specs.Path.{Part}
@@ -73,6 +75,22 @@ each_ahead P old new c put all its =
         All-cons P x (before ++ c ∷ put.behind ++ put.after)
         (All-head P x (before ++ put.behind ++ put.after) h)
         (by before (All-tail P x (before ++ put.behind ++ put.after) h))
+
+-- ---- in a later document
+
+-- The edit is an insert, and others see it so. In a later document it has the same first new key, and makes a change
+-- that writes the same, by a line of that kind.
+pub record IsInsertThere (profile : Profile) (before now : Document) (e a : law.Edit) (kind : LineKind) (new : List ℕ)
+    : Type 0 where
+  pub path : List Part
+  pub value : Value
+  pub is : e ≡ law.insert path value
+  pub seen_is : a ≡ law.insert (first_new before path) value
+  pub change : TextChange
+  pub new_is : change.new ≡ new
+  pub makes : MakesChange profile limit now (law.insert path value) change
+  pub first : first_new now path ≡ first_new before path
+  pub kind_is : kind_of now path ≡ kind
 
 -- ---- how many come behind
 
@@ -397,6 +415,21 @@ module _ (s : Document) (edits : List Edit) (n : ℕ) (old now : ProfiledText) (
     changes_are = sym new_is;
     tree_is = tree_of_run now before ms new all_made.tree read r.still (sym new_is) all_made.read;
   }
+
+  -- in the document after the edits it adds its line still
+  pub made_there : IsInsertThere now.profile before h.made.tree e a it.kept.kind c.new
+  made_there =
+      subst (λ (u : Document). IsInsertThere now.profile before u e a it.kept.kind c.new) h.tree_is (record {
+        path = path;
+        value = value;
+        is = insert_is.is;
+        seen_is = insert_is.seen_is;
+        change = r.there;
+        new_is = r.new_is;
+        makes = (kept.kind, r.makes);
+        first = r.seen_still.0;
+        kind_is = r.seen_still.1 ∙ insert_is.kind_of_it;
+      })
 
 -- ---- as the code goes
 

@@ -5,7 +5,7 @@
 -- (`with_array`), and elsewhere than in an array that is one of these (`element_here`).
 --
 -- Theorems: `array_is`: the array of an element; `pushed`, `with_array`, `own_array`, `array_still`: one array more;
--- `element_here`: the element that a remove takes, whose array is kept.
+-- `removed_path`: the path of a remove; `element_here`: the element that it takes, whose array is kept.
 use Rattle.std.proofs.Common.{◌≡◌, ◌<◌, ℕ, Bool, true, false, List, [], ◌∷◌, ◌++◌, Option, Some, sym, ap, subst, cond}
 use Rattle.std.proofs.Common.{◌∙◌, arith, length, refl}
 use Rattle.std.specs.Prelude.{All, IfSome}
@@ -67,7 +67,7 @@ of_array : (P : List Part → Type 0) (arrays : List (List Part)) (array : List 
 of_array P arrays array all (k, other, lt, read, is) = subst P is (subst P read (all k other lt))
 
 -- what the edit removes is at its path
-removed_path : (x : Edit) (path other : List Part) → x ≡ Remove path → IsEdit x (law.remove other) → path ≡ other
+pub removed_path : (x : Edit) (path other : List Part) → x ≡ Remove path → IsEdit x (law.remove other) → path ≡ other
 removed_path x path other is given = sym (ap path_of (subst (λ (y : Edit). IsEdit y (law.remove other)) is given))
 
 pub element_here : (now : ProfiledText) (old new : GoneBetween) (gone : List (List Part)) (outlines : List Outline)

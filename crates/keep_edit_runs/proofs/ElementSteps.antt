@@ -5,12 +5,12 @@
 -- more edit that is elsewhere than in their arrays is not refused after those before it, nor is the remove of one more
 -- element, and its change is put in where they move it. So the edits up to it are made.
 --
--- Theorems: `none_gone`: where none is gone; `more_among`, `placed_too`: with one edit more; `less_among`: with one
--- element less;
+-- Theorems: `left_alone`, `is_elsewhere`, `keeps_place`: how one edit more comes among those of a run;
+-- `none_gone`: where none is gone; `more_among`, `placed_too`: with one edit more; `less_among`: with one element less;
 -- `among_made`, `among_within`: so all are made.
 use Rattle.std.proofs.Common.{◌≡◌, ◌≢◌, ◌<◌, ◌∷◌, ◌++◌, [], ℕ, suc, List, length, take, get_or, refl, sym, ap, subst}
 use Rattle.std.proofs.Common.{subst₂, ◌∙◌, arith, All, IsUtf8, inl, inr}
-use Rattle.std.specs.Prelude.{◌⊎◌, None, Option, Some, false, true}
+use Rattle.std.specs.Prelude.{◌⊎◌, None, Option, Some, true}
 use Rattle.std.specs.List.{count_by}
 use Rattle.std.proofs.lemmas.List.Elements.{All-cons, All-nil, All-push, All-weaker}
 use Rattle.std.proofs.lemmas.Str.{IsUtf8-string_bytes}
@@ -138,35 +138,34 @@ module _ (profile : Profile) (s : Document) (es : List law.Edit) (changes : List
   goes_on_by placed (inl (is, h, of)) = longer_by_itself is h of (placed is of)
   goes_on_by placed (inr (holder, value, is, h)) = longer_by_set holder value is h
 
+-- One edit more comes so among those of a run: they leave it alone, it is elsewhere than all that is gone, and placed.
 module _ (s : Document) (edits : List Edit) (n : ℕ) (old now : ProfiledText) (before : Document)
-    (outlines : List Outline) (changes : List TextChange) (adds next_adds : AddedLines)
-    (arrays gone : List (List Part)) (read : IsTextOfTree now before)
-    (h : IsElementRunTo s edits n old now before outlines changes adds arrays gone) (d x : Edit) (lt : n < length edits)
-    (here : get_or edits n d ≡ x) (o : Outline) (e a : law.Edit) (given : IsEdit x e) (plain_is : plain a ≡ outlined o)
-    (c : TextChange) (line : Option LineKind) (makes : MakesInRun now.profile before e a c line)
-    (others_alone : All (λ y. LeavesAlone y o) outlines) (away : All (λ array. IsElsewhere array (outlined o)) arrays)
-    (beside : All (λ b. IsBeside b c) changes) (placed : IsPlacedAmong now.text changes o c.at)
-    (kept : IsLineKept adds changes o c.at line next_adds)
-    (ends : (kind : LineKind) → line ≡ Some kind → (c.at ≢ length now.text) ⊎ (adds.appended ≡ 0))
-    (utf8 : All (λ b. IsUtf8 b.new) (with_change changes c))
-    (within : All (IsChangeIn now.text) (with_change changes c)) where
-  abbrev t : Document
-  t = h.made.tree
-
-  others : All (λ f. runs.LeavesAlone f a) h.es
-  others =
+    (outlines : List Outline) (changes : List TextChange) (adds : AddedLines) (arrays gone : List (List Part))
+    (read : IsTextOfTree now before)
+    (h : IsElementRunTo s edits n old now before outlines changes adds arrays gone) (o : Outline) (a : law.Edit)
+    (plain_is : plain a ≡ outlined o) where
+  pub left_alone : All (λ y. LeavesAlone y o) outlines → All (λ f. runs.LeavesAlone f a) h.es
+  left_alone alone =
       h.alone a
-      (subst (λ (g : law.Edit). All (λ y. runs.LeavesAlone (outlined y) g) outlines) (sym plain_is) others_alone)
+      (subst (λ (g : law.Edit). All (λ y. runs.LeavesAlone (outlined y) g) outlines) (sym plain_is) alone)
 
   -- it is elsewhere than all that is gone, as that is in the arrays
-  elsewhere : All (λ path. IsElsewhere (changed_path path) a) h.paths
-  elsewhere =
+  pub is_elsewhere : All (λ array. IsElsewhere array (outlined o)) arrays
+      → All (λ path. IsElsewhere (changed_path path) a) h.paths
+  is_elsewhere away =
       All-weaker (λ path. HasArray arrays (changed_path path)) (λ path. IsElsewhere (changed_path path) a)
       (λ path has. plain_elsewhere (changed_path path) a
       (subst (IsElsewhere (changed_path path)) (sym plain_is)
       (of_one (λ array. IsElsewhere array (outlined o)) arrays (changed_path path) away has)))
       h.paths h.of_arrays
 
+module _ (s : Document) (edits : List Edit) (n : ℕ) (old now : ProfiledText) (before : Document)
+    (outlines : List Outline) (changes : List TextChange) (adds next_adds : AddedLines)
+    (arrays gone : List (List Part)) (read : IsTextOfTree now before)
+    (h : IsElementRunTo s edits n old now before outlines changes adds arrays gone) (o : Outline) (e a : law.Edit)
+    (plain_is : plain a ≡ outlined o) (c : TextChange) (line : Option LineKind)
+    (placed : IsPlacedAmong now.text changes o c.at) (kept : IsLineKept adds changes o c.at line next_adds)
+    (ends : (kind : LineKind) → line ≡ Some kind → (c.at ≢ length now.text) ⊎ (adds.appended ≡ 0)) where
   in_order : (p : List Part) (v : Value) → a ≡ runs.seen before (law.insert p v) → line ≡ Some (kind_of before p)
       → IsInOrder h.es changes h.lines (added_as before p c)
   in_order = order before h.es changes h.lines adds next_adds o a plain_is c line kept h.headers_known h.known
@@ -180,8 +179,8 @@ module _ (s : Document) (edits : List Edit) (n : ℕ) (old now : ProfiledText) (
   abbrev Comes : List ℕ → Type 0
   Comes bytes = ArePlain bytes changes × (All (LetsCome bytes changes c.at) changes × IsBeforeHeaders bytes h.es c.at)
 
-  keeps : a ≡ runs.seen before e → IsOfKind before e line → KeepsPlaceAmong before h.es changes h.lines e c
-  keeps is of =
+  pub keeps_place : a ≡ runs.seen before e → IsOfKind before e line → KeepsPlaceAmong before h.es changes h.lines e c
+  keeps_place is of =
       by e is of (ap runs.is_insert (sym plain_is) ∙ plain_insert a) (ap runs.is_header (sym plain_is) ∙ plain_header a)
     where
       comes : (kind : LineKind) → line ≡ Some kind → runs.is_insert (outlined o) ≡ true → Comes (text before)
@@ -207,6 +206,32 @@ module _ (s : Document) (edits : List Edit) (n : ℕ) (old now : ProfiledText) (
           (pass (law.append_table ks) same, headed (header ∙ ap runs.is_header same))
       by (law.append_element ks) same of insert header =
           (pass (law.append_element ks) same, headed (header ∙ ap runs.is_header same))
+
+module _ (s : Document) (edits : List Edit) (n : ℕ) (old now : ProfiledText) (before : Document)
+    (outlines : List Outline) (changes : List TextChange) (adds next_adds : AddedLines)
+    (arrays gone : List (List Part)) (read : IsTextOfTree now before)
+    (h : IsElementRunTo s edits n old now before outlines changes adds arrays gone) (d x : Edit) (lt : n < length edits)
+    (here : get_or edits n d ≡ x) (o : Outline) (e a : law.Edit) (given : IsEdit x e) (plain_is : plain a ≡ outlined o)
+    (c : TextChange) (line : Option LineKind) (makes : MakesInRun now.profile before e a c line)
+    (others_alone : All (λ y. LeavesAlone y o) outlines) (away : All (λ array. IsElsewhere array (outlined o)) arrays)
+    (beside : All (λ b. IsBeside b c) changes) (placed : IsPlacedAmong now.text changes o c.at)
+    (kept : IsLineKept adds changes o c.at line next_adds)
+    (ends : (kind : LineKind) → line ≡ Some kind → (c.at ≢ length now.text) ⊎ (adds.appended ≡ 0))
+    (utf8 : All (λ b. IsUtf8 b.new) (with_change changes c))
+    (within : All (IsChangeIn now.text) (with_change changes c)) where
+  abbrev t : Document
+  t = h.made.tree
+
+  others : All (λ f. runs.LeavesAlone f a) h.es
+  others = left_alone s edits n old now before outlines changes adds arrays gone read h o a plain_is others_alone
+
+  elsewhere : All (λ path. IsElsewhere (changed_path path) a) h.paths
+  elsewhere = is_elsewhere s edits n old now before outlines changes adds arrays gone read h o a plain_is away
+
+  keeps : a ≡ runs.seen before e → IsOfKind before e line → KeepsPlaceAmong before h.es changes h.lines e c
+  keeps =
+      keeps_place s edits n old now before outlines changes adds next_adds arrays gone read h o e a plain_is c line
+      placed kept ends
 
   longer : IsLongerAmong now.profile before h.es changes h.lines h.paths t e a c line
   longer =

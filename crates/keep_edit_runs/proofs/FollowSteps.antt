@@ -4,10 +4,10 @@
 -- By the law of such lines the insert is not refused after the edits, and its line is put in where they move it. So the
 -- edits up to it are made. The table is that of the header, as others see the insert by its first new key.
 --
--- Theorem: `more_following`.
-use Rattle.std.proofs.Common.{◌≡◌, ◌≢◌, ◌<◌, ◌∷◌, ◌++◌, [], ℕ, suc, List, take, length, get_or, refl, sym}
+-- Theorems: `more_following`; `made_there`: the insert adds its line in the document after the edits.
+use Rattle.std.proofs.Common.{◌≡◌, ◌<◌, ◌∷◌, ◌++◌, [], ℕ, suc, List, take, length, get_or, refl, sym}
 use Rattle.std.proofs.Common.{ap, subst, ◌∙◌, All, IsUtf8, inl, inr, None, Option, Some, false, map, true}
-use Rattle.std.proofs.Common.{arith}
+use Rattle.std.proofs.Common.{arith, string_bytes}
 use Rattle.std.specs.Prelude.{◌⊎◌, ◌==◌, ◌&&◌, ◌+◌, Any, Bool, IsTrue}
 use Rattle.std.specs.List.{list_any}
 use Rattle.std.proofs.lemmas.List.Elements.{All-cons, All-weaker}
@@ -31,9 +31,10 @@ use Rattle.keep_edit_spec.specs.RunLists.{AreAtOnce, FollowsHeader, IsSetIn, Kee
 use Rattle.keep_edit_spec.specs.RunLists.{document_after, lines_of, made, seen_of}
 use Rattle.keep_edit_spec.specs.Runs as runs
 use Rattle.keep_edit_spec.specs.Runs.{ArePlain, IsBeforeHeaders, IsRun, IsRunLonger, LetsCome, takes_up_to}
-use Rattle.keep_edit_spec.specs.TextChanges.{IsBeside, TextChange, with_change}
+use Rattle.keep_edit_spec.specs.TextChanges.{IsBeside, TextChange, moved_past, with_change}
 use Rattle.keep_edit_spec.specs.declared.line_kind.LineKind.{LineKind}
-use Rattle.keep_edit_spec.proofs.Shared.{all_with, insert_lawful, kind_is, run_goes_on_behind, without_last-snoc}
+use Rattle.keep_edit_spec.proofs.Shared.{all_with, follows_now, insert_lawful, kind_is, run_goes_on_behind}
+use Rattle.keep_edit_spec.proofs.Shared.{without_last-snoc}
 use Rattle.keep_edit_plan.proofs.Shared.{change_in, editable}
 use Rattle.keep_edit_plan.specs.Reading.{IsTextOfTree, IsTextOfValue, ProfiledText, limit}
 use Rattle.keep_edit_plan.specs.TextEdits.{IsChangeIn, change_of}
@@ -48,6 +49,7 @@ use Rattle.keep_edit_runs.specs.Runs.{MakesInRun, MakesInRunHere, changed_text, 
 use Rattle.keep_edit_runs.specs.SeenHeaders.{HasTableOf}
 use Rattle.keep_edit_runs.specs.declared.added_lines.AddedLines.{AddedLines}
 use Rattle.keep_edit_runs.specs.declared.outline.Outline.{Outline}
+use Rattle.keep_edit_runs.proofs.AheadSteps.{IsInsertThere}
 use Rattle.keep_edit_runs.proofs.LineLaws.{with_header}
 use Rattle.keep_edit_runs.proofs.RunSteps.{AreMadeTo, IsPlaced, any_later, before_headers, change_made, counted_more}
 use Rattle.keep_edit_runs.proofs.RunSteps.{one_if, one_or_more, parts, plain_allows, plain_alone, plain_header}
@@ -372,6 +374,26 @@ module _ (s : Document) (edits : List Edit) (n : ℕ) (old now : ProfiledText) (
           by (law.remove p) is = tt
           by (law.set p v) is = tt
           by (law.rename p name) is = tt
+
+  -- in the document after the edits the table is there, and the insert adds its line to it
+  pub made_there : IsInsertThere now.profile before h.made.tree e a LastInBody (string_bytes it.line.new)
+  made_there =
+      let (adds, first) =
+      follows_now now.profile limit before h.ms path value t (editable now before read) h.at_once follows others
+      beside_all keeps in
+      let there : TextChange = moved_past (changes_of h.ms) t in
+      subst (λ (u : Document). IsInsertThere now.profile before u e a LastInBody (string_bytes it.line.new)) h.tree_is
+      (record {
+        path = path;
+        value = value;
+        is = insert_is.is;
+        seen_is = insert_is.seen_is;
+        change = there;
+        new_is = refl;
+        makes = (LastInBody, adds);
+        first = first;
+        kind_is = kind_is LastInBody now.profile limit (document_after before h.ms) path value there adds;
+      })
 
 -- ---- as the code goes
 

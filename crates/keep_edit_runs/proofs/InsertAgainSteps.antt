@@ -6,7 +6,8 @@
 -- made, and the text is that with its change in the place of the insert's. What is asked of an insert does not hang on
 -- its value, so the outlines stay.
 --
--- Theorems: `each_instead`: what holds of each change holds with one where another was; `line_here`, `inserted_again`.
+-- Theorems: `each_instead`: what holds of each change holds with one where another was; `line_here`, `inserted_again`;
+-- `done_there`: the set is not refused after the edits.
 use Rattle.std.proofs.Common.{◌≡◌, ◌<◌, ◌∷◌, ◌++◌, [], ℕ, suc, List, take, length, get_or, string_bytes, refl, sym}
 use Rattle.std.proofs.Common.{ap, subst, ◌∙◌, All, IsUtf8, inl, inr, None, false, true}
 use Rattle.std.specs.Prelude.{◌⊎◌, Any, IsTrue}
@@ -47,7 +48,7 @@ use Rattle.keep_edit_runs.specs.declared.added_lines.AddedLines.{AddedLines}
 use Rattle.keep_edit_runs.specs.declared.outline.Outline.{Outline}
 use Rattle.keep_edit_runs.proofs.MadeMore.{more_made}
 use Rattle.keep_edit_runs.proofs.RunSteps.{AreMadeTo, run_so_far, text_utf8, tree_of_run}
-use Rattle.keep_edit_runs.proofs.SetAgainSteps.{all_but, counted_too, headers_apart, headers_in}
+use Rattle.keep_edit_runs.proofs.SetAgainSteps.{IsDoneThere, all_but, counted_too, headers_apart, headers_in}
 
 -- ---- the edits in the list
 
@@ -244,6 +245,9 @@ module _ (s : Document) (edits : List Edit) (n : ℕ) (old now : ProfiledText) (
     changes_are = sym new_is;
     tree_is = tree_of_run now before ms new all_made.tree read r.still (sym new_is) all_made.read;
   }
+
+  pub done_there : IsDoneThere now.profile h.made.tree x
+  done_there = (e, (again.is, (allowed, lawful)))
 
 -- ---- as the code goes
 

@@ -31,3 +31,13 @@ mod ElementSteps
 mod KindsRunSteps
 mod ValueAfterLaws
 mod OpenedLaws
+mod TailRuns
+mod EndPlaces
+mod LiftsPlain
+mod LiftsOthers
+mod BlockLaws
+mod TailEnds
+mod TailBelow
+mod TailLaws
+mod TailSteps
+mod SameRuns

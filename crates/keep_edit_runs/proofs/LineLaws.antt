@@ -129,6 +129,11 @@ headers_stay old new more (law.remove p) h = tt
 headers_stay old new more (law.set p v) h = tt
 headers_stay old new more (law.rename p name) h = tt
 
+-- and the tables whose headers come with a line
+tables_still : (old new : AddedLines) → HasMore old.headers new.headers → (table : List Part)
+    → HasTableOf old.headers table → HasTableOf new.headers table
+tables_still old new more table (first, has) = (first, more.brought table has)
+
 -- an edit that appends none
 no_header : (e : law.Edit) → runs.is_header e ≡ false → (l : Added) → IsNoSecondOf l e
 no_header (law.append_table ks) none l = absurd cc
@@ -187,6 +192,7 @@ end_kept old changes x first at new is k = record {
   brought = brought_then old new k.more.same x at (Some LastInBody);
   follower = k.more.same.follower;
   counts = end_counted old at new k.more x first is;
+  tables = tables_still old new (headers_same old new k.more.same);
   passes = λ l known. no_header (outlined x) (ap runs.is_header is) l;
   header = unheaded new (outlined x) (ap runs.is_header is);
 }
@@ -258,6 +264,7 @@ table_kept old changes x first table at new is table_is clear k = record {
   brought = brought_then old new k.alone.same x at (Some OfDotted);
   follower = k.alone.same.follower;
   counts = table_counted old at table new k.alone x first is;
+  tables = tables_still old new (headers_same old new k.alone.same);
   passes = λ l known. no_header (outlined x) (ap runs.is_header is) l;
   header = unheaded new (outlined x) (ap runs.is_header is);
 }
@@ -330,6 +337,7 @@ header_kept old changes x first table at new is table_is clear k = record {
   brought = brought_more old at table new k x first is;
   follower = k.follower;
   counts = header_counted_more old at table new k x first is;
+  tables = tables_still old new k.brought.more;
   passes = λ l known. no_header (outlined x) (ap runs.is_header is) l;
   header = unheaded new (outlined x) (ap runs.is_header is);
 }
@@ -361,6 +369,7 @@ end_ahead old changes x first at is_at_end new is passed clear k = record {
   brought = brought_then old new k.same x at (Some LastInBody);
   follower = k.same.follower;
   counts = end_counted old at new k x first is;
+  tables = tables_still old new (headers_same old new k.same);
 }
   where
     by : (l : Added) (kind : LineKind) → l.kind ≡ kind → AfterOrBefore LastInBody first at l
@@ -390,6 +399,7 @@ table_ahead old changes x first table at is_at_end new is table_is passed clear 
   brought = brought_then old new k.same x at (Some OfDotted);
   follower = k.same.follower;
   counts = table_counted old at table new k x first is;
+  tables = tables_still old new (headers_same old new k.same);
 }
   where
     by : (l : Added) (kind : LineKind) → l.kind ≡ kind → IsKnownAs kind old l → AfterOrBefore OfDotted first at l
@@ -421,6 +431,7 @@ header_ahead old changes x first table at is_at_end new is table_is passed clear
   brought = brought_more old at table new k x first is;
   follower = k.follower;
   counts = header_counted_more old at table new k x first is;
+  tables = tables_still old new k.brought.more;
 }
 
 -- ---- no line
@@ -436,6 +447,7 @@ none_kept added changes x at line none headless = record {
   brought = λ n table is. inl is;
   follower = refl;
   counts = none_counted added x at line none headless;
+  tables = λ table has. has;
   passes = λ l known. no_header (outlined x) headless l;
   header = unheaded added (outlined x) headless;
 }
@@ -455,6 +467,7 @@ appended_kept old changes x at line keys new appends k = record {
   follower = ap (λ (a : AddedLines). a.has_follower) k.rest;
   counts = header_counted old x at line new (λ first is. no_insert appends is) (is_one appends) ends_are
       (ap (λ (a : AddedLines). a.headed) k.rest) k.one;
+  tables = tables_still old new k.appends.more;
   passes = λ l known. by l appends (λ headed. header_differs old.headers keys (table_of l)
       (with_header old l known headed).1.1 k.appends.other);
   header = by_header appends;

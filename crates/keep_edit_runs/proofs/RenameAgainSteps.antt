@@ -8,9 +8,9 @@
 -- place of the earlier one. The outline of the rename that stands for it comes after the others, of which none is gone:
 -- so what all of them leave alone is left alone by the edits that are there.
 --
--- Theorem: `renamed_again`.
+-- Theorems: `renamed_again`; `done_there`: the edit is not refused after the edits.
 use Rattle.std.proofs.Common.{◌≡◌, ◌<◌, ◌∷◌, ◌++◌, [], ℕ, suc, List, length, take, get_or, refl, sym}
-use Rattle.std.proofs.Common.{ap, subst, ◌∙◌, All, IsUtf8, inl, inr, false, true}
+use Rattle.std.proofs.Common.{ap, subst, ◌∙◌, All, IsUtf8, inl, inr, true}
 use Rattle.std.specs.Prelude.{Any, IsTrue}
 use Rattle.std.proofs.lemmas.List.Elements.{All-cons}
 use Rattle.std.proofs.lemmas.Str.{IsUtf8-string_bytes}
@@ -46,8 +46,8 @@ use Rattle.keep_edit_runs.specs.declared.outline.Outline.{Outline}
 use Rattle.keep_edit_runs.proofs.MadeMore.{more_made}
 use Rattle.keep_edit_runs.proofs.RunSteps.{AreMadeTo, one_or_more, parts, plain_alone, run_so_far, text_utf8}
 use Rattle.keep_edit_runs.proofs.RunSteps.{made_of_others, tree_of_run}
+use Rattle.keep_edit_runs.proofs.SetAgainSteps.{IsDoneThere, set_by_one}
 use Rattle.keep_edit_runs.proofs.SetAgainSteps.{counted_too, each_replaced, headers_apart, headers_in, rename_by_one}
-use Rattle.keep_edit_runs.proofs.SetAgainSteps.{set_by_one}
 
 module _ (s : Document) (edits : List Edit) (n : ℕ) (old now : ProfiledText) (before : Document)
     (outlines : List Outline) (changes new : List TextChange) (adds : AddedLines) (read : IsTextOfTree now before)
@@ -229,6 +229,9 @@ module _ (s : Document) (edits : List Edit) (n : ℕ) (old now : ProfiledText) (
     changes_are = sym new_is;
     tree_is = tree_of_run now before ms new all_made.tree read r.still (sym new_is) all_made.read;
   }
+
+  pub done_there : IsDoneThere now.profile h.made.tree x
+  done_there = (f, (is_edit, (renames.allowed, lawful)))
 
 -- ---- as the code goes
 

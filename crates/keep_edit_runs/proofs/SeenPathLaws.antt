@@ -12,7 +12,7 @@
 -- is elsewhere than in an array; `key_allowed`, `allowed_as`: a new key that all of those allow; `arrays_still`:
 -- arrays that are known still.
 use Rattle.std.proofs.Common.{◌≡◌, ◌≢◌, ◌+◌, ◌-◌, ◌<◌, ◌==◌, ◌∷◌, ◌++◌, ◌∙◌, [], ℕ, Bor, FoldHasher, Global, List}
-use Rattle.std.proofs.Common.{None, Option, Some, String, ap, arith, false, fold, inl, inr, length, map, refl}
+use Rattle.std.proofs.Common.{None, Option, Some, String, ap, arith, fold, inl, inr, length, map, refl}
 use Rattle.std.proofs.Common.{All, slice_get, string_bytes, subst, sym, take, true}
 use Rattle.std.specs.Hash.FoldHasher.{finish, initial, write}
 use Rattle.std.specs.HashSet.{Updates}
@@ -22,7 +22,6 @@ use Rattle.std.proofs.lemmas.List.Elements.{All-weaker}
 use Rattle.std.proofs.lemmas.Option.{slice_get_within}
 use Rattle.keep_path.specs.Path.{Part, beside, index, key, without_last}
 use Rattle.keep_edit_spec.specs.Look.{keys_in}
-use Rattle.keep_edit_spec.specs.Runs as runs
 use Rattle.keep_edit_spec.specs.ElementRuns.{IsElsewhere}
 use Rattle.keep_edit_spec.specs.Runs.{AreApart, IsNoStep, PassesBy}
 use Rattle.keep_edit_plan.specs.Headers.{key_texts}

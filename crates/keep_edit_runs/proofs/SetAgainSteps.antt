@@ -9,13 +9,14 @@
 --
 -- Theorems: `all_but`, `each_replaced`: what holds of each change holds with one in the place of another;
 -- `headers_apart`, `counted_too`: of an edit that is no header, and of edits with the same lines and as many headers;
--- `changes_again`.
+-- `changes_again`; `made_there`, `done_there`: what the edit makes of the document after the edits.
 use Rattle.std.proofs.Common.{◌≡◌, ◌<◌, ◌∷◌, ◌++◌, [], ℕ, suc, List, length, take, drop, get_or, refl, sym}
 use Rattle.std.proofs.Common.{ap, subst, ◌∙◌, arith, All, IsUtf8, inl, inr, None, false}
 use Rattle.std.specs.Prelude.{◌⊎◌, Any, IsTrue}
 use Rattle.std.specs.List.{count_by}
 use Rattle.std.proofs.lemmas.List.Elements.{All-cons, All-head, All-tail}
 use Rattle.std.proofs.lemmas.Str.{IsUtf8-string_bytes}
+use Rattle.keep_types.specs.declared.leaf.Profile.{Profile}
 use Rattle.keep_syntax.specs.Tree.{Document, Value, text}
 use Rattle.keep_path.specs.Path.{Part}
 use Rattle.keep_edit_spec.specs.Changed.{put}
@@ -31,7 +32,8 @@ use Rattle.keep_edit_spec.specs.Runs as runs
 use Rattle.keep_edit_spec.specs.LinesAhead.{is_end_at, is_headed_at}
 use Rattle.keep_edit_spec.specs.Runs.{IsRun, MakesChange}
 use Rattle.keep_edit_spec.specs.SetValues.{SetsValue}
-use Rattle.keep_edit_spec.specs.TextChanges.{Follow, TextChange, change_at, moved_by_all, text_with}
+use Rattle.keep_edit_spec.specs.TextChanges.{Follow, IsBeside, TextChange, change_at, moved_by_all, text_with}
+use Rattle.keep_edit_spec.specs.TextChanges.{with_change}
 use Rattle.keep_edit_spec.proofs.Shared.{change_put, each_of_others, entry_lawful, lines_apart, one_in_place}
 use Rattle.keep_edit_spec.proofs.Shared.{put_in_place}
 use Rattle.keep_edit_spec.proofs.Shared.{run_goes_on_again, run_is_known, set_bytes, set_lawful}
@@ -40,7 +42,7 @@ use Rattle.keep_edit_plan.specs.TextEdits.{HasChange, IsChangeIn, IsReplaced, ch
 use Rattle.keep_edit_plan.specs.declared.edit.Edit.{Edit}
 use Rattle.keep_edit_plan.specs.declared.text_edit.TextEdit.{TextEdit}
 use Rattle.keep_edit_runs.specs.AddedLines.{IsCounted, IsHeaderKnown, IsKnownAt}
-use Rattle.keep_edit_runs.specs.Lists.{AreMade}
+use Rattle.keep_edit_runs.specs.Lists.{AreMade, IsEdit}
 use Rattle.keep_edit_plan.specs.Reading.{limit, IsTextOfTree, ProfiledText}
 use Rattle.keep_edit_runs.specs.Runs.{IsRunTo, SetsAgainHere, changed_text}
 use Rattle.keep_edit_runs.specs.declared.added_lines.AddedLines.{AddedLines}
@@ -110,6 +112,30 @@ counted_too added old new es others same as_many counts = record {
   headed = λ n. ap (count_by (is_headed_at n)) (sym same) ∙ counts.headed n;
   appended = sym as_many ∙ counts.appended;
 }
+
+-- ---- in a later document
+
+-- the edit is not refused there, and lawful
+abbrev pub IsDoneThere : Profile → Document → Edit → Type 0
+IsDoneThere profile now x =
+    (f : law.Edit) × (IsEdit x f × ((refusal profile limit now f ≡ None) × IsLawfulEdit profile limit now f))
+
+-- One of the changes sets the value, and the others are beside it. The edit sets the value there, in the place of what
+-- was set, or is of an entry of it and makes what the set makes.
+pub record IsSetThere (profile : Profile) (now : Document) (changes : List TextChange) (f : law.Edit)
+    (path : List Part) (value : Value) (c : TextChange) : Type 0 where
+  pub rest : List TextChange
+  pub was : TextChange
+  pub changes_are : changes ≡ with_change rest was
+  pub at : was.at ≡ c.at
+  pub size : was.size ≡ c.size
+  pub some : 0 < was.size
+  pub follow : Follow 0 rest
+  pub beside : All (λ x. IsBeside x c) rest
+  pub sets : SetsValue profile limit now path value
+      (change_at (moved_by_all rest c.at) (length was.new) c.new)
+  pub makes : (f ≡ law.set path value)
+      ⊎ MakesSet profile limit now f path value (change_at (moved_by_all rest c.at) (length was.new) c.new)
 
 -- ---- one more
 
@@ -279,6 +305,27 @@ module _ (s : Document) (edits : List Edit) (n : ℕ) (old now : ProfiledText) (
     changes_are = sym new_is;
     tree_is = tree_of_run now before ms new all_made.tree read r.still (sym new_is) all_made.read;
   }
+
+  pub made_there : IsSetThere now.profile h.made.tree changes again.edit again.path again.value (change_of t)
+  made_there = record {
+    rest = changes_of r.rest;
+    was = r.c;
+    changes_are = sym h.changes_are ∙ r.changes;
+    at = r.at;
+    size = r.size;
+    some = r.some;
+    follow = r.follow;
+    beside = r.beside;
+    sets = sets;
+    makes = elim again.makes [
+      | inl same ↦ inl same
+      | inr of_earlier ↦
+          inr (of_earlier.makes h.made.tree moved so_far.editable sets (wrote of_earlier.was of_earlier.earlier))
+    ];
+  }
+
+  pub done_there : IsDoneThere now.profile h.made.tree x
+  done_there = (again.edit, (again.is, (as_set.allowed, as_set.lawful)))
 
 -- ---- as the code goes
 

@@ -14,7 +14,8 @@ use Rattle.keep_edit_spec.specs.declared.line_kind.LineKind.{LineKind}
 use Rattle.keep_edit_spec.specs.declared.line_kind.LineKind.TheVariants.{LastInBody, OfDotted, WithHeader}
 use Rattle.keep_edit_runs.specs.Counts.{IsOneMore, count_at}
 use Rattle.keep_edit_runs.specs.Seen.{number_of}
-use Rattle.keep_edit_runs.specs.SeenHeaders.{HasAppended, HasHeader, HasTableOf, IsHeaderAppendedLater, IsHeaderBrought}
+use Rattle.keep_edit_runs.specs.SeenHeaders.{HasAppended, HasHeader, HasMore, HasTableOf, IsHeaderAppendedLater}
+use Rattle.keep_edit_runs.specs.SeenHeaders.{IsHeaderBrought}
 use Rattle.keep_edit_runs.specs.declared.added_lines.AddedLines.{AddedLines}
 
 -- the table of the lines at a byte that dotted keys make
@@ -147,3 +148,17 @@ pub record IsAppendedKept (old : AddedLines) (keys : List (List ℕ)) (new : Add
   pub appends : IsHeaderAppendedLater old.headers (map key keys) new.headers
   pub one : new.appended ≡ suc old.appended
   pub rest : new ≡ record old { headers = new.headers; appended = new.appended }
+
+-- a header at the end of the text, behind all others, of no table of a line with one
+pub record IsHeaderLast (old : AddedLines) (keys : List (List ℕ)) (new : AddedLines) : Type 0 where
+  pub appends : IsHeaderAppendedLater old.headers (map key keys) new.headers
+  pub rest : new ≡ record old { headers = new.headers }
+
+-- a table whose header comes with a line at the end of the text, and would come at this byte, where no header comes,
+-- and its own comes nowhere
+pub record IsTableBelow (old : AddedLines) (at : ℕ) (table : List Part) (new : AddedLines) : Type 0 where
+  pub free : brought_at old at ≡ None
+  pub first : ¬ HasTable old table
+  pub here : HasTableOf new.headers table
+  pub more : HasMore old.headers new.headers
+  pub rest : new ≡ record old { headers = new.headers }

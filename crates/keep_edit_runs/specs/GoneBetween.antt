@@ -1,5 +1,5 @@
 -- Elements of arrays of tables that are removed between edits of all kinds.
-use Rattle.std.specs.Prelude.{◌≡◌, ℕ, All, Any, List, false, string_bytes, take, true}
+use Rattle.std.specs.Prelude.{◌≡◌, ℕ, All, Any, List, string_bytes, take, true}
 use Rattle.std.specs.List.{count_by}
 use Rattle.keep_syntax.specs.Tree.{Document}
 use Rattle.keep_path.specs.Path.{Part}

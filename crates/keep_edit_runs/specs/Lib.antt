@@ -14,3 +14,4 @@ pub mod LastElements
 pub mod FilledTables
 pub mod Next
 pub mod Counts
+pub mod Tail

@@ -37,6 +37,7 @@ use Rattle.keep_edit_runs.specs.Counts.{IsOneMore}
 use Rattle.keep_edit_plan.specs.Answers.{IsSpanOf}
 use Rattle.keep_edit_runs.specs.Gone.{IsGoneWith}
 use Rattle.keep_edit_runs.specs.Lists.{AreMade, IsEdit}
+use Rattle.keep_edit_runs.specs.SeenHeaders.{HasTableOf}
 use Rattle.keep_edit_plan.specs.Reading.{IsAcceptedValue, IsTextOfTree, IsTextOfValue, ProfiledText}
 use Rattle.keep_edit_plan.specs.Reading.{limit, text_in}
 use Rattle.keep_edit_plan.specs.declared.edit.Edit.{Edit}
@@ -154,6 +155,7 @@ pub record IsLineKept (old : AddedLines) (changes : List TextChange) (x : Outlin
   pub brought : (n : ℕ) (table : List Part) → brought_at new n ≡ Some table → IsBroughtThen old x at line n table
   pub follower : new.has_follower ≡ old.has_follower
   pub counts : IsCountedMore old (outlined x) at line new
+  pub tables : (table : List Part) → HasTableOf old.headers table → HasTableOf new.headers table
   pub passes : (l : Added) → IsKnownAt old l → IsNoSecondOf l (outlined x)
   pub header : IsHeaderKnown new (outlined x)
 
@@ -178,6 +180,7 @@ pub record IsKeptAhead (old : AddedLines) (changes : List TextChange) (x : Outli
   pub brought : (n : ℕ) (table : List Part) → brought_at new n ≡ Some table → IsBroughtThen old x at line n table
   pub follower : new.has_follower ≡ old.has_follower
   pub counts : IsCountedMore old (outlined x) at line new
+  pub tables : (table : List Part) → HasTableOf old.headers table → HasTableOf new.headers table
 
 -- An edit with this outline, this change and a line of this kind is added to edits with these changes and lines: behind
 -- all others where it begins, and not at the end of the text, if headers are appended there;
@@ -234,6 +237,7 @@ pub record IsAddedFollowing (now : ProfiledText) (x : Edit) (old : AddedLines) (
   pub place : (change_of line).at ≡ at
   pub ends : (at ≢ length now.text) ⊎ (old.appended ≡ 0)
   pub kept : IsKeptBehind old changes o at new
+  pub plain : IsPlain (string_bytes line.new)
   pub beside : All (λ d. IsBeside d (change_of line)) changes
   pub changes_are : with_it ≡ with_change changes (change_of line)
 

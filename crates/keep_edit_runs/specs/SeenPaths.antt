@@ -1,6 +1,6 @@
 -- Paths of edits of any kinds that are made at once, by which most are known to leave alone those before them.
 use Rattle.std.specs.Prelude.{◌≡◌, ℕ, ◌+◌, ◌-◌, ◌<◌, ◌==◌, IsTrue, List, Some, String, bytes_eq, fold, length, map}
-use Rattle.std.specs.Prelude.{slice_get, take, true}
+use Rattle.std.specs.Prelude.{slice_get, take}
 use Rattle.std.specs.Borrow.{Bor}
 use Rattle.std.specs.Global.{Global}
 use Rattle.std.specs.Hash.FoldHasher as folding

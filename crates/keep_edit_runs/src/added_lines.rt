@@ -10,7 +10,8 @@ ghost use Rattle.std.specs.Prelude.{◌≡◌, ℕ, [], IfSome, IsTrue, List, No
 ghost use Rattle.keep_edit_plan.specs.Headers.{key_texts};
 ghost use Rattle.keep_edit_plan.specs.TextEdits.{change_of};
 ghost use Rattle.keep_edit_runs.specs.AddedLines.{IsAloneKept, IsAppendedKept, IsCountBehind, IsCounted, IsEndKept};
-ghost use Rattle.keep_edit_runs.specs.AddedLines.{IsHeaderKept, IsKnownAt, IsTableKept, PassesHeaderAt, brought_at};
+ghost use Rattle.keep_edit_runs.specs.AddedLines.{IsHeaderKept, IsHeaderLast, IsKnownAt, IsTableBelow, IsTableKept};
+ghost use Rattle.keep_edit_runs.specs.AddedLines.{PassesHeaderAt, brought_at};
 ghost use Rattle.keep_edit_runs.specs.Runs.{IsKeptAhead, IsKeptBehind, IsLineKept, IsOfBrought};
 ghost use Rattle.keep_edit_runs.specs.SeenHeaders.{HasAppended};
 ghost use Rattle.keep_path.specs.Path.{Part};
@@ -118,6 +119,30 @@ impl<'a> AddedLines<'a> {
             }
             _ => false,
         }
+    }
+
+    /// Whether an appended header may be of a table or go through it.
+    pub fn has_header_through(&self, table: &Steps) -> bool {
+        self.headers.has_appended_table(table)
+    }
+
+    /// Keeps the keys of a header that comes at the end of the text, behind all others. Returns whether they are kept:
+    /// not those of a table whose header comes with a line, nor any where memory was refused.
+    pub fn keep_last(&mut self, header: &[String]) -> bool
+        ensures { IsTrue result → IsHeaderLast self.old (key_texts header.now) self.new }
+    {
+        self.headers.append_later(header)
+    }
+
+    /// Keeps the keys of a table whose header comes with a line below one that was appended, and would come at this
+    /// byte without that. Returns whether they are kept: not where a header comes at the byte, or that of the table
+    /// comes elsewhere, nor where memory was refused.
+    pub fn keep_below(&mut self, at: usize, table: &Steps) -> bool
+        ensures { IsTrue result → IsTableBelow self.old at table.now self.new }
+    {
+        !self.has_header_at(at)
+            && !self.tables.contains(&number_of(table))
+            && self.headers.bring_below(table)
     }
 
     /// Keeps that a line comes behind a header's, of whose table it is, after these edits. Returns whether it is kept:

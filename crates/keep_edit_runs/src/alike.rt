@@ -144,7 +144,7 @@ fn keys_on_path(keys: &[String], path: &Steps, count: usize) -> Option<usize>
 }
 
 /// Whether no header of these keys is that of a path, or of a table below it.
-fn passes_by(keys: &[String], path: &Steps) -> bool
+pub fn passes_by(keys: &[String], path: &Steps) -> bool
     ensures { Decides result (PassesBy (key_texts keys.now) path.now) }
 {
     keys_on_path(keys, path, path.len()).is_none()

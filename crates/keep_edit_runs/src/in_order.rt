@@ -5,7 +5,7 @@ ghost use Rattle.keep_edit_runs.specs.Runs.{AddsLineAlone, IsAddedFollowing, IsA
 ghost use Rattle.keep_edit_spec.specs.Runs.{IsPlain};
 
 use crate::added_lines::AddedLines;
-use crate::at_once::{AtOnce, RunEdit};
+use crate::at_once::{AtOnce, RunEdit, is_plain};
 use crate::before::Before;
 use crate::outline::Outline;
 use keep_edit_plan::{Edit, TextEdit};
@@ -56,7 +56,8 @@ impl Before<'_> {
     }
 
     /// Adds an edit that would bring the header of its table to this place, where that of an earlier one comes: its
-    /// line alone, behind that, if no header is appended there. Returns whether it was added; if not, no change was.
+    /// line alone, behind that, if no header is appended there and it has no carriage return. Returns whether it was
+    /// added; if not, no change was.
     fn add_behind<'a>(
         &self,
         so_far: &mut AtOnce<'a>,
@@ -82,12 +83,13 @@ impl Before<'_> {
             return false;
         };
         line.place == place
+            && is_plain(line.new.as_str())
             && lines.keep_behind(so_far, &outline, place.start)
             && so_far.add(number, outline, line)
     }
 
     /// The line alone of an insert that would bring the header of its table.
-    fn line_alone(&self, edit: &Edit) -> Option<TextEdit>
+    pub(crate) fn line_alone(&self, edit: &Edit) -> Option<TextEdit>
         ensures { IfSome result (AddsLineAlone self.now edit.now) }
     {
         let Edit::Insert(path, value) = edit else {

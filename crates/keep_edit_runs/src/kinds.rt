@@ -1,19 +1,21 @@
 //! Edits of several kinds that are made at once, and elements of arrays of tables that go among them.
 ghost use Rattle.std.specs.Prelude.{◌≡◌, ◌+◌, ◌<◌, ◌≤◌, All, IfSome, IsTrue, None, Some, false, length, true};
 ghost use Rattle.keep_edit_runs.specs.GoneBetween.{AreElsewhere};
-ghost use Rattle.keep_edit_runs.specs.KindsRun.{AddsOne, AreSeen, FindsElement, GoesOn, IsPlacedAmong, IsRunOn};
-ghost use Rattle.keep_edit_runs.specs.KindsRun.{TakesOne, with_text};
+ghost use Rattle.keep_edit_runs.specs.KindsRun.{AddsAny, AreSeen, FindsElement, GoesOn, IsAddedBefore, IsInsertedBelow};
+ghost use Rattle.keep_edit_runs.specs.KindsRun.{IsPlacedAmong, IsRunOn, IsTextBelow, IsUnchanged, TakesOne, with_text};
 ghost use Rattle.keep_edit_runs.specs.Runs.{IsPlaceKept, IsSeenAs, MakeChanges, outline};
-ghost use Rattle.keep_edit_plan.specs.TextEdits.{IsChangeIn};
+ghost use Rattle.keep_edit_plan.specs.TextEdits.{IsChangeIn, IsOrdered};
 ghost use Rattle.keep_edit_spec.specs.Runs.{IsPlain};
 
-use crate::at_once::{AtOnce, Run, is_plain};
+use crate::at_once::{AtOnce, Run, RunEdit, is_plain};
 use crate::before::Before;
 use crate::gone::array_of;
 use crate::kinds_run::KindsRun;
 use crate::outline::{Outline, SeenAs};
 use crate::runs::MOST_AT_ONCE;
+use crate::tail::Tail;
 use keep_edit_plan::{Edit, TextEdit};
+use keep_edit_spec::LineKind;
 
 /// Whether an edit that is seen so removes an element of an array of tables, if its path is there.
 fn is_of_element(edit: &Edit, seen: SeenAs) -> bool {
@@ -25,9 +27,9 @@ fn is_of_element(edit: &Edit, seen: SeenAs) -> bool {
 
 impl Before<'_> {
     /// What the edits from number `first` on change in the text, as far as they leave one another alone, of whatever
-    /// kinds, and each makes its change beside those before it, or does again what one of them does; or removes an
-    /// element of an array of tables, and all others are elsewhere than in the array. Where memory is refused, there
-    /// are fewer.
+    /// kinds, and each makes its change beside those before it, or does again what one of them does; or appends a
+    /// header, or comes below one; or removes an element of an array of tables, and all others are elsewhere than in
+    /// the array. Where memory is refused, there are fewer.
     pub(crate) fn changes_of_kinds(&self, edits: &[Edit], first: usize) -> Run
         requires { first < length edits.now }
         ensures few { (first ≤ result.end) × (result.end ≤ length edits.now) }
@@ -35,13 +37,14 @@ impl Before<'_> {
         ensures within { All (IsChangeIn self.now.text) result.changes }
     {
         let mut run = KindsRun::new(self.alloc(), self.as_ref(), self.most_pairs());
+        let len = self.text.len();
         let end = edits.len().min(first.saturating_add(MOST_AT_ONCE));
         for number in first..end {
             if !self.goes_on(&mut run, edits, number) {
-                return run.up_to(number);
+                return run.up_to(self.alloc(), first, number, len);
             }
         }
-        run.up_to(end)
+        run.up_to(self.alloc(), first, end, len)
     }
 
     /// Whether a run goes on with the edit that has this number: its change is made with the others then. If it does
@@ -54,7 +57,7 @@ impl Before<'_> {
         requires within { All (IsChangeIn self.now.text) run.old.so_far.changes }
         ensures done { IsTrue result → GoesOn self.now run.old edits.now number run.new }
         ensures run { IsTrue result → IsRunOn self.now run.new }
-        ensures refused { result ≡ false → run.new.so_far.changes ≡ run.old.so_far.changes }
+        ensures refused { result ≡ false → IsUnchanged run.old run.new }
     {
         let edit = &edits[number];
         if self.is_filled_next(edit, edits.get(number + 1)) {
@@ -86,12 +89,12 @@ impl Before<'_> {
         requires seen { IsSeenAs self.now edit.now seen }
         requires run { IsRunOn self.now run.old }
         requires within { All (IsChangeIn self.now.text) run.old.so_far.changes }
-        ensures added { IsTrue result → AddsOne self.now run.old edit.now run.new }
+        ensures added { IsTrue result → AddsAny self.now run.old edit.now run.new }
         ensures run { IsTrue result → IsRunOn self.now run.new }
-        ensures refused { result ≡ false → run.new.so_far.changes ≡ run.old.so_far.changes }
+        ensures refused { result ≡ false → IsUnchanged run.old run.new }
     {
         let outline = Outline::of(edit, seen);
-        if !run.leave_alone(&outline) {
+        if !run.is_left_alone(&outline) {
             return false;
         }
         let Some(made) = self.change_in_run(&mut run.planner, &mut run.opened, edit, next, seen)
@@ -101,9 +104,91 @@ impl Before<'_> {
         if !self.keeps_place_in(run, &outline, made.change.place.start) {
             return false;
         }
+        if let Some(keys) = outline.header_keys() {
+            return run.append(outline, keys, made.change);
+        }
+        if run.comes_below(&outline, &made) {
+            return self.put_below(run, edit, outline, made);
+        }
+        self.add_before(run, number, edit, outline, made)
+    }
+
+    /// Adds an edit in order with the others and their lines, before what comes at the end of the text. Returns whether
+    /// it was added; if not, no change was.
+    fn add_before<'a>(
+        &self,
+        run: &mut KindsRun<'a>,
+        number: usize,
+        edit: &Edit,
+        outline: Outline<'a>,
+        made: RunEdit,
+    ) -> bool
+        requires ordered { IsOrdered made.change }
+        ensures added { IsTrue result
+            → IsAddedBefore self.now run.old edit.now outline.entry made.change made.line run.new }
+        ensures refused { result ≡ false → IsUnchanged run.old run.new }
+    {
+        if !run.lets_change(&outline, &made.change, self.text.len())
+            || !run.paths.add(&outline).unwrap_or(false)
+        {
+            return false;
+        }
         let is_none_gone = run.gone.is_empty();
         let (so_far, lines) = (&mut run.so_far, &mut run.lines);
         self.add_in_order(so_far, lines, number, edit, outline, made, is_none_gone)
+    }
+
+    /// Adds an insert that would bring the header of its table below the last appended header that goes through the
+    /// table: with that header, or its line alone where inserts into the table came there before. Returns whether it
+    /// was added; if not, what comes at the end of the text is the same.
+    fn put_below<'a>(
+        &self,
+        run: &mut KindsRun<'a>,
+        edit: &Edit,
+        outline: Outline<'a>,
+        made: RunEdit,
+    ) -> bool
+        requires ordered { IsOrdered made.change }
+        requires seen { AreSeen run.old }
+        ensures put { IsTrue result
+            → IsInsertedBelow self.now run.old edit.now outline.entry made.change made.line run.new }
+        ensures refused { result ≡ false → IsUnchanged run.old run.new }
+    {
+        let Some(table) = outline.new_table() else {
+            return false;
+        };
+        let Some(block) = run.tail.block_for(&table) else {
+            return false;
+        };
+        let Some(text) = self.text_below(&run.tail, block, edit, &made) else {
+            return false;
+        };
+        let at = made.change.place.start;
+        if run.so_far.changes.take_up_to(at) || !run.so_far.changes.leave(&made.change) {
+            return false;
+        }
+        run.lines.keep_below(at, &table) && run.tail.put_below(block, outline, table, text.as_str())
+    }
+
+    /// What an insert that would bring the header of its table writes below the header with this number. None where it
+    /// has a carriage return, or brings no header, and where memory was refused.
+    fn text_below(&self, tail: &Tail, block: usize, edit: &Edit, made: &RunEdit) -> Option<String>
+        ensures { IfSome result (λ text. IsTextBelow self.now tail.now.blocks.items block edit.now made.now text) }
+    {
+        let Some(LineKind::WithHeader) = made.line else {
+            return None;
+        };
+        if !is_plain(made.change.new.as_str()) {
+            return None;
+        }
+        if !tail.has_lines_below(block) {
+            return String::from_str(self.alloc(), made.change.new.as_str()).ok();
+        }
+        let line = self.line_alone(edit)?;
+        if !is_plain(line.new.as_str()) {
+            return None;
+        }
+        Some(line.new)
     }
 
     /// Whether an edit writes no line and no header, or the one that it writes at a byte can come there after a run's
@@ -148,7 +233,7 @@ impl Before<'_> {
         requires elsewhere { AreElsewhere run.old.gone.arrays.items run.old.so_far.outlines.items }
         ensures taken { IsTrue result → TakesOne self.now run.old edit.now run.new }
         ensures run { IsTrue result → IsRunOn self.now run.new }
-        ensures refused { result ≡ false → run.new.so_far.changes ≡ run.old.so_far.changes }
+        ensures refused { result ≡ false → IsUnchanged run.old run.new }
     {
         let Some(change) = self.element_by(run, edit) else {
             return false;
@@ -163,6 +248,7 @@ impl Before<'_> {
         requires elsewhere { AreElsewhere run.old.gone.arrays.items run.old.so_far.outlines.items }
         ensures found { IfSome result (λ change. FindsElement self.now run.old edit.now change run.new) }
         ensures edits { run.new.so_far ≡ run.old.so_far }
+        ensures tail { run.new.tail ≡ run.old.tail }
     {
         let Edit::Remove(path) = edit else {
             return None;
@@ -170,6 +256,10 @@ impl Before<'_> {
         if !run.keep_array(array_of(path)?) {
             return None;
         }
-        self.section_by(&mut run.gone.elements, edit)
+        let change = self.section_by(&mut run.gone.elements, edit)?;
+        if !run.lets_section(&change, self.text.len()) {
+            return None;
+        }
+        Some(change)
     }
 }

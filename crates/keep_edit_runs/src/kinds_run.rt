@@ -1,21 +1,27 @@
 //! A run of edits of several kinds that are made at once, as far as they are gone through.
-ghost use Rattle.std.specs.Prelude.{◌≡◌, All, IsTrue, false};
+ghost use Rattle.std.specs.Prelude.{◌≡◌, All, IsTrue, List, false};
+ghost use Rattle.keep_edit_spec.specs.Edits.{remove};
 ghost use Rattle.keep_edit_spec.specs.ElementRuns.{IsElsewhere};
 ghost use Rattle.keep_edit_runs.specs.GoneBetween.{AreElsewhere};
-ghost use Rattle.keep_edit_runs.specs.KindsRun.{AreSeen, DoesAgain, IsLeftAlone, IsRunOn, KeepsArray, StartsAt};
+ghost use Rattle.keep_edit_runs.specs.KindsRun.{AreSeen, DoesAgain, IsAlone, IsAppended, IsRunOn, IsRunUpTo};
+ghost use Rattle.keep_edit_runs.specs.KindsRun.{IsUnchanged, KeepsArray, LetsAgainBefore, LetsChange, StartsAt};
 ghost use Rattle.keep_edit_runs.specs.KindsRun.{with_paths};
 ghost use Rattle.keep_edit_plan.specs.Reading.{ProfiledText};
 ghost use Rattle.keep_edit_runs.specs.Runs.{LeavesAlone, outlined};
+ghost use Rattle.keep_path.specs.Path.{Part};
 
 use crate::added_lines::AddedLines;
 use crate::again::Again;
 use crate::alike::{are_elsewhere, leave_alone_within};
-use crate::at_once::{AtOnce, Run};
+use crate::at_once::{AtOnce, Run, RunEdit, is_plain};
 use crate::gone_between::GoneBetween;
 use crate::opened::OpenValues;
 use crate::outline::{Outline, Steps};
 use crate::seen_paths::SeenPaths;
-use keep_edit_plan::{DocumentRef, Planner};
+use crate::tail::Tail;
+use keep_edit_plan::{DocumentRef, Planner, TextEdit, TextEdits};
+use keep_edit_spec::LineKind;
+use keep_syntax::Span;
 use std::alloc::Global;
 
 /// Edits of several kinds that are made at once, and what tells whether the next one is made with them.
@@ -27,6 +33,8 @@ pub struct KindsRun<'a> {
     pub paths: SeenPaths<'a>,
     pub lines: AddedLines<'a>,
     pub gone: GoneBetween<'a>,
+    /// What comes at the end of the text, after all that the other edits change.
+    pub tail: Tail<'a>,
     /// How many pairs of edits may still be compared.
     pub left: usize,
     /// Whether the document's text has no carriage return, as far as is known.
@@ -45,42 +53,120 @@ impl<'a> KindsRun<'a> {
             paths: SeenPaths::new(alloc),
             lines: AddedLines::new(alloc),
             gone: GoneBetween::new(alloc),
+            tail: Tail::new(alloc),
             left,
             is_text_plain: false,
         }
     }
 
-    /// What they change, and the number of the first edit after them.
-    pub fn up_to(self, end: usize) -> Run
-        ensures { (result.changes ≡ self.entry.so_far.changes) × (result.end ≡ end) }
+    /// What they change in a text of so many bytes, and the number of the first edit after them; no edits from number
+    /// `first` on where memory is refused.
+    pub fn up_to(self, alloc: Global, first: usize, end: usize, len: usize) -> Run
+        ensures { IsRunUpTo self.entry first end len result }
     {
-        self.so_far.up_to(end)
+        let tail = self.tail;
+        let mut run = self.so_far.up_to(end);
+        if tail.is_empty() {
+            return run;
+        }
+        if let Ok(new) = tail.text(alloc) {
+            let place = Span {
+                start: len,
+                end: len,
+            };
+            if run.changes.add(TextEdit { place, new }).unwrap_or(false) {
+                return run;
+            }
+        }
+        Run {
+            changes: TextEdits::new(alloc),
+            end: first,
+        }
     }
 
     /// Puts the change of an edit, which has this number in the list, in the place of an earlier one. Returns whether
-    /// it did; if not, no change has come in the place of one.
+    /// it did; if not, no change has come in the place of one. A key is renamed again, and an inserted value set, only
+    /// where nothing comes at the end of the text.
     pub fn put_again(&mut self, number: usize, again: Again<'a>) -> bool
         ensures done { IsTrue result → DoesAgain self.old again.entry self.new }
         ensures run { (now : ProfiledText) → IsRunOn now self.old → IsTrue result → IsRunOn now self.new }
-        ensures refused { result ≡ false → self.new.so_far.changes ≡ self.old.so_far.changes }
+        ensures refused { result ≡ false → IsUnchanged self.old self.new }
     {
-        self.paths.allow_again(&again) && self.so_far.put_again(&self.lines, number, again)
+        self.lets_again(&again)
+            && self.paths.allow_again(&again)
+            && self.so_far.put_again(&self.lines, number, again)
+    }
+
+    /// Whether what is done again may come before what is at the end of the text.
+    fn lets_again(&self, again: &Again) -> bool
+        ensures { IsTrue result → LetsAgainBefore self.now.tail.blocks.items again.now }
+    {
+        if self.tail.is_empty() {
+            return true;
+        }
+        match again {
+            Again::Value(change) => is_plain(change.new.as_str()),
+            Again::Key(_, _) | Again::Line(_, _, _) => false,
+        }
+    }
+
+    /// Whether a change of a text of so many bytes can come before what is at the end of the text: it has no carriage
+    /// return, and takes no byte right before the end, if it is no new line.
+    pub fn lets_change(&self, outline: &Outline, change: &TextEdit, len: usize) -> bool
+        ensures { IsTrue result
+            → LetsChange self.now.tail.blocks.items len (outlined outline.now) change.now }
+    {
+        if self.tail.is_empty() {
+            return true;
+        }
+        is_plain(change.new.as_str())
+            && (matches!(outline, Outline::Insert(_)) || change.place.end < len)
+    }
+
+    /// Appends a header with these keys, as it is written, behind all that is at the end of the text. Returns whether
+    /// it did: not one that has a carriage return, or is of a table whose header comes with a line, nor any where
+    /// memory was refused. Then what is at the end of the text is the same.
+    pub fn append(&mut self, outline: Outline<'a>, keys: &'a [String], change: TextEdit) -> bool
+        requires { AreSeen self.old }
+        ensures appended { IsTrue result
+            → IsAppended self.old outline.entry keys.entry change self.new }
+        ensures refused { result ≡ false → IsUnchanged self.old self.new }
+    {
+        is_plain(change.new.as_str())
+            && self.lines.keep_last(keys)
+            && self.tail.add(outline, keys, change.new)
+    }
+
+    /// Whether an insert that would bring the header of its table has to come below an appended header, as far as is
+    /// known.
+    pub fn comes_below(&self, outline: &Outline, made: &RunEdit) -> bool {
+        match (outline, made.line) {
+            (Outline::Insert(first), Some(LineKind::WithHeader)) => {
+                self.lines.has_header_through(&first.parent())
+            }
+            _ => false,
+        }
+    }
+
+    /// The same of what an element's remove takes.
+    pub fn lets_section(&self, change: &TextEdit, len: usize) -> bool
+        ensures { IsTrue result
+            → (path : List Part) → LetsChange self.now.tail.blocks.items len (remove path) change.now }
+    {
+        self.tail.is_empty() || (is_plain(change.new.as_str()) && change.place.end < len)
     }
 
     /// Whether an edit is known to be left alone by those before it and elsewhere than in the arrays of which elements
-    /// went. Then its paths are added.
-    pub fn leave_alone(&mut self, outline: &Outline<'a>) -> bool
+    /// went.
+    pub fn is_left_alone(&mut self, outline: &Outline) -> bool
         requires { AreSeen self.old }
-        ensures added { IsTrue result → IsLeftAlone self.old outline.now self.new }
-        ensures rest { self.new ≡ with_paths self.old self.new.paths self.new.left }
+        ensures alone { IsTrue result → IsAlone self.old outline.now }
+        ensures rest { self.new ≡ with_paths self.old self.old.paths self.new.left }
     {
-        if outline.has_long_path_among_all() {
+        if outline.has_long_path_among_all() || !self.tail.leave_alone(&mut self.left, outline) {
             return false;
         }
-        if !(self.paths.leave_alone(outline) || self.are_alone_by_all(outline)) {
-            return false;
-        }
-        self.paths.add(outline).unwrap_or(false)
+        self.paths.leave_alone(outline) || self.are_alone_by_all(outline)
     }
 
     /// The same where it is compared with each of those and each of the arrays, as far as so many pairs may be.
@@ -101,13 +187,17 @@ impl<'a> KindsRun<'a> {
         requires elsewhere { AreElsewhere self.old.gone.arrays.items self.old.so_far.outlines.items }
         ensures kept { IsTrue result → KeepsArray self.old array.entry self.new }
         ensures changes { self.new.so_far ≡ self.old.so_far }
+        ensures tail { self.new.tail ≡ self.old.tail }
     {
         if self.gone.has_array(&array) {
-            return true;
+            return self.tail.are_elsewhere(&array);
         }
         if !(self.paths.are_elsewhere(&array)
             || are_elsewhere(&array, self.so_far.outlines.as_slice()))
         {
+            return false;
+        }
+        if !self.tail.are_elsewhere(&array) {
             return false;
         }
         let path = Outline::Remove(array.same());

@@ -41,6 +41,7 @@ mod seen;
 mod seen_headers;
 mod seen_paths;
 mod set_again;
+mod tail;
 mod value_after;
 mod worth;
 

@@ -1,7 +1,11 @@
 //! What edits do, as far as it tells which others they leave alone.
-ghost use Rattle.std.specs.Prelude.{◌≡◌, ◌↔◌, ℕ, IfSome, Some, length, option_copied, option_map, slice_get, take};
-ghost use Rattle.keep_edit_runs.specs.Runs.{outline, outlined, writes_anew};
-ghost use Rattle.keep_path.specs.Path.{index, without_last};
+ghost use Rattle.std.specs.Prelude.{◌≡◌, ◌↔◌, ℕ, IfSome, List, None, Some, false, length, option_copied, option_map};
+ghost use Rattle.std.specs.Prelude.{slice_get, take};
+ghost use Rattle.keep_edit_runs.specs.KindsRun.{IsOfHeader};
+ghost use Rattle.keep_edit_runs.specs.Runs.{no_value, outline, outlined, writes_anew};
+ghost use Rattle.keep_edit_spec.specs.Edits as law;
+ghost use Rattle.keep_edit_spec.specs.Runs.{is_header};
+ghost use Rattle.keep_path.specs.Path.{Part, index, without_last};
 ghost use Rattle.keep_path.specs.Step.{part_of};
 
 use keep_edit_plan::{Edit, first_steps};
@@ -186,6 +190,28 @@ impl<'a> Outline<'a> {
             self,
             Outline::Insert(_) | Outline::Table(_) | Outline::Element(_)
         )
+    }
+
+    /// The keys of a header that it appends.
+    pub fn header_keys(&self) -> Option<&'a [String]>
+        ensures keys { IfSome result (IsOfHeader self.now) }
+        ensures other { result ≡ None → is_header (outlined self.now) ≡ false }
+    {
+        match self {
+            Outline::Table(keys) | Outline::Element(keys) => Some(*keys),
+            _ => None,
+        }
+    }
+
+    /// The table into which it inserts a key.
+    pub fn new_table(&self) -> Option<Steps<'a>>
+        ensures { IfSome result (λ table. (first : List Part)
+            × ((outlined self.now ≡ law.insert first no_value) × (table ≡ without_last first))) }
+    {
+        match self {
+            Outline::Insert(first) => Some(first.parent()),
+            _ => None,
+        }
     }
 
     /// Whether it has a path that would take long to compare with those of its kind.

@@ -4,7 +4,8 @@
 //! there no header goes through one, wherever it comes.
 ghost use Rattle.std.specs.Prelude.{◌≡◌, ◌<◌, ◌+◌, ℕ, IsTrue, List, false, length, map, take};
 ghost use Rattle.keep_edit_plan.specs.Headers.{key_texts};
-ghost use Rattle.keep_edit_runs.specs.SeenHeaders.{HasAppended, HasBrought, HasHeader, HasMore, IsArrayAppended};
+ghost use Rattle.keep_edit_runs.specs.SeenHeaders.{HasAppended, HasBrought, HasHeader, HasMore, HasTableOf};
+ghost use Rattle.keep_edit_runs.specs.SeenHeaders.{IsArrayAppended};
 ghost use Rattle.keep_edit_runs.specs.SeenHeaders.{IsBeginningAppended, IsHeaderAppended, IsHeaderAppendedLater};
 ghost use Rattle.keep_edit_runs.specs.SeenHeaders.{IsHeaderBrought};
 ghost use Rattle.keep_path.specs.Path.{Part, key};
@@ -93,6 +94,14 @@ impl SeenHeaders {
         }
         let number = number_of_keys(table);
         !self.appended.contains(&number) && self.brought.insert(number).is_ok()
+    }
+
+    /// Adds the keys of a table whose header comes with a line below appended headers that go through it. Returns
+    /// whether they were added: not if the table's path begins in no key or memory was refused.
+    pub fn bring_below(&mut self, table: &Steps) -> bool
+        ensures { IsTrue result → HasTableOf self.new table.now × HasMore self.old self.new }
+    {
+        begins_in_key(table) && self.brought.insert(number_of_keys(table)).is_ok()
     }
 
     /// Adds the keys of an array of tables of which an element's header is appended, as those of a header and as those

@@ -1,65 +1,150 @@
 -- An edit is added to a run in four steps: the others leave it alone; it makes its change; its place is kept; and its
--- change is put beside theirs, in order with the lines. Each leaves all else of the run as it was, so what is known of
--- the run before is known of what is left of it after each of them.
-use Rattle.std.proofs.Common.{◌≡◌, ◌∙◌, ◌++◌, ◌∷◌, [], All, Option, ap, subst, subst₂, sym, true}
-use Rattle.std.specs.Prelude.{Bool}
-use Rattle.std.proofs.lemmas.List.Elements.{All-weaker}
+-- change is put beside theirs, in order with the lines, or at the end of the text. The first three leave all else of
+-- the run as it was, so what is known of the run before is known of what is left of it after them.
+use Rattle.std.proofs.Common.{◌≡◌, ◌∙◌, Bor, Global, List, None, Option, Some, String, ap, refl, subst, sym, true}
 use Rattle.keep_edit_spec.specs.Runs.{IsPlain}
-use Rattle.keep_edit_spec.specs.TextChanges.{TextChange}
-use Rattle.keep_edit_spec.specs.declared.line_kind.LineKind.{LineKind}
 use Rattle.keep_edit_plan.specs.Reading.{ProfiledText}
 use Rattle.keep_edit_plan.specs.TextEdits.{change_of}
-use Rattle.keep_edit_plan.specs.declared.edit.Edit.{Edit}
-use Rattle.keep_edit_runs.specs.KindsRun.{IsAddedTo, IsPlacedAmong}
-use Rattle.keep_edit_runs.specs.Runs.{IsAddedInOrder, MakesInRunHere}
-use Rattle.keep_edit_runs.specs.SeenPaths.{IsArraySeen, IsSeen}
-use Rattle.keep_edit_runs.specs.declared.added_lines.AddedLines.{AddedLines}
+use Rattle.keep_edit_runs.specs.KindsRun.{IsPlacedAmong, IsRunOn, with_paths, with_text}
+use Rattle.keep_edit_runs.specs.Runs.{MakesInRunHere}
 use Rattle.keep_edit_runs.specs.declared.at_once.AtOnce.{AtOnce}
-use Rattle.keep_edit_runs.specs.declared.gone_between.GoneBetween.{GoneBetween}
 use Rattle.keep_edit_runs.specs.declared.kinds_run.KindsRun.{KindsRun}
-use Rattle.keep_edit_runs.specs.declared.outline.Outline.{Outline}
-use Rattle.keep_edit_runs.specs.declared.seen_paths.SeenPaths.{SeenPaths}
-use Rattle.keep_edit_runs.proofs.SeenLaws.{more_seen}
-use Rattle.keep_edit_runs.proofs.SeenPathLaws.{arrays_still}
+use Rattle.keep_edit_runs.specs.declared.opened.OpenValues.{OpenValues}
+use Rattle.keep_edit_runs.proofs.SameRuns.{added_as, adds_one, alone_as, appends_one, on_planned, planned, puts_below}
+use Rattle.keep_edit_runs.proofs.SameRuns.{run_at_end, run_before, unchanged_as}
 use Rattle.keep_edit_runs.proofs.before.Before.add_to.Goals as goal
+
+-- there is none if it is no keys
+none_unless : (o : Option (Bor (List (String Global)))) → ((x : Bor (List (String Global))) → o ≡ Some x → ⊥) → o ≡ None
+none_unless None h = refl
+none_unless (Some x) h = absurd (h x refl)
+
+-- the run after the first step, and after the third
+module _ (old left then : KindsRun) (opened : OpenValues) (planner : ProfiledText)
+    (is : left ≡ with_paths old old.paths left.left)
+    (is_then : then ≡ with_text (record left { opened = opened; planner = planner }) then.is_text_plain) where
+  then_is : then ≡ planned old opened planner left.left then.is_text_plain
+  then_is = is_then
+      ∙ ap (λ (r : KindsRun). record r { opened = opened; planner = planner; is_text_plain = then.is_text_plain }) is
+
+  then_on : (now : ProfiledText) → IsRunOn now old → planner ≡ left.planner
+      → (then.is_text_plain ≡ true → IsPlain now.text) → IsRunOn now then
+  then_on now run same text =
+      on_planned old then opened planner left.left then.is_text_plain then_is now run
+      (same ∙ ap (λ (r : KindsRun). r.planner) is ∙ run.planner) text
 
 pub keeps_place_in-requires-clause-run : goal.keeps_place_in-requires-clause-run
 keeps_place_in-requires-clause-run c =
     let old = c.args.run.now in
     let run = c.requires.run in
-    let seen_now = IsSeen c.leave_alone.new.self.paths in
-    let left = c.leave_alone.ensures.added c.if-not-leave_alone.false in
-    let rest = c.leave_alone.ensures.rest in
-    let same : c.leave_alone.new.self.so_far ≡ old.so_far = ap (λ (r : KindsRun). r.so_far) rest in
-    let still = All-weaker (IsSeen old.paths) seen_now left.others old.so_far.outlines.items run.seen.0 in
-    record {
-      seen = (
-        subst (λ (s : AtOnce). All seen_now s.outlines.items) (sym same) still,
-        subst (λ (g : GoneBetween). All (IsArraySeen c.leave_alone.new.self.paths) g.arrays.items)
-            (sym (ap (λ (r : KindsRun). r.gone) rest))
-            (arrays_still old.paths c.leave_alone.new.self.paths left.others old.gone.arrays.items run.seen.1),
-      );
-      text = λ yes. run.text (sym (ap (λ (r : KindsRun). r.is_text_plain) rest) ∙ yes);
-      plain = subst (λ (s : AtOnce). s.are_plain ≡ true → All (λ (d : TextChange). IsPlain d.new) s.changes) (sym same)
-          run.plain;
-      planner = c.change_in_run.ensures.planner ∙ ap (λ (r : KindsRun). r.planner) rest ∙ run.planner;
-    }
+    let left = c.is_left_alone.new.self in
+    let rest = c.is_left_alone.ensures.rest in
+    let opened = c.change_in_run.new.opened in
+    let planner = c.change_in_run.new.planner in
+    on_planned old (record left { opened = opened; planner = planner }) opened planner left.left old.is_text_plain
+    (ap (λ (r : KindsRun). record r { opened = opened; planner = planner }) rest) c.args.self.now run
+    (c.change_in_run.ensures.planner ∙ ap (λ (r : KindsRun). r.planner) rest ∙ run.planner) run.text
 
--- what is added to the run as it is then is added to the run as it was, as its edits and lines are those
-in_order : (now : ProfiledText) (x : Edit) (old then : KindsRun) (o : Outline) (c : TextChange)
-    (line : Option LineKind) (alone : Bool) (new : KindsRun) → then.so_far ≡ old.so_far → then.lines ≡ old.lines
-    → then.gone ≡ old.gone → (alone ≡ true → then.gone.arrays.items ≡ [])
-    → IsAddedInOrder now x then.lines then.so_far.changes o c line alone new.lines new.so_far.changes
-    → IsAddedTo now x old o c line new
-in_order now x old then o c line alone new same same_lines same_gone empties added = (
-  alone,
-  (
-    λ yes. subst (λ (g : GoneBetween). g.arrays.items ≡ []) same_gone (empties yes),
-    subst₂
-        (λ (l : AddedLines) (s : AtOnce).
-        IsAddedInOrder now x l s.changes o c line alone new.lines new.so_far.changes) same_lines same added,
-  ),
-)
+pub append-requires : goal.append-requires
+append-requires c =
+    (then_on c.args.run.now c.is_left_alone.new.self c.keeps_place_in.new.run c.change_in_run.new.opened
+    c.change_in_run.new.planner c.is_left_alone.ensures.rest c.keeps_place_in.ensures.rest c.args.self.now
+    c.requires.run c.change_in_run.ensures.planner c.keeps_place_in.ensures.text).seen
+
+pub put_below-requires-clause-seen : goal.put_below-requires-clause-seen
+put_below-requires-clause-seen c =
+    (then_on c.args.run.now c.is_left_alone.new.self c.keeps_place_in.new.run c.change_in_run.new.opened
+    c.change_in_run.new.planner c.is_left_alone.ensures.rest c.keeps_place_in.ensures.rest c.args.self.now
+    c.requires.run c.change_in_run.ensures.planner c.keeps_place_in.ensures.text).seen
+
+pub returns-in-Some-header_keys-clause-added : goal.returns-in-Some-header_keys-clause-added
+returns-in-Some-header_keys-clause-added c = λ added.
+    let now = c.args.self.now in
+    let x = c.args.edit.now in
+    let old = c.args.run.now in
+    let o = c.of-outline.result in
+    let made = c.in-Some.made in
+    let at = (change_of made.change).at in
+    let left = c.is_left_alone.new.self in
+    let then = c.keeps_place_in.new.run in
+    let opened = c.change_in_run.new.opened in
+    let planner = c.change_in_run.new.planner in
+    let new = c.append.new.self in
+    let is = then_is old left then opened planner c.is_left_alone.ensures.rest c.keeps_place_in.ensures.rest in
+    let makes = subst (λ a. MakesInRunHere now x a made.change made.line) (sym c.of-outline.ensures)
+    c.in-Some.ensures.made in
+    let alone = alone_as old then opened planner left.left then.is_text_plain is o
+    (c.is_left_alone.ensures.alone c.if-not-is_left_alone.false) in
+    let placed = subst (λ (s : AtOnce). IsPlacedAmong now.text s.changes o at)
+    (sym (ap (λ (r : KindsRun). r.so_far) c.keeps_place_in.ensures.rest))
+    (c.keeps_place_in.ensures.placed c.if-not-keeps_place_in.false) in
+    added_as old then opened planner left.left then.is_text_plain is now x new
+    (appends_one now then x o made.change made.line new makes alone placed c.in-Some-header_keys.keys
+    c.in-Some-header_keys.ensures.keys (c.append.ensures.appended added))
+
+pub returns-in-Some-header_keys-clause-run : goal.returns-in-Some-header_keys-clause-run
+returns-in-Some-header_keys-clause-run c = λ added.
+    let appended = c.append.ensures.appended added in
+    let new = c.append.new.self in
+    let run = then_on c.args.run.now c.is_left_alone.new.self c.keeps_place_in.new.run c.change_in_run.new.opened
+    c.change_in_run.new.planner c.is_left_alone.ensures.rest c.keeps_place_in.ensures.rest c.args.self.now
+    c.requires.run c.change_in_run.ensures.planner c.keeps_place_in.ensures.text in
+    run_at_end c.args.self.now c.keeps_place_in.new.run new new.lines new.tail run appended.rest appended.outlines.seen
+
+pub returns-in-Some-header_keys-clause-refused : goal.returns-in-Some-header_keys-clause-refused
+returns-in-Some-header_keys-clause-refused c = λ refused.
+    let old = c.args.run.now in
+    let left = c.is_left_alone.new.self in
+    let then = c.keeps_place_in.new.run in
+    let opened = c.change_in_run.new.opened in
+    let planner = c.change_in_run.new.planner in
+    unchanged_as old then opened planner left.left then.is_text_plain
+    (then_is old left then opened planner c.is_left_alone.ensures.rest c.keeps_place_in.ensures.rest)
+    c.append.new.self (c.append.ensures.refused refused)
+
+pub returns-then-comes_below-clause-added : goal.returns-then-comes_below-clause-added
+returns-then-comes_below-clause-added c = λ added.
+    let now = c.args.self.now in
+    let x = c.args.edit.now in
+    let old = c.args.run.now in
+    let o = c.of-outline.result in
+    let made = c.in-Some.made in
+    let at = (change_of made.change).at in
+    let left = c.is_left_alone.new.self in
+    let then = c.keeps_place_in.new.run in
+    let opened = c.change_in_run.new.opened in
+    let planner = c.change_in_run.new.planner in
+    let new = c.put_below.new.run in
+    let is = then_is old left then opened planner c.is_left_alone.ensures.rest c.keeps_place_in.ensures.rest in
+    let makes = subst (λ a. MakesInRunHere now x a made.change made.line) (sym c.of-outline.ensures)
+    c.in-Some.ensures.made in
+    let alone = alone_as old then opened planner left.left then.is_text_plain is o
+    (c.is_left_alone.ensures.alone c.if-not-is_left_alone.false) in
+    let placed = subst (λ (s : AtOnce). IsPlacedAmong now.text s.changes o at)
+    (sym (ap (λ (r : KindsRun). r.so_far) c.keeps_place_in.ensures.rest))
+    (c.keeps_place_in.ensures.placed c.if-not-keeps_place_in.false) in
+    added_as old then opened planner left.left then.is_text_plain is now x new
+    (puts_below now then x o made.change made.line new makes alone placed (c.put_below.ensures.put added))
+
+pub returns-then-comes_below-clause-run : goal.returns-then-comes_below-clause-run
+returns-then-comes_below-clause-run c = λ added.
+    let put = c.put_below.ensures.put added in
+    let new = c.put_below.new.run in
+    let run = then_on c.args.run.now c.is_left_alone.new.self c.keeps_place_in.new.run c.change_in_run.new.opened
+    c.change_in_run.new.planner c.is_left_alone.ensures.rest c.keeps_place_in.ensures.rest c.args.self.now
+    c.requires.run c.change_in_run.ensures.planner c.keeps_place_in.ensures.text in
+    run_at_end c.args.self.now c.keeps_place_in.new.run new new.lines new.tail run put.rest put.outlines.seen
+
+pub returns-then-comes_below-clause-refused : goal.returns-then-comes_below-clause-refused
+returns-then-comes_below-clause-refused c = λ refused.
+    let old = c.args.run.now in
+    let left = c.is_left_alone.new.self in
+    let then = c.keeps_place_in.new.run in
+    let opened = c.change_in_run.new.opened in
+    let planner = c.change_in_run.new.planner in
+    unchanged_as old then opened planner left.left then.is_text_plain
+    (then_is old left then opened planner c.is_left_alone.ensures.rest c.keeps_place_in.ensures.rest)
+    c.put_below.new.run (c.put_below.ensures.refused refused)
 
 pub returns-clause-added : goal.returns-clause-added
 returns-clause-added c = λ added.
@@ -68,66 +153,42 @@ returns-clause-added c = λ added.
     let old = c.args.run.now in
     let o = c.of-outline.result in
     let made = c.in-Some.made in
-    let t = change_of made.change in
-    let left = c.leave_alone.ensures.added c.if-not-leave_alone.false in
-    let rest = c.leave_alone.ensures.rest in
-    let rest_then = c.keeps_place_in.ensures.rest in
+    let at = (change_of made.change).at in
+    let left = c.is_left_alone.new.self in
     let then = c.keeps_place_in.new.run in
-    let same : c.leave_alone.new.self.so_far ≡ old.so_far = ap (λ (r : KindsRun). r.so_far) rest in
-    let same_then : then.so_far ≡ old.so_far = ap (λ (r : KindsRun). r.so_far) rest_then ∙ same in
-    let same_lines : then.lines ≡ old.lines =
-    ap (λ (r : KindsRun). r.lines) rest_then ∙ ap (λ (r : KindsRun). r.lines) rest in
-    let same_gone : then.gone ≡ old.gone =
-    ap (λ (r : KindsRun). r.gone) rest_then ∙ ap (λ (r : KindsRun). r.gone) rest in
-    record {
-      outline = o;
-      change = made.change;
-      line = made.line;
-      makes = subst (λ a. MakesInRunHere now x a made.change made.line) (sym c.of-outline.ensures)
-          c.in-Some.ensures.made;
-      alone = left.alone;
-      elsewhere = left.elsewhere;
-      placed = subst (λ (s : AtOnce). IsPlacedAmong now.text s.changes o t.at) same
-          (c.keeps_place_in.ensures.placed c.if-not-keeps_place_in.false);
-      added = in_order now x old then o t made.line c.is_empty-is_none_gone.result
-          (record then { so_far = c.add_in_order.new.so_far; lines = c.add_in_order.new.lines }) same_then same_lines
-          same_gone c.is_empty-is_none_gone.ensures.0 (c.add_in_order.ensures.added added);
-      outlines = c.add_in_order.ensures.outlines added ∙ ap (λ (s : AtOnce). s.outlines.items ++ o ∷ []) same_then;
-      gone = same_gone;
-    }
+    let opened = c.change_in_run.new.opened in
+    let planner = c.change_in_run.new.planner in
+    let new = c.add_before.new.run in
+    let is = then_is old left then opened planner c.is_left_alone.ensures.rest c.keeps_place_in.ensures.rest in
+    let makes = subst (λ a. MakesInRunHere now x a made.change made.line) (sym c.of-outline.ensures)
+    c.in-Some.ensures.made in
+    let alone = alone_as old then opened planner left.left then.is_text_plain is o
+    (c.is_left_alone.ensures.alone c.if-not-is_left_alone.false) in
+    let placed = subst (λ (s : AtOnce). IsPlacedAmong now.text s.changes o at)
+    (sym (ap (λ (r : KindsRun). r.so_far) c.keeps_place_in.ensures.rest))
+    (c.keeps_place_in.ensures.placed c.if-not-keeps_place_in.false) in
+    added_as old then opened planner left.left then.is_text_plain is now x new
+    (adds_one now then x o made.change made.line new makes alone placed
+    (c.header_keys.ensures.other (none_unless c.header_keys.result c.in_default-header_keys.not-Some))
+    (c.add_before.ensures.added added))
 
 pub returns-clause-run : goal.returns-clause-run
 returns-clause-run c = λ added.
+    let now = c.args.self.now in
+    let made = c.in-Some.made in
+    let run = then_on c.args.run.now c.is_left_alone.new.self c.keeps_place_in.new.run c.change_in_run.new.opened
+    c.change_in_run.new.planner c.is_left_alone.ensures.rest c.keeps_place_in.ensures.rest now c.requires.run
+    c.change_in_run.ensures.planner c.keeps_place_in.ensures.text in
+    run_before now c.keeps_place_in.new.run c.args.edit.now c.of-outline.result made.change made.line
+    c.add_before.new.run run (c.add_before.ensures.added added)
+
+pub returns-clause-refused : goal.returns-clause-refused
+returns-clause-refused c = λ refused.
     let old = c.args.run.now in
-    let run = c.requires.run in
-    let o = c.of-outline.result in
-    let t = change_of c.in-Some.made.change in
-    let new = c.add_in_order.new.so_far in
-    let seen_now = IsSeen c.leave_alone.new.self.paths in
-    let left = c.leave_alone.ensures.added c.if-not-leave_alone.false in
-    let rest = c.leave_alone.ensures.rest in
-    let rest_then = c.keeps_place_in.ensures.rest in
-    let same : c.keeps_place_in.new.run.so_far ≡ old.so_far =
-    ap (λ (r : KindsRun). r.so_far) rest_then ∙ ap (λ (r : KindsRun). r.so_far) rest in
-    let pushed : new.outlines.items ≡ old.so_far.outlines.items ++ o ∷ [] =
-    c.add_in_order.ensures.outlines added ∙ ap (λ (s : AtOnce). s.outlines.items ++ o ∷ []) same in
-    record {
-      seen = (
-        subst (λ (paths : SeenPaths). All (IsSeen paths) new.outlines.items)
-            (sym (ap (λ (r : KindsRun). r.paths) rest_then))
-            (subst (All seen_now) (sym pushed)
-            (more_seen (IsSeen old.paths) seen_now old.so_far.outlines.items o left.others left.seen run.seen.0)),
-        subst₂ (λ (paths : SeenPaths) (g : GoneBetween). All (IsArraySeen paths) g.arrays.items)
-            (sym (ap (λ (r : KindsRun). r.paths) rest_then))
-            (sym (ap (λ (r : KindsRun). r.gone) rest_then ∙ ap (λ (r : KindsRun). r.gone) rest))
-            (arrays_still old.paths c.leave_alone.new.self.paths left.others old.gone.arrays.items run.seen.1),
-      );
-      text = c.keeps_place_in.ensures.text;
-      plain = λ yes.
-          let (before, more) = c.add_in_order.ensures.plain added yes in
-          more
-          (subst (λ (s : AtOnce). All (λ (d : TextChange). IsPlain d.new) s.changes) (sym same)
-          (run.plain (sym (ap (λ (s : AtOnce). s.are_plain) same) ∙ before)));
-      planner = ap (λ (r : KindsRun). r.planner) rest_then ∙ c.change_in_run.ensures.planner
-          ∙ ap (λ (r : KindsRun). r.planner) rest ∙ run.planner;
-    }
+    let left = c.is_left_alone.new.self in
+    let then = c.keeps_place_in.new.run in
+    let opened = c.change_in_run.new.opened in
+    let planner = c.change_in_run.new.planner in
+    unchanged_as old then opened planner left.left then.is_text_plain
+    (then_is old left then opened planner c.is_left_alone.ensures.rest c.keeps_place_in.ensures.rest)
+    c.add_before.new.run (c.add_before.ensures.refused refused)

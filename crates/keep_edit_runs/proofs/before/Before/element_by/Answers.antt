@@ -1,9 +1,16 @@
-use Rattle.std.proofs.Common.{ap}
-use Rattle.std.proofs.lemmas.Option.{IfSome_then}
-use Rattle.keep_edit_runs.specs.KindsRun.{with_gone}
+-- The array of the element is kept, and its path is where paths change once the element is gone: so the edits at the
+-- end of the text are elsewhere than there.
+use Rattle.std.proofs.Common.{◌≡◌, ◌∙◌, All, Some, ap, length, subst, subst₂}
+use Rattle.keep_edit_spec.specs.Edits.{remove}
+use Rattle.keep_edit_spec.specs.ElementRuns.{IsElsewhere, changed_path}
+use Rattle.keep_edit_plan.specs.Reading.{ProfiledText}
+use Rattle.keep_edit_runs.specs.GoneBetween.{RemovesElementHere}
+use Rattle.keep_edit_runs.specs.KindsRun.{LetsChange, with_gone}
+use Rattle.keep_edit_runs.specs.Runs.{outlined}
 use Rattle.keep_edit_runs.specs.declared.gone_between.GoneBetween.{GoneBetween}
 use Rattle.keep_edit_runs.specs.declared.kinds_run.KindsRun.{KindsRun}
-use Rattle.keep_edit_runs.proofs.ElementArrays.{element_here}
+use Rattle.keep_edit_runs.specs.declared.tail.Tail.{Tail}
+use Rattle.keep_edit_runs.proofs.ElementArrays.{element_here, removed_path}
 use Rattle.keep_edit_runs.proofs.before.Before.element_by.Goals as goal
 
 pub returns-clause-found : goal.returns-clause-found
@@ -11,16 +18,31 @@ returns-clause-found c =
     let now = c.args.self.now in
     let old = c.args.run.now in
     let x = c.args.edit.now in
+    let path = c.in-Remove.path in
+    let array = c.in_ok-array_of.field-0 in
+    let change = c.in_ok-change.change in
     let kept = c.keep_array.ensures.kept c.if-not-keep_array.false in
-    let gone : GoneBetween = record { elements = c.section_by.new.gone; arrays = c.keep_array.new.self.gone.arrays } in
+    let gone : GoneBetween =
+    record { elements = c.section_by.new.gone; arrays = c.keep_array.new.self.gone.arrays } in
     let outlines = old.so_far.outlines.items in
-    IfSome_then c.section_by.result
-    (element_here now old.gone gone c.keep_array.new.self.gone.elements outlines x c.in-Remove.path
-    c.in_ok-array_of.field-0 c.section_by.result kept.elements c.in-Remove.is c.in_ok-array_of.ensures kept.own
-    kept.elsewhere c.section_by.ensures) (λ t removes. record {
+    let removes : RemovesElementHere now old.gone gone outlines x change =
+    element_here now old.gone gone c.keep_array.new.self.gone.elements outlines x path array (Some change)
+    kept.elements c.in-Remove.is c.in_ok-array_of.ensures kept.own kept.elsewhere c.in_ok-change.ensures in
+    let here : array ≡ changed_path removes.header.path =
+    c.in_ok-array_of.ensures
+    ∙ ap changed_path (removed_path x path removes.header.path c.in-Remove.is removes.header.is) in
+    record {
       removes = removes;
       arrays = kept.arrays;
       elsewhere = kept.elsewhere;
-      seen = kept.seen;
+      tail = subst (λ a. All (λ o. IsElsewhere a (outlined o)) old.tail.outlines.items) here kept.tail;
+      lets = subst₂ (λ (l : Tail) (d : ProfiledText).
+          LetsChange l.blocks.items (length d.text) (remove removes.header.path) change) c.keep_array.ensures.tail
+          c.self.view_is (c.lets_section.ensures c.if-not-lets_section.false removes.header.path);
+      seen = record {
+        edits = kept.seen.edits;
+        arrays = kept.seen.arrays;
+        tail = kept.seen.tail;
+      };
       rest = ap (λ (r : KindsRun). with_gone r c.keep_array.new.self.paths gone) kept.rest;
-    })
+    }

@@ -1,4 +1,5 @@
--- What the edit takes is put beside the changes of the run; its edits stay as they are.
+-- What the edit takes is put beside the changes of the run; its edits stay as they are, as does what is at the end of
+-- the text.
 use Rattle.std.proofs.Common.{◌∙◌, All, ap, subst, sym}
 use Rattle.keep_edit_spec.specs.Runs.{IsPlain}
 use Rattle.keep_edit_spec.specs.TextChanges.{IsBeside, TextChange, with_change}
@@ -30,8 +31,11 @@ returns-clause-taken c = λ added.
             (sym (ap (λ (s : AtOnce). s.are_plain) same) ∙ before, its);
       };
       elsewhere = subst (AreElsewhere c.element_by.new.run.gone.arrays.items) (sym outlines) found.elsewhere;
+      at_end = found.tail;
+      lets = found.lets;
       outlines = outlines;
       lines = ap (λ (r : KindsRun). r.lines) found.rest;
+      tail = c.element_by.ensures.tail;
     }
 
 pub returns-clause-run : goal.returns-clause-run
@@ -43,10 +47,11 @@ returns-clause-run c = λ added.
     let same = c.element_by.ensures.edits in
     let (beside, changes) = c.add_change.ensures.changes added in
     record {
-      seen = (
-        subst (All (IsSeen c.element_by.new.run.paths)) (sym c.add_change.ensures.outlines) found.seen.0,
-        found.seen.1,
-      );
+      seen = record {
+        edits = subst (All (IsSeen c.element_by.new.run.paths)) (sym c.add_change.ensures.outlines) found.seen.edits;
+        arrays = found.seen.arrays;
+        tail = found.seen.tail;
+      };
       text = λ yes. run.text (sym (ap (λ (r : KindsRun). r.is_text_plain) found.rest) ∙ yes);
       plain = λ yes.
           let (before, its) = c.add_change.ensures.plain added yes in

@@ -1,3 +1,5 @@
+-- An array that is there already is known, and the edits of the run are elsewhere than in it; those at the end of the
+-- text are compared with it. A new one is known then by its path, too.
 use Rattle.std.proofs.Common.{◌∙◌, All, List, refl, subst, sym}
 use Rattle.std.specs.Result.{is_ok}
 use Rattle.std.proofs.lemmas.List.Elements.{All-push, All-weaker}
@@ -12,6 +14,23 @@ use Rattle.keep_edit_runs.proofs.SeenLaws.{was_added}
 use Rattle.keep_edit_runs.proofs.SeenPathLaws.{arrays_still}
 use Rattle.keep_edit_runs.proofs.kinds_run.KindsRun.keep_array.Goals as goal
 use Rattle.keep_edit_runs.proofs.kinds_run.KindsRun.keep_array.Goals.{else-are_elsewhere, then-are_elsewhere}
+
+pub returns-then-has_array-clause-kept : goal.returns-then-has_array-clause-kept
+returns-then-has_array-clause-kept c = λ kept.
+    let seen = c.requires.seen in
+    record {
+      own = c.has_array.ensures c.if-has_array.true;
+      arrays = λ a has. has;
+      elsewhere = c.requires.elsewhere;
+      tail = c.are_elsewhere.ensures kept;
+      seen = record {
+        edits = seen.edits;
+        arrays = seen.arrays;
+        tail = seen.tail;
+      };
+      elements = refl;
+      rest = refl;
+    }
 
 pub returns-then-unwrap_or-clause-kept : goal.returns-then-unwrap_or-clause-kept
 returns-then-unwrap_or-clause-kept c = λ kept.
@@ -30,7 +49,7 @@ returns-then-unwrap_or-clause-kept c = λ kept.
           (sym w.value-is ∙ c.if-not-are_elsewhere.false))
       | then-are_elsewhere w ↦
           All-weaker (IsSeen old.paths) (λ (o : Outline). IsElsewhere array (outlined o))
-          (c.are_elsewhere.ensures w.if-are_elsewhere.true) outlines c.requires.seen.0
+          (c.are_elsewhere-2.ensures w.if-are_elsewhere.true) outlines c.requires.seen.edits
     ] in
     let seen : IsArraySeen paths array =
     subst (λ (a : List Part). IsSeen paths (Remove a)) c.same.ensures
@@ -40,12 +59,14 @@ returns-then-unwrap_or-clause-kept c = λ kept.
       own = own_array arrays now array is;
       arrays = array_still arrays now array is;
       elsewhere = with_array arrays now array is outlines c.requires.elsewhere elsewhere;
-      seen = (
-        All-weaker (IsSeen old.paths) (IsSeen paths) c.add.ensures.others outlines c.requires.seen.0,
-        subst (All (IsArraySeen paths)) (sym is)
+      tail = c.are_elsewhere-3.ensures c.if-not-are_elsewhere-2.false;
+      seen = record {
+        edits = All-weaker (IsSeen old.paths) (IsSeen paths) c.add.ensures.others outlines c.requires.seen.edits;
+        arrays = subst (All (IsArraySeen paths)) (sym is)
             (All-push (IsArraySeen paths) arrays array
-            (arrays_still old.paths paths c.add.ensures.others arrays c.requires.seen.1) seen),
-      );
+            (arrays_still old.paths paths c.add.ensures.others arrays c.requires.seen.arrays) seen);
+        tail = c.requires.seen.tail;
+      };
       elements = refl;
       rest = refl;
     }

@@ -1,0 +1,245 @@
+-- A run of edits of several kinds, and the same run after an edit's change was planned: what was opened and planned,
+-- how many pairs may still be compared, and what is known of the text is another (`planned`). All else is as it was, so
+-- what one edit more does to the one it does to the other.
+--
+-- Theorems: `on_planned`: the run is still of that text; `alone_as`, `added_as`, `unchanged_as`: what an edit does to
+-- it; `run_before`, `run_at_end`: the run with one edit more, before what is at the end of the text, or there;
+-- `adds_one`, `appends_one`, `puts_below`: what that edit does.
+use Rattle.std.proofs.Common.{◌≡◌, ◌∙◌, ℕ, All, Bor, Global, List, Option, String, ap, false, inl, inr, refl, subst}
+use Rattle.std.proofs.Common.{sym, true}
+use Rattle.std.specs.Prelude.{Bool}
+use Rattle.keep_edit_spec.specs.Runs.{IsPlain, is_header}
+use Rattle.keep_edit_spec.specs.declared.line_kind.LineKind.{LineKind}
+use Rattle.keep_edit_plan.specs.Reading.{ProfiledText}
+use Rattle.keep_edit_plan.specs.TextEdits.{change_of}
+use Rattle.keep_edit_plan.specs.declared.edit.Edit.{Edit}
+use Rattle.keep_edit_plan.specs.declared.text_edit.TextEdit.{TextEdit}
+use Rattle.keep_edit_runs.specs.KindsRun.{AddsAny, IsAddedBefore, IsAlone, IsAppended, IsInsertedBelow, IsOfHeader}
+use Rattle.keep_edit_runs.specs.KindsRun.{IsPlacedAmong, IsRunOn, IsUnchanged, with_tail}
+use Rattle.keep_edit_runs.specs.Runs.{MakesInRunHere, outlined}
+use Rattle.keep_edit_runs.specs.SeenPaths.{IsArraySeen, IsSeen}
+use Rattle.keep_edit_runs.specs.declared.added_lines.AddedLines.{AddedLines}
+use Rattle.keep_edit_runs.specs.declared.gone_between.GoneBetween.{GoneBetween}
+use Rattle.keep_edit_runs.specs.declared.kinds_run.KindsRun.{KindsRun}
+use Rattle.keep_edit_runs.specs.declared.opened.OpenValues.{OpenValues}
+use Rattle.keep_edit_runs.specs.declared.outline.Outline.{Outline}
+use Rattle.keep_edit_runs.specs.declared.tail.Block.{Block}
+use Rattle.keep_edit_runs.specs.declared.tail.Tail.{Tail}
+use Rattle.keep_edit_runs.proofs.SeenLaws.{more_seen}
+use Rattle.keep_edit_runs.proofs.SeenPathLaws.{arrays_still}
+
+-- what comes at the end of the text
+abbrev pub blocks_in : Tail → List Block
+blocks_in tail = tail.blocks.items
+
+abbrev pub planned : KindsRun → OpenValues → ProfiledText → ℕ → Bool → KindsRun
+planned run opened planner left plain =
+    record run { opened = opened; planner = planner; left = left; is_text_plain = plain }
+
+module _ (old then : KindsRun) (opened : OpenValues) (planner : ProfiledText) (left : ℕ) (plain : Bool)
+    (is : then ≡ planned old opened planner left plain) where
+  pub on_planned : (now : ProfiledText) → IsRunOn now old → planner ≡ now → (plain ≡ true → IsPlain now.text)
+      → IsRunOn now then
+  on_planned now run same text = subst (IsRunOn now) (sym is) (record {
+    seen = record {
+      edits = run.seen.edits;
+      arrays = run.seen.arrays;
+      tail = run.seen.tail;
+    };
+    text = text;
+    plain = run.plain;
+    planner = same;
+  })
+
+  pub alone_as : (o : Outline) → IsAlone old o → IsAlone then o
+  alone_as o alone = subst (λ (r : KindsRun). IsAlone r o) (sym is) (record {
+    edits = alone.edits;
+    tail = alone.tail;
+    elsewhere = alone.elsewhere;
+  })
+
+  pub unchanged_as : (new : KindsRun) → IsUnchanged then new → IsUnchanged old new
+  unchanged_as new = subst (λ (r : KindsRun). IsUnchanged r new → IsUnchanged old new) (sym is) (λ h. record {
+    changes = h.changes;
+    tail = h.tail;
+  })
+
+  pub added_as : (now : ProfiledText) (x : Edit) (new : KindsRun) → AddsAny now then x new → AddsAny now old x new
+  added_as now x new = subst (λ (r : KindsRun). AddsAny now r x new → AddsAny now old x new) (sym is) by
+    where
+      its : (o : Outline) → IsAlone (planned old opened planner left plain) o → IsAlone old o
+      its o h = record {
+        edits = h.edits;
+        tail = h.tail;
+        elsewhere = h.elsewhere;
+      }
+
+      by : AddsAny now (planned old opened planner left plain) x new → AddsAny now old x new
+      by (inl h) = inl (record {
+        outline = h.outline;
+        other = h.other;
+        change = h.change;
+        line = h.line;
+        makes = h.makes;
+        alone = its h.outline h.alone;
+        lets = h.lets;
+        placed = h.placed;
+        added = h.added;
+        outlines = h.outlines;
+        gone = h.gone;
+        tail = h.tail;
+      })
+      by (inr (inl h)) =
+          let put = h.appended in
+          inr (inl (record {
+            outline = h.outline;
+            keys = h.keys;
+            header = h.header;
+            change = h.change;
+            line = h.line;
+            makes = h.makes;
+            alone = its h.outline h.alone;
+            placed = h.placed;
+            appended = record {
+              plain = put.plain;
+              lines = put.lines;
+              added = put.added;
+              outlines = put.outlines;
+              rest = refl;
+            };
+            same = h.same;
+            gone = h.gone;
+          }))
+      by (inr (inr h)) =
+          let put = h.inserted in
+          inr (inr (record {
+            outline = h.outline;
+            change = h.change;
+            line = h.line;
+            makes = h.makes;
+            alone = its h.outline h.alone;
+            placed = h.placed;
+            inserted = record {
+              first = put.first;
+              is = put.is;
+              line_is = put.line_is;
+              clear = put.clear;
+              beside = put.beside;
+              number = put.number;
+              block = put.block;
+              text = put.text;
+              written = put.written;
+              plain = put.plain;
+              lines = put.lines;
+              put = put.put;
+              outlines = put.outlines;
+              rest = refl;
+            };
+            same = h.same;
+            gone = h.gone;
+          }))
+
+-- ---- one edit more
+
+-- before what is at the end of the text
+pub run_before : (now : ProfiledText) (old : KindsRun) (x : Edit) (o : Outline) (t : TextEdit) (line : Option LineKind)
+    (new : KindsRun) → IsRunOn now old → IsAddedBefore now old x o t line new → IsRunOn now new
+run_before now old x o t line new run added = record {
+  seen = record {
+    edits = subst (All (IsSeen new.paths)) (sym added.outlines)
+        (more_seen (IsSeen old.paths) (IsSeen new.paths) old.so_far.outlines.items o added.others added.seen
+        run.seen.edits);
+    arrays = subst (λ (g : GoneBetween). All (IsArraySeen new.paths) g.arrays.items)
+        (sym (ap (λ (r : KindsRun). r.gone) added.rest))
+        (arrays_still old.paths new.paths added.others old.gone.arrays.items run.seen.arrays);
+    tail = subst (λ (l : Tail). All (IsSeen l.paths) l.outlines.items)
+        (sym (ap (λ (r : KindsRun). r.tail) added.rest)) run.seen.tail;
+  };
+  text = λ yes. run.text (sym (ap (λ (r : KindsRun). r.is_text_plain) added.rest) ∙ yes);
+  plain = λ yes. let (before, more) = added.plain yes in more (run.plain before);
+  planner = ap (λ (r : KindsRun). r.planner) added.rest ∙ run.planner;
+}
+
+-- there
+pub run_at_end : (now : ProfiledText) (old new : KindsRun) (lines : AddedLines) (tail : Tail) → IsRunOn now old
+    → new ≡ with_tail old lines tail → All (IsSeen tail.paths) tail.outlines.items → IsRunOn now new
+run_at_end now old new lines tail run is seen = subst (IsRunOn now) (sym is) (record {
+  seen = record {
+    edits = run.seen.edits;
+    arrays = run.seen.arrays;
+    tail = seen;
+  };
+  text = run.text;
+  plain = run.plain;
+  planner = run.planner;
+})
+
+-- so it does if it was added before what is at the end, or put there
+module _ (now : ProfiledText) (old : KindsRun) (x : Edit) (o : Outline) (t : TextEdit) (line : Option LineKind)
+    (new : KindsRun) (makes : MakesInRunHere now x (outlined o) t line) (alone : IsAlone old o)
+    (placed : IsPlacedAmong now.text old.so_far.changes o (change_of t).at) where
+  pub adds_one : is_header (outlined o) ≡ false → IsAddedBefore now old x o t line new → AddsAny now old x new
+  adds_one other h = inl (record {
+    outline = o;
+    other = other;
+    change = t;
+    line = line;
+    makes = makes;
+    alone = alone;
+    lets = h.lets;
+    placed = placed;
+    added = h.added;
+    outlines = h.outlines;
+    gone = ap (λ (r : KindsRun). r.gone) h.rest;
+    tail = ap (λ (r : KindsRun). r.tail) h.rest;
+  })
+
+  pub appends_one : (keys : Bor (List (String Global))) → IsOfHeader o keys → IsAppended old o keys t new
+      → AddsAny now old x new
+  appends_one keys header h = inr (inl (record {
+    outline = o;
+    keys = keys;
+    header = header;
+    change = t;
+    line = line;
+    makes = makes;
+    alone = alone;
+    placed = placed;
+    appended = record {
+      plain = h.plain;
+      lines = h.lines;
+      added = h.added;
+      outlines = h.outlines;
+      rest = refl;
+    };
+    same = ap (λ (r : KindsRun). r.so_far) h.rest;
+    gone = ap (λ (r : KindsRun). r.gone) h.rest;
+  }))
+
+  pub puts_below : IsInsertedBelow now old x o t line new → AddsAny now old x new
+  puts_below h = inr (inr (record {
+    outline = o;
+    change = t;
+    line = line;
+    makes = makes;
+    alone = alone;
+    placed = placed;
+    inserted = record {
+      first = h.first;
+      is = h.is;
+      line_is = h.line_is;
+      clear = h.clear;
+      beside = h.beside;
+      number = h.number;
+      block = h.block;
+      text = h.text;
+      written = h.written;
+      plain = h.plain;
+      lines = h.lines;
+      put = h.put;
+      outlines = h.outlines;
+      rest = refl;
+    };
+    same = ap (λ (r : KindsRun). r.so_far) h.rest;
+    gone = ap (λ (r : KindsRun). r.gone) h.rest;
+  }))
