@@ -9,8 +9,8 @@ given to the program as one script, and then each edit as a script of its own, o
 itself. Texts, faults and the number of the refused edit have to be the same. KIND is the name of the method that makes the lists
 here, if all are to be of that kind.
 Most lists are of edits of one kind, a fifth of them of edits of all kinds in turn, among them removes of tables and of elements, and
-inserts into tables that dotted keys make. Some are of lines that come to one byte in an order that jumps, some of new tables and
-elements, each with keys of its own. A fifth of the lines that are changed have a comment. Values are set and keys renamed again,
+inserts into tables that dotted keys make. Some are of lines that come to one byte in an order that jumps, some of headers and of keys that
+come below them at the end of the text, some of new tables and elements, each with keys of its own. A fifth of the lines that are changed have a comment. Values are set and keys renamed again,
 values are set that were inserted, and edits of entries come back to a value, which goes on in the row. Among the edits are some that
 end it: one that is refused, any other of a path that was there before, one that is in another's, one that adds a line at the place of
 a line of another table.
@@ -48,7 +48,7 @@ class Run:
         self.text = document_of(self.random, lambda it: not self.ran([b"check"], it).returncode)
         self.entries = [tuple(it.rsplit(b"\t", 1)) for it in self.ran([b"list"], self.text).stdout.split(b"\n")[:-1]]
         kinds = (self.inserts, self.items, self.removes, self.sections, self.sets, self.renames, self.tables, self.elements)
-        kinds += (self.gone_elements, self.gone_below, self.dotted, self.brought, self.in_any_order, self.filled)
+        kinds += (self.gone_elements, self.gone_below, self.dotted, self.brought, self.in_any_order, self.below, self.filled)
         kinds += (self.parts,) + 3 * (self.all_kinds,)
         self.edits = (getattr(self, kind) if kind else self.random.choice(kinds))()
 
@@ -194,6 +194,43 @@ class Run:
                 edits.append(edit_of(op, below.lstrip(b".") + name))
             else:
                 edits.append(self.insert_or_set(given, 0, table, number, several))
+        return edits
+
+    def below(self):
+        """New headers through tables that no header defines, and keys of these tables, of others and of those that hold them, in an order
+        that jumps; in most lists other edits come between. So many of the keys come at the end of the text, below the last header
+        through their table."""
+        random, nests, paths = self.random, self.with_dotted(), self.with_implicit()
+        if not paths:
+            return self.inserts()
+        few = [it for it in random.sample(paths, min(len(paths), random.choice((2, 4, 10)))) if b"[" not in it] or [b"fresh"]
+        others = [b"", b"dot", *(path for nest in nests for path in nest), *random.sample(paths, min(len(paths), 5))]
+        left = self.some_values()
+        headers, between, several = random.choice((0.3, 0.6)), random.choice((0, 0.2, 0.5)), random.choice((0, 0.2))
+        given, edits = [], []
+        for number in range(self.many):
+            table = random.choice(few)
+            if random.random() < between:
+                if left and random.random() < 0.5:
+                    edits.append(left.pop())
+                else:
+                    edits.append(self.insert_or_set(given, 0.2, random.choice(others), number, several))
+            elif random.random() < headers:
+                op, name = random.choice(((b"table", b"h_%d" % number), (b"element", b"hs_%d" % (number % 5)), (b"table", b"sub.h_%d" % number)))
+                above = table if random.random() < 0.7 else random.choice((b"other", b"fresh.one"))
+                edits.append(edit_of(op, above + b"." + name))
+            else:
+                edits.append(self.insert_or_set(given, random.choice((0, 0, 0.1)), table, number, several))
+        return edits
+
+    def some_values(self):
+        """Sets, renames and removes of values that are there, each of another."""
+        random, edits = self.random, []
+        values = [path for path, kind in self.entries if kind not in (b"table", b"array-of-tables") and b"[" not in path]
+        random.shuffle(values)
+        for number, path in enumerate(values):
+            op = random.choice((b"set", b"rename", b"remove"))
+            edits.append(edit_of(op, path, value_of(random) if op == b"set" else None, b"new_%d" % number if op == b"rename" else None))
         return edits
 
     def items(self):
