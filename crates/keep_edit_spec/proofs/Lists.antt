@@ -190,6 +190,7 @@ pub mod OneMoreBelow
 pub mod GatheredEdits
 pub mod EditsAhead
 pub mod LinesAhead
+pub mod LinesInPlace
 pub mod AheadChanges
 pub mod BehindCounts
 pub mod LinesBehind

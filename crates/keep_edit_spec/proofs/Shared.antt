@@ -85,6 +85,7 @@ pub use Rattle.keep_edit_spec.proofs.Touched.FitLaws.{touched_lines_are_lines}
 pub use Rattle.keep_edit_spec.proofs.Touched.TouchedCuts.{IsCut, touched_in_new_cut}
 pub use Rattle.keep_edit_spec.proofs.Lists.TextChanges.{all_with, follow_with, length_with, one_of_all, rest_of_all}
 pub use Rattle.keep_edit_spec.proofs.Lists.LinesAhead.{run_goes_on_ahead}
+pub use Rattle.keep_edit_spec.proofs.Lists.LinesInPlace.{run_goes_on_in_place}
 pub use Rattle.keep_edit_spec.proofs.Lists.BehindHeaders.{run_goes_on_behind}
 pub use Rattle.keep_edit_spec.proofs.Lists.MadeChanges.{change_lawful}
 pub use Rattle.keep_edit_spec.proofs.Lists.ChangeOrder.{beside_back, one_in_place, put_in_place, with_both}
@@ -92,6 +93,7 @@ pub use Rattle.keep_edit_spec.proofs.Lists.RunLaws.{none_is_run, run_goes_on}
 pub use Rattle.keep_edit_spec.proofs.Lists.LineKinds.{as_kind, kind_is, line_kind}
 pub use Rattle.keep_edit_spec.proofs.Lists.RunLists.{each_of_others, lines_apart, run_goes_on_again, run_is_known}
 pub use Rattle.keep_edit_spec.proofs.Lists.RenameLists.{run_goes_on_renamed}
+pub use Rattle.keep_edit_spec.proofs.Lists.ExchangedChanges.{starts_there}
 pub use Rattle.keep_edit_spec.proofs.Lists.ExchangedEdits.{each_more, lines_more}
 pub use Rattle.keep_edit_spec.proofs.Lists.InsertLists.{run_goes_on_inserted}
 pub use Rattle.keep_edit_spec.proofs.Rename.KeyTexts.{one_key}

@@ -15,6 +15,7 @@ ghost use Rattle.keep_edit_spec.specs.InsertLists as inserts;
 ghost use Rattle.keep_edit_spec.specs.KeyvalLines as keyvals;
 ghost use Rattle.keep_edit_spec.specs.Laws as spec;
 ghost use Rattle.keep_edit_spec.specs.LinesAhead as ahead;
+ghost use Rattle.keep_edit_spec.specs.LinesInPlace as in_place;
 ghost use Rattle.keep_edit_spec.specs.RemovedHeaders as taken;
 ghost use Rattle.keep_edit_spec.specs.RemovedLines as removed;
 ghost use Rattle.keep_edit_spec.specs.RenamedKeys as keys;
@@ -165,13 +166,15 @@ pub fn runs_are_known()
 /// insert comes into a table whose header one of them brought, and adds its line alone behind that. If one of them
 /// sets a value, the run goes on by a set of that value, too: the later set takes the place of the earlier one. So it
 /// goes on where a key that one of them renames is renamed again, if the others leave the first key's rename alone; and
-/// where the value of a line that one of them adds is set: the line is added with the later value.
+/// where the value of a line that one of them adds is set: the line is added with the later value. And it goes on by an
+/// insert at the end of a body whose last line one of them takes, as if the insert had come before that.
 pub fn runs_go_on_again()
     ensures known { lists.RunIsKnown }
     ensures behind { lists.RunGoesOnBehind }
     ensures run { lists.RunGoesOnAgain }
     ensures renamed { renames.RunGoesOnRenamed }
     ensures inserted { inserts.RunGoesOnInserted }
+    ensures place { in_place.RunGoesOnInPlace }
 {}
 
 /// A line that comes to a byte at which earlier edits of such a list brought what has to come behind it comes before

@@ -5,8 +5,8 @@
 -- each follows the one before, one that takes bytes at a place is the only one there (`one_there`). Of two at a place
 -- the one that is put in later is the later one (`put_ahead`).
 --
--- Theorems: `with_both`, `beside_back`, `put_in_place`, `one_in_place`, `put_ahead`; `follow_low`, `goes_before`,
--- `goes_past`.
+-- Theorems: `with_both`, `beside_back`, `put_in_place`, `one_in_place`, `others_in_place`, `put_ahead`; `follow_low`,
+-- `goes_before`, `goes_past`.
 use Rattle.std.proofs.Common.{◌≡◌, ◌≢◌, ℕ, ◌+◌, ◌<◌, ◌≤◌, List, [], ◌∷◌, ◌++◌, All, refl, sym, ap, ap₂}
 use Rattle.std.proofs.Common.{◌∙◌, arith, inl, inr, subst}
 use Rattle.std.specs.Prelude.{◌⊎◌}
@@ -70,14 +70,16 @@ beside_back c d some (inr (less, ends)) = (inl ends, λ same. omega (arith, less
 record IsPut (rest : List TextChange) (c : TextChange) : Type 0 where
   before : List TextChange
   after : List TextChange
+  all : rest ≡ before ++ after
   is : (d : TextChange) → d.at ≡ c.at → with_change rest d ≡ before ++ d ∷ after
 
 is_put : (rest : List TextChange) (c : TextChange) → IsPut rest c
-is_put [] c = record { before = []; after = []; is = λ d same. refl }
+is_put [] c = record { before = []; after = []; all = refl; is = λ d same. refl }
 is_put (x ∷ rest) c = elim (cases_lt c.at x.at) [
   | inl less ↦ record {
     before = [];
     after = x ∷ rest;
+    all = refl;
     is = λ d same. goes_before x rest d (omega (arith, less, same));
   }
   | inr low ↦
@@ -85,6 +87,7 @@ is_put (x ∷ rest) c = elim (cases_lt c.at x.at) [
       record {
         before = x ∷ more.before;
         after = more.after;
+        all = ap (λ (l : List TextChange). x ∷ l) more.all;
         is = λ d same.
             goes_past x rest d (omega (arith, low, same)) ∙ ap (λ (l : List TextChange). x ∷ l) (more.is d same);
       }
@@ -121,6 +124,27 @@ one_there from (y ∷ before) after (z ∷ left) right x c d at some has follow 
     (one_there (y.at + y.size) before after left right x c d at some has follow.1 rest)
     ∙ ap (λ (z : TextChange). z ∷ left ++ d ∷ right) first
 
+-- So the others are the same.
+others_there : (from : ℕ) (before after left right : List TextChange) (c : TextChange) → 0 < c.size
+    → Follow from (before ++ c ∷ after) → before ++ c ∷ after ≡ left ++ c ∷ right → before ++ after ≡ left ++ right
+others_there from [] after [] right c some follow is = cc
+others_there from [] after (y ∷ left) right c some follow is =
+    let rest : after ≡ left ++ c ∷ right = cc in
+    let low : c.at + c.size ≤ c.at =
+    follow_low (c.at + c.size) left right c (subst (Follow (c.at + c.size)) rest follow.1) in
+    absurd (omega (arith, low, some))
+others_there from (y ∷ before) after [] right c some follow is =
+    let first : y ≡ c = cc in
+    let low : y.at + y.size ≤ c.at = follow_low (y.at + y.size) before after c follow.1 in
+    let there : c.at + c.size ≤ c.at = subst (λ (z : TextChange). z.at + z.size ≤ c.at) first low in
+    absurd (omega (arith, there, some))
+others_there from (y ∷ before) after (z ∷ left) right c some follow is =
+    let first : y ≡ z = cc in
+    let rest : before ++ c ∷ after ≡ left ++ c ∷ right = cc in
+    ap (λ (l : List TextChange). y ∷ l)
+    (others_there (y.at + y.size) before after left right c some follow.1 rest)
+    ∙ ap (λ (w : TextChange). w ∷ left ++ right) first
+
 -- A change in a list at the place of c, with which the list is that of the others, is c: another in its place is put
 -- among the others.
 pub put_in_place : (before after rest : List TextChange) (x c d : TextChange) → x.at ≡ d.at → x.size ≡ d.size
@@ -156,6 +180,13 @@ pub one_in_place : (before after rest : List TextChange) (x c : TextChange) → 
 one_in_place before after rest x c at some has follow is =
     let put : IsPut rest c = is_put rest c in
     same_there 0 before after put.before put.after x c at some has follow (is ∙ put.is c refl)
+
+-- And the others are those of the list without it.
+pub others_in_place : (before after rest : List TextChange) (c : TextChange) → 0 < c.size
+    → Follow 0 (before ++ c ∷ after) → before ++ c ∷ after ≡ with_change rest c → rest ≡ before ++ after
+others_in_place before after rest c some follow is =
+    let put : IsPut rest c = is_put rest c in
+    put.all ∙ sym (others_there 0 before after put.before put.after c some follow (is ∙ put.is c refl))
 
 -- ---- one before the last at a place
 

@@ -53,7 +53,7 @@ module _ (s : Document) (edits fewer : List Edit) (are : (P : Edit → Type 0) �
   abbrev bytes : List ℕ
   bytes = text s
 
-  headers_over : (at : ℕ) → IsBeforeHeaders bytes edits at → IsBeforeHeaders bytes fewer at
+  pub headers_over : (at : ℕ) → IsBeforeHeaders bytes edits at → IsBeforeHeaders bytes fewer at
   headers_over at (inl none) =
       inl (list_any_none is_header fewer (are (λ e. is_header e ≡ false) (each_none is_header edits none)))
   headers_over at (inr before) = inr before

@@ -7,8 +7,8 @@
 -- still, since two changes begin at one place only where they did (`order_now`). Of the run only its text is asked
 -- (TextsAfter), and of the edit where it changes that (`IsPlacedChange`).
 --
--- Theorems: `still_placed`, and without the order `stays_placed`; `stays_behind`: of a line behind a header that came;
--- `change_placed`: an edit whose change is known changes the text so.
+-- Theorems: `same_newline`; `still_placed`, and without the order `stays_placed`; `stays_behind`: of a line behind a
+-- header that came; `change_placed`: an edit whose change is known changes the text so.
 use Rattle.std.proofs.Common.{◌≡◌, ◌≢◌, ℕ, ◌+◌, ◌<◌, Bool, List, [], ◌∷◌, length, refl, sym, ap, subst, ◌∙◌, arith, All}
 use Rattle.std.proofs.Common.{inl, inr, true, false, not, ◌&&◌, ◌||◌, ◌≤◌, suc}
 use Rattle.std.specs.Prelude.{IsTrue, ◌==◌, ◌⊎◌}
@@ -269,7 +269,7 @@ module _ (profile : Profile) (limit : ℕ) (s : Document) (edits : List Edit) (c
     (lines : List Added) (now : Document) (r : IsTextAfter profile limit s changes now) (e : Edit)
     (c : TextChange) where
   -- where newlines are alike
-  same_newline : IsTextAfter profile limit s (with_change changes c) (edited_document now e)
+  pub same_newline : IsTextAfter profile limit s (with_change changes c) (edited_document now e)
       → ArePlain (text s) (with_change changes c) → newline_of (edited_document now e) ≡ newline_of now
   same_newline next (plain, new) =
       plain_newline profile limit (edited_document now e) next.editable
