@@ -50,6 +50,7 @@ pub mod HeaderChangeLaws
 pub mod GivenLaws
 pub mod TextEditLaws
 pub mod SaidLaws
+pub mod FreedPlaces
 pub mod ChangeLaws
 pub mod NewTableLaws
 pub mod NewElementLaws

@@ -4,13 +4,14 @@
 -- None overlaps another, so those before that place have ended where the one right before it has, and those from it on
 -- begin no earlier than the first of them. So the new one overlaps none exactly if those two leave it room.
 --
--- Theorems: `follow_order`: the list is in order for the search; `place_found`: where that ends; `left_of_beside`,
--- `right_of_beside`, `room_beside`: the two leave room exactly if none overlaps; `all_insert`, `insert_change`: the
--- list with one edit more; `none_written`, `next_change`, `one_written`: what is written before the first edit and with
--- one more; `takes_it`: an edit that replaces the byte before a place; `others_take_not`, `none_takes`, `one_alone`,
--- `alone_takes`, `all_if_alone`: only one does; `all_further`, `all_changes`, `all_of_one`, `change_at_edit`: what
--- holds of each edit; `has_change`: the change of one; `put_ahead`, `follow_ahead`: one more ahead of others;
--- `set_in_place`, `set_instead`, `follow_replaced`, `both_same`: one in the place of another.
+-- Theorems: `follow_order`, `follow_apart`: the list is in order for the search; `place_found`: where that ends;
+-- `left_of_beside`, `right_of_beside`, `room_beside`: the two leave room exactly if none overlaps; `all_insert`,
+-- `insert_change`: the list with one edit more; `none_written`, `next_change`, `part_is`, `one_written`: what is
+-- written before the first edit and with one more; `takes_it`: an edit that replaces the byte before a place;
+-- `others_take_not`, `none_takes`, `one_alone`, `alone_takes`, `all_if_alone`: only one does; `all_further`,
+-- `all_changes`, `all_of_one`, `change_at_edit`: what holds of each edit; `has_change`: the change of one; `put_ahead`,
+-- `follow_ahead`: one more ahead of others; `set_in_place`, `set_instead`, `follow_replaced`, `both_same`: one in the
+-- place of another.
 use Rattle.std.proofs.Common.{◌≡◌, ℕ, zero, suc, ◌+◌, ◌-◌, ◌<◌, ◌≤◌, true, false, List, [], ◌∷◌, ◌++◌, length}
 use Rattle.std.proofs.Common.{get_or, take, drop, insert, set, map, slice_range, string_bytes, All, leb}
 use Rattle.std.proofs.Common.{IsUtf8, IsCharBoundary, refl, sym, ap, ◌∙◌, subst, append_assoc, drop-cons, add-one}
@@ -49,7 +50,7 @@ follow_low from (t ∷ ts) (suc k) d h w =
     omega (arith, h.0, follow_low (t.place.start + (t.place.end - t.place.start)) ts k d h.1 (omega (arith, w)))
 
 -- Each begins where an earlier one ends or later.
-follow_apart : (from : ℕ) (ts : List TextEdit) (i j : ℕ) (d : TextEdit) → Follow from (map change_of ts) → i < j
+pub follow_apart : (from : ℕ) (ts : List TextEdit) (i j : ℕ) (d : TextEdit) → Follow from (map change_of ts) → i < j
     → j < length ts
     → start_of (get_or ts i d) + ((get_or ts i d).place.end - start_of (get_or ts i d)) ≤ start_of (get_or ts j d)
 follow_apart from [] i j d h l w = absurd (omega (arith, w))
@@ -302,7 +303,7 @@ pub none_written : (bytes : List ℕ) (all : List TextEdit) → IsUtf8 bytes →
 none_written bytes all utf8 h = record { boundary = IsCharBoundary-start bytes utf8; follow = h; is = refl }
 
 -- the part of a text between two bytes
-part_is : (from at : ℕ) (bytes : List ℕ) → from ≤ at → slice_range bytes from at ≡ drop from (take at bytes)
+pub part_is : (from at : ℕ) (bytes : List ℕ) → from ≤ at → slice_range bytes from at ≡ drop from (take at bytes)
 part_is from at bytes h =
     let same : from + (at - from) ≡ at = omega arith in
     sym (drop-take from (at - from) bytes) ∙ ap (λ n. drop from (take n bytes)) same

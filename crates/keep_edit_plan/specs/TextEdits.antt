@@ -1,6 +1,6 @@
 -- Edits of one text, and what changes of the text they are.
 use Rattle.std.specs.Prelude.{◌≡◌, ◌+◌, ◌-◌, ◌<◌, ◌≤◌, ◌++◌, ◌∷◌, [], ℕ, All, List, None, IsCharBoundary, false, true}
-use Rattle.std.specs.Prelude.{length, string_bytes}
+use Rattle.std.specs.Prelude.{length, string_bytes, take}
 use Rattle.keep_syntax.specs.Tree.{Document, Value, text}
 use Rattle.keep_path.specs.Path.{Part}
 use Rattle.keep_meaning.specs.Meaning.{mentions_in}
@@ -8,10 +8,11 @@ use Rattle.keep_meaning.specs.Nodes.{fact_at}
 use Rattle.keep_edit_spec.specs.Edits as law
 use Rattle.keep_edit_spec.specs.Edits.{edited_document, place}
 use Rattle.keep_edit_spec.specs.EntryEdits.{CanHold, MakesSet}
+use Rattle.keep_edit_spec.specs.LinesInPlace.{FreesPlace}
 use Rattle.keep_edit_spec.specs.Refusals.{refusal}
 use Rattle.keep_edit_spec.specs.Runs.{MakesChange, takes_up_to}
 use Rattle.keep_edit_spec.specs.SetValues.{SetsValue}
-use Rattle.keep_edit_spec.specs.TextChanges.{IsBeside, TextChange, change_at}
+use Rattle.keep_edit_spec.specs.TextChanges.{IsBeside, TextChange, change_at, text_with}
 use Rattle.keep_edit_plan.specs.Answers.{IsMadeAt, IsSpanOf}
 use Rattle.keep_edit_plan.specs.Given.{IsEdit}
 use Rattle.keep_edit_plan.specs.Reading.{IsTextOfTree, ProfiledText, limit}
@@ -44,6 +45,20 @@ pub record TakesAlone (at : ℕ) (changes : List TextChange) (c : TextChange) : 
   pub takes : takes_up_to at c ≡ true
   pub earlier : All (λ d. takes_up_to at d ≡ false) before
   pub later : All (λ d. takes_up_to at d ≡ false) after
+
+-- One of the changes frees the place at this byte, where the others are made.
+pub record IsFreed (bytes : List ℕ) (changes : List TextChange) (at : ℕ) : Type 0 where
+  pub before : List TextChange
+  pub c : TextChange
+  pub after : List TextChange
+  pub is : changes ≡ before ++ c ∷ after
+  pub frees : FreesPlace bytes (before ++ after) c at
+
+-- the text with the changes before the one with this number, up to where that begins
+abbrev pub IsTextBefore : List ℕ → List TextChange → ℕ → List ℕ → Type 0
+IsTextBefore bytes changes number new =
+    (before : List TextChange) (c : TextChange) (after : List TextChange) → changes ≡ before ++ c ∷ after
+    → length before ≡ number → new ≡ text_with 0 (take c.at bytes) before
 
 -- the change comes in the place of one that takes the same bytes
 pub record IsReplaced (old : List TextChange) (d : TextChange) (new : List TextChange) : Type 0 where

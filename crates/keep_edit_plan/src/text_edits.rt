@@ -6,8 +6,8 @@ ghost use Rattle.std.specs.List.{list_any};
 ghost use Rattle.keep_edit_spec.specs.Runs.{LeavesPlace, LetsCome, takes_up_to};
 ghost use Rattle.keep_edit_spec.specs.TextChanges.{IsBeside, text_with, with_change};
 ghost use Rattle.keep_edit_plan.specs.SaidSpans.{Leaves};
-ghost use Rattle.keep_edit_plan.specs.TextEdits.{HasChange, HasInstead, IsChangeIn, IsOrdered, IsPutAhead, IsReplaced};
-ghost use Rattle.keep_edit_plan.specs.TextEdits.{TakesAlone, change_of};
+ghost use Rattle.keep_edit_plan.specs.TextEdits.{HasChange, HasInstead, IsChangeIn, IsFreed, IsOrdered, IsPutAhead};
+ghost use Rattle.keep_edit_plan.specs.TextEdits.{IsReplaced, IsTextBefore, TakesAlone, change_of};
 
 use crate::said::said_line;
 use crate::text_edit::TextEdit;
@@ -253,6 +253,48 @@ impl TextEdits {
             }
         }
         true
+    }
+
+    /// Whether one of the edits frees this place for a new line: it takes the bytes before the place and writes none,
+    /// and with the others made a line that says something is right before those bytes. It is not known where memory is
+    /// refused. It copies the text before the place.
+    pub fn free_place(&self, alloc: Global, text: &str, place: usize) -> bool
+        requires { All (IsChangeIn text.now) self.now }
+        ensures { IsTrue result → IsFreed text.now self.now place }
+    {
+        let after = self
+            .edits
+            .partition_point(|begun| begun.place.start < place);
+        if after == 0 {
+            return false;
+        }
+        let edit = &self.edits[after - 1];
+        if edit.place.end != place || edit.new.len() > 0 {
+            return false;
+        }
+        match self.text_before(alloc, text, after - 1) {
+            Ok(before) => said_line(before.as_str(), before.len()).is_some(),
+            Err(_) => false,
+        }
+    }
+
+    /// The text with the edits before the one with this number, up to where that begins. The only error is out of
+    /// memory.
+    fn text_before(&self, alloc: Global, text: &str, number: usize) -> Result<String, AllocError>
+        requires within { All (IsChangeIn text.now) self.now }
+        requires few { number < length self.now }
+        ensures { IfOk result (λ new. IsTextBefore text.now self.now number (string_bytes new)) }
+    {
+        let to = self.edits[number].place.start;
+        let mut out = String::with_capacity(alloc, to)?;
+        let mut done = 0;
+        for edit in self.edits[..number].iter() {
+            out.push_str(&text[done..edit.place.start])?;
+            out.push_str(edit.new.as_str())?;
+            done = edit.place.end;
+        }
+        out.push_str(&text[done..to])?;
+        Ok(out)
     }
 
     /// The text after the edits, in one allocation or a few. The only error is out of memory.
