@@ -1,10 +1,11 @@
 -- A run of edits of several kinds, as far as it is gone through, and one edit more of those that do not come at the end
 -- of the text.
 --
--- What such an edit does to the run is one of three things: it makes its own change, does again what another did, or
--- removes an element. For each the steps of ElementSteps and AgainSteps tell that the edits up to it are made.
+-- What such an edit does to the run is one of four things: it makes its own change, also in the place of what another
+-- takes, does again what another did, or removes an element. For each the steps of ElementSteps, InPlaceSteps and
+-- AgainSteps tell that the edits up to it are made.
 --
--- Theorems: `run_begins`: no edits; `adds_one`, `puts_one`, `takes_one`: one more.
+-- Theorems: `run_begins`: no edits; `adds_one`, `adds_in_place`, `puts_one`, `takes_one`: one more.
 use Rattle.std.proofs.Common.{◌≡◌, ◌<◌, [], ℕ, suc, All, List, length, get_or, inl, inr, refl, subst}
 use Rattle.std.proofs.Common.{subst₂, sym}
 use Rattle.std.specs.Prelude.{Bool, true}
@@ -12,7 +13,7 @@ use Rattle.keep_edit_spec.specs.TextChanges.{TextChange}
 use Rattle.keep_edit_plan.specs.declared.edit.Edit.{Edit}
 use Rattle.keep_edit_runs.specs.GoneBetween.{AreElsewhere}
 use Rattle.keep_edit_plan.specs.TextEdits.{change_of}
-use Rattle.keep_edit_runs.specs.KindsRun.{AddsOne, PutsOne, StartsAt, TakesOne}
+use Rattle.keep_edit_runs.specs.KindsRun.{AddsInPlace, AddsOne, PutsOne, StartsAt, TakesOne}
 use Rattle.keep_edit_runs.specs.Runs.{IsAddedInOrder}
 use Rattle.keep_edit_plan.specs.Reading.{ProfiledText}
 use Rattle.keep_edit_runs.specs.SeenPaths.{IsSeen}
@@ -24,6 +25,7 @@ use Rattle.keep_edit_runs.proofs.AgainSteps.{made_once_more}
 use Rattle.keep_edit_runs.proofs.AheadSteps.{more_ahead}
 use Rattle.keep_edit_runs.proofs.ElementSteps.{AreMadeAmong, less_among, more_among, none_gone, placed_too}
 use Rattle.keep_edit_runs.proofs.FollowSteps.{more_following}
+use Rattle.keep_edit_runs.proofs.InPlaceSteps.{more_in_place}
 use Rattle.keep_edit_runs.proofs.RunSteps.{IsPlaced, no_changes}
 
 -- the edits up to this number are made by the run's changes, before what comes at the end of the text
@@ -79,6 +81,16 @@ module _ (edits : List Edit) (first end : ℕ) (now : ProfiledText) (old new : K
           new.lines d x h.outline h.change h.line none lt here h.makes h.alone.edits placed_here follows)
           (empties sure) no_elements)
           h.outlines refl refl h.gone
+
+  pub adds_in_place : AddsInPlace now old x new → AreBaseIn edits first (suc end) now new
+  adds_in_place h =
+      let (no_elements, none) = so_far.none h.none in
+      made_as edits first (suc end) now
+      (none_gone edits first (suc end) now _ new.so_far.changes new.lines old.gone
+      (more_in_place edits first end now old.so_far.outlines.items old.so_far.changes new.so_far.changes old.lines
+      new.lines d x h.outline h.first h.change none lt here h.makes h.is h.alone.edits h.plain h.freed h.added)
+      h.none no_elements)
+      h.outlines refl refl h.gone
 
   pub puts_one : All (IsSeen old.paths) old.so_far.outlines.items → PutsOne now old x new
       → AreBaseIn edits first (suc end) now new

@@ -8,7 +8,7 @@
 -- goes through its table, so none of the inserts below these is into that table (`lets_lines`). Where nothing is at the
 -- end, it is enough that the edit is not refused.
 --
--- Theorems: `lifts_ahead`, `lifts_following`, `lifts_again`.
+-- Theorems: `lifts_ahead`, `lifts_following`, `lifts_in_place`, `lifts_again`.
 use Rattle.std.proofs.Common.{◌≡◌, ◌≤◌, ◌<◌, ◌+◌, ◌∷◌, ◌++◌, [], ℕ, List, take, length, get_or, refl, sym}
 use Rattle.std.proofs.Common.{ap, subst, ◌∙◌, All, IsUtf8, inl, inr, None, Option, Some, arith, cond, false}
 use Rattle.std.proofs.Common.{length-append, length-drop, true}
@@ -45,7 +45,7 @@ use Rattle.keep_edit_plan.specs.TextEdits.{IsChangeIn, change_of}
 use Rattle.keep_edit_plan.specs.declared.edit.Edit.{Edit}
 use Rattle.keep_edit_runs.specs.Again.{IsAgainHere, IsPutAgain}
 use Rattle.keep_edit_runs.specs.AddedLines.{IsHeaderKnown, line_of}
-use Rattle.keep_edit_runs.specs.KindsRun.{AddsOne, LetsAgainBefore, PutsOne}
+use Rattle.keep_edit_runs.specs.KindsRun.{AddsInPlace, AddsOne, LetsAgainBefore, PutsOne}
 use Rattle.keep_edit_runs.specs.Lists.{AreMade, IsEdit}
 use Rattle.keep_edit_runs.specs.Runs.{IsAddedAhead, IsAddedFollowing, IsRunTo}
 use Rattle.keep_edit_runs.specs.Runs.{IsSetBy, changed_text, no_value, outlined, plain}
@@ -63,6 +63,7 @@ use Rattle.keep_edit_runs.proofs.AheadSteps.{made_there as ahead_there}
 use Rattle.keep_edit_runs.proofs.ElementSteps.{placed_too}
 use Rattle.keep_edit_runs.proofs.EndPlaces.{before_last, length_from, plain_text, takes_none}
 use Rattle.keep_edit_runs.proofs.FollowSteps.{made_there as following_there}
+use Rattle.keep_edit_runs.proofs.InPlaceSteps.{made_there as in_place_there}
 use Rattle.keep_edit_runs.proofs.LiftsPlain.{begins_with_header, no_through, one_given}
 use Rattle.keep_edit_runs.proofs.RunSteps.{AreMadeTo}
 use Rattle.keep_edit_runs.proofs.SetAgainSteps.{IsDoneThere, IsSetThere, each_replaced}
@@ -554,6 +555,40 @@ module _ (edits : List Edit) (first end : ℕ) (now : ProfiledText) (old : Kinds
         (subst (λ (g : law.Edit). All (λ y. runs.LeavesAlone (outlined y) g) old.tail.outlines.items) (sym ahead_is)
         k.alone.tail) it.plain ahead_lets)
 
+  -- ---- a line in the place of what another takes
+
+  module _ (new : KindsRun) (k : AddsInPlace now old x new) where
+    abbrev placed_change : TextChange
+    placed_change = change_of k.change
+
+    abbrev placed_seen : law.Edit
+    placed_seen = k.makes.in_run h.tree
+
+    placed_is : plain placed_seen ≡ outlined k.outline
+    placed_is = k.makes.outline_is h.tree h.read
+
+    all_new : (P : TextChange → Type 0) → All P changes → P placed_change → All P new.so_far.changes
+    all_new P every its = subst (All P) (sym k.added.changes_are) (all_with P changes placed_change every its)
+
+    placed : IsInsertThere now.profile h.tree d k.makes.edit placed_seen LastInBody placed_change.new
+    placed =
+        subst
+        (λ (u : Document). IsInsertThere now.profile h.tree u k.makes.edit placed_seen LastInBody placed_change.new)
+        same_tree
+        (in_place_there s all n older now h.tree outlines changes new.so_far.changes old.lines new.lines h.read run x x
+        few here k.outline k.makes.edit placed_seen k.makes.is placed_is k.first k.is placed_change
+        (k.makes.makes h.tree h.read) k.alone.edits k.plain k.freed k.added
+        (all_new (λ b. IsUtf8 b.new) none.utf8 (IsUtf8-string_bytes k.change.new))
+        (all_new (IsChangeIn now.text) none.within (change_in now.text k.change k.makes.within)))
+
+    in_place_lifts : (e : law.Edit) → IsEdit x e → IsLifted now.profile d ts e
+    in_place_lifts e given =
+        subst (IsLifted now.profile d ts) (one_given x k.makes.edit e k.makes.is given)
+        (insert_lifts k.makes.edit placed_seen LastInBody placed_change.new placed
+        (subst (λ (g : law.Edit). All (λ y. runs.LeavesAlone (outlined y) g) old.tail.outlines.items) (sym placed_is)
+        k.alone.tail) k.new_plain
+        (λ i t less. lets_last (added_as d placed.path placed.change) placed.kind_is (get_or ts i t).seen))
+
   -- ---- one behind the header of its table
 
   module _ (new : KindsRun) (k : AddsOne now old x new)
@@ -640,6 +675,11 @@ pub lifts_following : (edits : List Edit) (first end : ℕ) (now : ProfiledText)
     → Lifts edits first end now old x
 lifts_following edits first end now old new x empty k it = λ so_far s older h e given.
     following_lifts edits first end now old x empty so_far s older h new k it e given
+
+pub lifts_in_place : (edits : List Edit) (first end : ℕ) (now : ProfiledText) (old new : KindsRun) (x : Edit)
+    → AddsInPlace now old x new → Lifts edits first end now old x
+lifts_in_place edits first end now old new x k = λ so_far s older h e given.
+    in_place_lifts edits first end now old x k.none so_far s older h new k e given
 
 pub lifts_again : (edits : List Edit) (first end : ℕ) (now : ProfiledText) (old new : KindsRun) (x : Edit)
     → All (IsSeen old.paths) old.so_far.outlines.items → PutsOne now old x new → Lifts edits first end now old x

@@ -3,8 +3,8 @@
 -- what one edit more does to the one it does to the other.
 --
 -- Theorems: `on_planned`: the run is still of that text; `alone_as`, `added_as`, `unchanged_as`: what an edit does to
--- it; `run_before`, `run_at_end`: the run with one edit more, before what is at the end of the text, or there;
--- `adds_one`, `appends_one`, `puts_below`: what that edit does.
+-- it; `run_before`, `run_in_place`, `run_at_end`: the run with one edit more, before what is at the end of the text, or
+-- there; `adds_one`, `appends_one`, `puts_below`, `adds_in_place`: what that edit does.
 use Rattle.std.proofs.Common.{◌≡◌, ◌∙◌, ℕ, All, Bor, Global, List, Option, String, ap, false, inl, inr, refl, subst}
 use Rattle.std.proofs.Common.{sym, true}
 use Rattle.std.specs.Prelude.{Bool}
@@ -14,9 +14,10 @@ use Rattle.keep_edit_plan.specs.Reading.{ProfiledText}
 use Rattle.keep_edit_plan.specs.TextEdits.{change_of}
 use Rattle.keep_edit_plan.specs.declared.edit.Edit.{Edit}
 use Rattle.keep_edit_plan.specs.declared.text_edit.TextEdit.{TextEdit}
-use Rattle.keep_edit_runs.specs.KindsRun.{AddsAny, IsAddedBefore, IsAlone, IsAppended, IsInsertedBelow, IsOfHeader}
+use Rattle.keep_edit_runs.specs.KindsRun.{AddsAny, IsAddedBefore, IsAddedInPlace, IsAlone, IsAppended}
+use Rattle.keep_edit_runs.specs.KindsRun.{IsInsertedBelow, IsOfHeader}
 use Rattle.keep_edit_runs.specs.KindsRun.{IsPlacedAmong, IsRunOn, IsUnchanged, with_tail}
-use Rattle.keep_edit_runs.specs.Runs.{MakesInRunHere, outlined}
+use Rattle.keep_edit_runs.specs.Runs.{IsAddedBehind, MakesInRunHere, outlined}
 use Rattle.keep_edit_runs.specs.SeenPaths.{IsArraySeen, IsSeen}
 use Rattle.keep_edit_runs.specs.declared.added_lines.AddedLines.{AddedLines}
 use Rattle.keep_edit_runs.specs.declared.gone_between.GoneBetween.{GoneBetween}
@@ -110,9 +111,9 @@ module _ (old then : KindsRun) (opened : OpenValues) (planner : ProfiledText) (l
             same = h.same;
             gone = h.gone;
           }))
-      by (inr (inr h)) =
+      by (inr (inr (inl h))) =
           let put = h.inserted in
-          inr (inr (record {
+          inr (inr (inl (record {
             outline = h.outline;
             change = h.change;
             line = h.line;
@@ -137,7 +138,24 @@ module _ (old then : KindsRun) (opened : OpenValues) (planner : ProfiledText) (l
             };
             same = h.same;
             gone = h.gone;
-          }))
+          })))
+      by (inr (inr (inr h))) = inr (inr (inr (record {
+        outline = h.outline;
+        first = h.first;
+        is = h.is;
+        change = h.change;
+        makes = h.makes;
+        alone = its h.outline h.alone;
+        lets = h.lets;
+        plain = h.plain;
+        new_plain = h.new_plain;
+        freed = h.freed;
+        none = h.none;
+        added = h.added;
+        outlines = h.outlines;
+        gone = h.gone;
+        tail = h.tail;
+      })))
 
 -- ---- one edit more
 
@@ -160,7 +178,26 @@ run_before now old x o t line new run added = record {
   planner = ap (λ (r : KindsRun). r.planner) added.rest ∙ run.planner;
 }
 
--- there
+-- so it is in the place of what another takes
+pub run_in_place : (now : ProfiledText) (old : KindsRun) (o : Outline) (t : TextEdit) (line : Option LineKind)
+    (new : KindsRun) → IsRunOn now old → IsAddedInPlace now old o t line new → IsRunOn now new
+run_in_place now old o t line new run added = record {
+  seen = record {
+    edits = subst (All (IsSeen new.paths)) (sym added.outlines)
+        (more_seen (IsSeen old.paths) (IsSeen new.paths) old.so_far.outlines.items o added.others added.seen
+        run.seen.edits);
+    arrays = subst (λ (g : GoneBetween). All (IsArraySeen new.paths) g.arrays.items)
+        (sym (ap (λ (r : KindsRun). r.gone) added.rest))
+        (arrays_still old.paths new.paths added.others old.gone.arrays.items run.seen.arrays);
+    tail = subst (λ (l : Tail). All (IsSeen l.paths) l.outlines.items)
+        (sym (ap (λ (r : KindsRun). r.tail) added.rest)) run.seen.tail;
+  };
+  text = λ yes. run.text (sym (ap (λ (r : KindsRun). r.is_text_plain) added.rest) ∙ yes);
+  plain = λ yes. let (before, more) = added.plain yes in more (run.plain before);
+  planner = ap (λ (r : KindsRun). r.planner) added.rest ∙ run.planner;
+}
+
+-- and at the end of the text
 pub run_at_end : (now : ProfiledText) (old new : KindsRun) (lines : AddedLines) (tail : Tail) → IsRunOn now old
     → new ≡ with_tail old lines tail → All (IsSeen tail.paths) tail.outlines.items → IsRunOn now new
 run_at_end now old new lines tail run is seen = subst (IsRunOn now) (sym is) (record {
@@ -217,7 +254,7 @@ module _ (now : ProfiledText) (old : KindsRun) (x : Edit) (o : Outline) (t : Tex
   }))
 
   pub puts_below : IsInsertedBelow now old x o t line new → AddsAny now old x new
-  puts_below h = inr (inr (record {
+  puts_below h = inr (inr (inl (record {
     outline = o;
     change = t;
     line = line;
@@ -242,4 +279,28 @@ module _ (now : ProfiledText) (old : KindsRun) (x : Edit) (o : Outline) (t : Tex
     };
     same = ap (λ (r : KindsRun). r.so_far) h.rest;
     gone = ap (λ (r : KindsRun). r.gone) h.rest;
-  }))
+  })))
+
+-- or in the place of what one of the others takes
+pub adds_in_place : (now : ProfiledText) (old : KindsRun) (x : Edit) (o : Outline) (t : TextEdit)
+    (line : Option LineKind) (new : KindsRun) → MakesInRunHere now x (outlined o) t line → IsAlone old o
+    → IsAddedInPlace now old o t line new → AddsAny now old x new
+adds_in_place now old x o t line new makes alone h = inr (inr (inr (record {
+  outline = o;
+  first = h.first;
+  is = h.is;
+  change = t;
+  makes = subst (MakesInRunHere now x (outlined o) t) h.last makes;
+  alone = alone;
+  lets = h.lets;
+  plain = h.all_plain;
+  new_plain = h.new_plain;
+  freed = h.freed;
+  none = h.none;
+  added = subst
+      (λ (l : Option LineKind). IsAddedBehind now.text old.lines old.so_far.changes o (change_of t) l new.lines
+      new.so_far.changes) h.last h.added;
+  outlines = h.outlines;
+  gone = ap (λ (r : KindsRun). r.gone) h.rest;
+  tail = ap (λ (r : KindsRun). r.tail) h.rest;
+})))

@@ -6,8 +6,9 @@
 -- edits of the list that is given are made too, with their text (`more_before`).
 --
 -- Theorems: `listed`, `longer_list`; `one_made_tree`, `last_made`; `text_of_ends`, `bytes_are`, `no_ends`,
--- `utf8_behind`; `base_adds`, `base_puts`, `base_takes`: one edit more that changes the text elsewhere; `more_before`:
--- so it is made with what is at the end; `in_begins`: no edits; `in_made`, `in_within`, `in_few`: what the run changes.
+-- `utf8_behind`; `base_adds`, `base_in_place`, `base_puts`, `base_takes`: one edit more that changes the text
+-- elsewhere; `more_before`: so it is made with what is at the end; `in_begins`: no edits; `in_made`, `in_within`,
+-- `in_few`: what the run changes.
 use Rattle.std.proofs.Common.{◌≡◌, ◌∙◌, ◌<◌, ◌≤◌, ◌+◌, ◌∷◌, ◌++◌, [], ℕ, suc, All, IsUtf8, List, length, take, get_or}
 use Rattle.std.proofs.Common.{drop, refl, sym, ap, ap₂, subst, subst₂, arith, inl, inr, append_assoc, append-nil}
 use Rattle.std.proofs.Common.{length-append, cond, IsCharBoundary}
@@ -39,7 +40,8 @@ use Rattle.keep_edit_plan.specs.declared.edit.Edit.{Edit}
 use Rattle.keep_edit_plan.proofs.Shared.{editable}
 use Rattle.keep_edit_runs.specs.AddedLines.{IsHeaderKnown}
 use Rattle.keep_edit_runs.specs.GoneBetween.{IsElementRunTo}
-use Rattle.keep_edit_runs.specs.KindsRun.{AddsOne, IsRunOn, IsRunUpTo, IsUnchanged, PutsOne, StartsAt, TakesOne}
+use Rattle.keep_edit_runs.specs.KindsRun.{AddsInPlace, AddsOne, IsRunOn, IsRunUpTo, IsUnchanged, PutsOne}
+use Rattle.keep_edit_runs.specs.KindsRun.{StartsAt, TakesOne}
 use Rattle.keep_edit_runs.specs.Lists.{AreMade, IsEdit, growth_of}
 use Rattle.keep_edit_runs.specs.Runs.{IsRunTo, LeavesAlone, MakeChanges, changed_text, outlined, plain}
 use Rattle.keep_edit_runs.specs.SeenHeaders.{HasTableOf}
@@ -55,7 +57,7 @@ use Rattle.keep_edit_runs.specs.declared.tail.Block.{Block}
 use Rattle.keep_edit_runs.specs.declared.tail.Tail.{Tail}
 use Rattle.keep_edit_runs.proofs.ElementSteps.{AreMadeAmong}
 use Rattle.keep_edit_runs.proofs.LiftsPlain.{one_given}
-use Rattle.keep_edit_runs.proofs.KindsRunSteps.{AreBaseIn, adds_one, puts_one, run_begins, takes_one}
+use Rattle.keep_edit_runs.proofs.KindsRunSteps.{AreBaseIn, adds_in_place, adds_one, puts_one, run_begins, takes_one}
 use Rattle.keep_edit_runs.proofs.MadeLists.{refused_as, zip_more}
 use Rattle.keep_edit_runs.proofs.MadeMore.{more_made, tree_after}
 use Rattle.keep_edit_runs.proofs.TailRuns.{AreMadeIn, IsClear, IsLifted, IsTableKnown, IsTailTo, Lifts}
@@ -275,6 +277,10 @@ module _ (edits : List Edit) (first end : ℕ) (now : ProfiledText) (old new : K
   pub base_adds : AddsOne now old x new → AreBaseIn longer first (suc (length so_far.own)) now new
   base_adds =
       adds_one longer first (length so_far.own) now old new longer_base more_there x x (last_is so_far.own x x)
+
+  pub base_in_place : AddsInPlace now old x new → AreBaseIn longer first (suc (length so_far.own)) now new
+  base_in_place =
+      adds_in_place longer first (length so_far.own) now old new longer_base more_there x x (last_is so_far.own x x)
 
   pub base_puts : All (IsSeen old.paths) old.so_far.outlines.items → PutsOne now old x new
       → AreBaseIn longer first (suc (length so_far.own)) now new

@@ -8,7 +8,7 @@
 -- Theorem: `run_longer`.
 use Rattle.std.proofs.Common.{◌≡◌, ◌∙◌, ◌<◌, ◌+◌, ◌∷◌, ◌++◌, [], ℕ, suc, All, List, length, arith, refl, sym, ap, ap₂}
 use Rattle.std.proofs.Common.{append-nil, cond, false, get_or, inl, inr, map, subst, true}
-use Rattle.std.specs.Prelude.{◌⊎◌, ◌&&◌, ◌==◌, Bool, Option, nat_lt}
+use Rattle.std.specs.Prelude.{◌⊎◌, ◌&&◌, ◌==◌, Bool, Option, Some, nat_lt}
 use Rattle.std.specs.List.{count_by, list_any}
 use Rattle.std.proofs.lemmas.Bool.{and_left, and_right, ne_eqb, or_parts}
 use Rattle.std.proofs.lemmas.List.Elements.{All-cons, All-head, All-nil, All-tail}
@@ -30,8 +30,8 @@ use Rattle.keep_edit_plan.specs.declared.edit.Edit.{Edit}
 use Rattle.keep_edit_plan.specs.declared.text_edit.TextEdit.{TextEdit}
 use Rattle.keep_edit_runs.specs.AddedLines.{IsCountedMore, IsHeaderKnown}
 use Rattle.keep_edit_runs.specs.Again.{IsAgainHere, IsPutAgain, outlines_of}
-use Rattle.keep_edit_runs.specs.KindsRun.{AddsOne, DoesOne, GoesOn, IsRunOn, LetsAgainBefore, LetsChange}
-use Rattle.keep_edit_runs.specs.KindsRun.{PutsOne, TakesOne}
+use Rattle.keep_edit_runs.specs.KindsRun.{AddsInPlace, AddsOne, DoesOne, GoesOn, IsRunOn, LetsAgainBefore}
+use Rattle.keep_edit_runs.specs.KindsRun.{LetsChange, PutsOne, TakesOne}
 use Rattle.keep_edit_runs.specs.Lists.{IsEdit}
 use Rattle.keep_edit_runs.specs.Runs.{AddsLineAlone, IsAddedInOrder, LeavesAlone, MakesInRun, outlined, plain}
 use Rattle.keep_edit_runs.specs.SeenHeaders.{HasHeader, HasTableOf}
@@ -43,12 +43,12 @@ use Rattle.keep_edit_runs.specs.declared.outline.Outline.{Outline}
 use Rattle.keep_edit_runs.specs.declared.seen_headers.SeenHeaders.{SeenHeaders}
 use Rattle.keep_edit_runs.specs.declared.tail.Tail.{Tail}
 use Rattle.keep_edit_runs.proofs.AheadSteps.{each_ahead}
-use Rattle.keep_edit_runs.proofs.LiftsOthers.{lifts_again, lifts_ahead, lifts_following}
+use Rattle.keep_edit_runs.proofs.LiftsOthers.{lifts_again, lifts_ahead, lifts_following, lifts_in_place}
 use Rattle.keep_edit_runs.proofs.LiftsPlain.{lifts_behind, lifts_taken}
 use Rattle.keep_edit_runs.proofs.SetAgainSteps.{each_replaced}
 use Rattle.keep_edit_runs.proofs.TailBelow.{puts_below}
 use Rattle.keep_edit_runs.proofs.TailEnds.{appends_one}
-use Rattle.keep_edit_runs.proofs.TailLaws.{base_adds, base_puts, base_takes, more_before}
+use Rattle.keep_edit_runs.proofs.TailLaws.{base_adds, base_in_place, base_puts, base_takes, more_before}
 use Rattle.keep_edit_runs.proofs.TailRuns.{AreMadeIn, IsClear, IsEndClear, Lifts}
 
 -- ---- no change takes the last byte
@@ -239,6 +239,36 @@ module _ (edits : List Edit) (first number : ℕ) (now : ProfiledText) (old new 
         (All-nil (λ (o : Outline). All (λ y. LeavesAlone y o) old.tail.outlines.items))))
         headers_stay tables_stay no_header_more adds_clear
 
+  -- it comes in the place of what another takes
+  module _ (adds : AddsInPlace now old x new) where
+    abbrev placed : TextChange
+    placed = change_of adds.change
+
+    placed_clear : IsAccepted now → IsClear now new
+    placed_clear (s, read) = elim (so_far.clear (s, read)) [
+      | inl none ↦ inl (same_end adds.tail none)
+      | inr clear ↦ inr
+          (subst (IsEndClear now.text) (sym adds.added.changes_are)
+          (clear_with now.text old.so_far.changes (with_change old.so_far.changes placed) placed
+          (λ P all its. all_with P old.so_far.changes placed all its) clear adds.new_plain
+          (takes_not (length now.text) placed
+          (inl (insert_takes_none now.profile s adds.makes.edit (adds.makes.in_run s) placed (Some LastInBody)
+          (adds.makes.makes s read)
+          (ap (λ (f : law.Edit). runs.is_insert f) (adds.makes.outline_is s read ∙ adds.is)))))))
+    ]
+
+    pub goes_in_place : AreMadeIn edits first (suc number) now new
+    goes_in_place =
+        let kept = adds.added.kept in
+        let none : count_by runs.is_header (outlined adds.outline ∷ []) ≡ 0 =
+        ap (λ (f : law.Edit). count_by runs.is_header (f ∷ [])) adds.is in
+        more_before edits first number now old new so_far lt x x here adds.makes.edit adds.makes.is
+        (lifts_in_place edits first number now old new x adds)
+        (base_in_place edits first number now old new so_far x adds) adds.tail (adds.outline ∷ []) adds.outlines
+        (inr (All-cons (λ o. All (λ y. LeavesAlone y o) old.tail.outlines.items) adds.outline [] adds.alone.tail
+        (All-nil (λ (o : Outline). All (λ y. LeavesAlone y o) old.tail.outlines.items))))
+        kept.headers kept.tables (omega (arith, kept.counts.appended, none, so_far.no_headers)) placed_clear
+
   -- it does again what another did
   module _ (puts : PutsOne now old x new) where
     again_clear : IsAccepted now → IsClear now new
@@ -330,6 +360,7 @@ run_longer edits first number now old new so_far run lt h = by h.by
     by (inl (inl adds)) = goes_by_change edits first number now old new so_far run lt h.edit h.here adds
     by (inl (inr (inl appends))) =
         appends_one edits first number now old new h.edit h.edit lt h.here so_far appends
-    by (inl (inr (inr puts))) = puts_below edits first number now old new h.edit h.edit lt h.here so_far puts
+    by (inl (inr (inr (inl puts)))) = puts_below edits first number now old new h.edit h.edit lt h.here so_far puts
+    by (inl (inr (inr (inr adds)))) = goes_in_place edits first number now old new so_far run lt h.edit h.here adds
     by (inr (inl puts)) = goes_again edits first number now old new so_far run lt h.edit h.here puts
     by (inr (inr takes)) = goes_by_element edits first number now old new so_far run lt h.edit h.here takes

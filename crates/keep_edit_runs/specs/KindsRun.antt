@@ -11,16 +11,17 @@ use Rattle.keep_edit_spec.specs.Runs as runs
 use Rattle.keep_edit_spec.specs.Runs.{ArePlain, IsPlain, IsPlainBefore, LetsCome, takes_up_to}
 use Rattle.keep_edit_spec.specs.TextChanges.{IsBeside, TextChange, change_at, with_change}
 use Rattle.keep_edit_spec.specs.declared.line_kind.LineKind.{LineKind}
-use Rattle.keep_edit_spec.specs.declared.line_kind.LineKind.TheVariants.{WithHeader}
+use Rattle.keep_edit_spec.specs.declared.line_kind.LineKind.TheVariants.{LastInBody, WithHeader}
 use Rattle.keep_edit_plan.specs.Headers.{key_texts}
-use Rattle.keep_edit_plan.specs.TextEdits.{change_of}
+use Rattle.keep_edit_plan.specs.TextEdits.{IsFreed, change_of}
 use Rattle.keep_edit_plan.specs.declared.edit.Edit.{Edit}
 use Rattle.keep_edit_plan.specs.declared.text_edit.TextEdit.{TextEdit}
 use Rattle.keep_edit_runs.specs.Again.{AllowAgain, IsAgainHere, IsPutAgain, LetsAgain, outlines_of}
 use Rattle.keep_edit_runs.specs.GoneBetween.{AreElsewhere, HasArray, RemovesElementHere, TakesElement}
 use Rattle.keep_edit_plan.specs.Reading.{ProfiledText}
 use Rattle.keep_path.specs.Path.{Part, without_last}
-use Rattle.keep_edit_runs.specs.Runs.{AddsLineAlone, IsAddedInOrder, LeavesAlone, MakesInRunHere, no_value, outlined}
+use Rattle.keep_edit_runs.specs.Runs.{AddsLineAlone, IsAddedBehind, IsAddedInOrder, LeavesAlone, MakesInRunHere}
+use Rattle.keep_edit_runs.specs.Runs.{no_value, outlined}
 use Rattle.keep_edit_runs.specs.Tail.{HeaderIsAdded, IsBlockFor, IsOutlineAdded, IsPutBelow, bytes_of}
 use Rattle.keep_edit_runs.specs.SeenPaths.{IsArraySeen, IsSeen}
 use Rattle.keep_edit_runs.specs.declared.added_lines.AddedLines.{AddedLines}
@@ -124,6 +125,26 @@ pub record AddsOne (now : ProfiledText) (old : KindsRun) (edit : Edit) (new : Ki
   pub lets : LetsChange old.tail.blocks.items (length now.text) (outlined outline) change
   pub placed : IsPlacedAmong now.text old.so_far.changes outline (change_of change).at
   pub added : IsAddedTo now edit old outline (change_of change) line new
+  pub outlines : new.so_far.outlines.items ≡ old.so_far.outlines.items ++ outline ∷ []
+  pub gone : new.gone ≡ old.gone
+  pub tail : new.tail ≡ old.tail
+
+-- It adds a line at the end of a body, behind all others where it begins, in the place of what one of the others takes,
+-- while no element is gone.
+pub record AddsInPlace (now : ProfiledText) (old : KindsRun) (edit : Edit) (new : KindsRun) : Type 0 where
+  pub outline : Outline
+  pub first : List Part
+  pub is : outlined outline ≡ law.insert first no_value
+  pub change : TextEdit
+  pub makes : MakesInRunHere now edit (outlined outline) change (Some LastInBody)
+  pub alone : IsAlone old outline
+  pub lets : LetsChange old.tail.blocks.items (length now.text) (outlined outline) change
+  pub plain : ArePlain now.text old.so_far.changes
+  pub new_plain : IsPlain (string_bytes change.new)
+  pub freed : IsFreed now.text old.so_far.changes (change_of change).at
+  pub none : old.gone.arrays.items ≡ []
+  pub added : IsAddedBehind now.text old.lines old.so_far.changes outline (change_of change) (Some LastInBody) new.lines
+      new.so_far.changes
   pub outlines : new.so_far.outlines.items ≡ old.so_far.outlines.items ++ outline ∷ []
   pub gone : new.gone ≡ old.gone
   pub tail : new.tail ≡ old.tail
@@ -262,6 +283,26 @@ pub record IsAddedBefore (now : ProfiledText) (old : KindsRun) (edit : Edit) (o 
       × (All (λ c. IsPlain c.new) old.so_far.changes → All (λ c. IsPlain c.new) new.so_far.changes)
   pub rest : new ≡ record old { so_far = new.so_far; lines = new.lines; paths = new.paths }
 
+-- An edit with this outline and change is added behind all others where it begins, in the place of what one of them
+-- takes.
+pub record IsAddedInPlace (now : ProfiledText) (old : KindsRun) (o : Outline) (t : TextEdit) (line : Option LineKind)
+    (new : KindsRun) : Type 0 where
+  pub last : line ≡ Some LastInBody
+  pub first : List Part
+  pub is : outlined o ≡ law.insert first no_value
+  pub lets : LetsChange old.tail.blocks.items (length now.text) (outlined o) t
+  pub all_plain : ArePlain now.text old.so_far.changes
+  pub new_plain : IsPlain (string_bytes t.new)
+  pub freed : IsFreed now.text old.so_far.changes (change_of t).at
+  pub none : old.gone.arrays.items ≡ []
+  pub added : IsAddedBehind now.text old.lines old.so_far.changes o (change_of t) line new.lines new.so_far.changes
+  pub outlines : new.so_far.outlines.items ≡ old.so_far.outlines.items ++ o ∷ []
+  pub seen : IsSeen new.paths o
+  pub others : (y : Outline) → IsSeen old.paths y → IsSeen new.paths y
+  pub plain : new.so_far.are_plain ≡ true → (old.so_far.are_plain ≡ true)
+      × (All (λ c. IsPlain c.new) old.so_far.changes → All (λ c. IsPlain c.new) new.so_far.changes)
+  pub rest : new ≡ record old { so_far = new.so_far; lines = new.lines; paths = new.paths; left = new.left }
+
 -- what such an insert writes below the header with this number, without a carriage return
 pub record IsTextBelow (now : ProfiledText) (blocks : List Block) (n : ℕ) (edit : Edit) (made : RunEdit)
     (text : String Global) : Type 0 where
@@ -270,9 +311,11 @@ pub record IsTextBelow (now : ProfiledText) (blocks : List Block) (n : ℕ) (edi
   pub written : (b : Block) → slice_get blocks n ≡ Some b
       → IsWrittenBelow now edit made.change b.table (string_bytes text)
 
--- it makes its own change among the others, or at the end
+-- it makes its own change among the others, at the end, or in the place of another
 abbrev pub AddsAny : ProfiledText → KindsRun → Edit → KindsRun → Type 0
-AddsAny now old edit new = AddsOne now old edit new ⊎ (AppendsOne now old edit new ⊎ PutsBelow now old edit new)
+AddsAny now old edit new =
+    AddsOne now old edit new
+    ⊎ (AppendsOne now old edit new ⊎ (PutsBelow now old edit new ⊎ AddsInPlace now old edit new))
 
 -- the edit does one of these
 abbrev pub DoesOne : ProfiledText → KindsRun → Edit → KindsRun → Type 0

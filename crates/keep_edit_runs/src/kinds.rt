@@ -1,11 +1,12 @@
 //! Edits of several kinds that are made at once, and elements of arrays of tables that go among them.
-ghost use Rattle.std.specs.Prelude.{◌≡◌, ◌+◌, ◌<◌, ◌≤◌, All, IfSome, IsTrue, None, Some, false, length, true};
+ghost use Rattle.std.specs.Prelude.{◌≡◌, ◌+◌, ◌<◌, ◌≤◌, [], All, IfSome, IsTrue, None, Some, false, length, true};
 ghost use Rattle.keep_edit_runs.specs.GoneBetween.{AreElsewhere};
 ghost use Rattle.keep_edit_runs.specs.KindsRun.{AddsAny, AreSeen, FindsElement, GoesOn, IsAddedBefore, IsInsertedBelow};
-ghost use Rattle.keep_edit_runs.specs.KindsRun.{IsPlacedAmong, IsRunOn, IsTextBelow, IsUnchanged, TakesOne, with_text};
+ghost use Rattle.keep_edit_runs.specs.KindsRun.{IsAddedInPlace, IsPlacedAmong, IsRunOn, IsTextBelow, IsUnchanged};
+ghost use Rattle.keep_edit_runs.specs.KindsRun.{TakesOne, with_paths, with_text};
 ghost use Rattle.keep_edit_runs.specs.Runs.{IsPlaceKept, IsSeenAs, MakeChanges, outline};
-ghost use Rattle.keep_edit_plan.specs.TextEdits.{IsChangeIn, IsOrdered};
-ghost use Rattle.keep_edit_spec.specs.Runs.{IsPlain};
+ghost use Rattle.keep_edit_plan.specs.TextEdits.{IsChangeIn, IsFreed, IsOrdered};
+ghost use Rattle.keep_edit_spec.specs.Runs.{ArePlain, IsPlain};
 
 use crate::at_once::{AtOnce, Run, RunEdit, is_plain};
 use crate::before::Before;
@@ -16,6 +17,9 @@ use crate::runs::MOST_AT_ONCE;
 use crate::tail::Tail;
 use keep_edit_plan::{Edit, TextEdit};
 use keep_edit_spec::LineKind;
+
+/// To copy so many bytes counts as to compare one pair of edits.
+const BYTES_A_PAIR: usize = 64;
 
 /// Whether an edit that is seen so removes an element of an array of tables, if its path is there.
 fn is_of_element(edit: &Edit, seen: SeenAs) -> bool {
@@ -102,7 +106,7 @@ impl Before<'_> {
             return false;
         };
         if !self.keeps_place_in(run, &outline, made.change.place.start) {
-            return false;
+            return self.add_in_place(run, number, outline, made);
         }
         if let Some(keys) = outline.header_keys() {
             return run.append(outline, keys, made.change);
@@ -136,6 +140,62 @@ impl Before<'_> {
         let is_none_gone = run.gone.is_empty();
         let (so_far, lines) = (&mut run.so_far, &mut run.lines);
         self.add_in_order(so_far, lines, number, edit, outline, made, is_none_gone)
+    }
+
+    /// Adds a line at the end of a body behind all others where it begins, in the place of what one of the edits takes
+    /// up to there, if that is behind a line that says something, and no element went. Returns whether it was added; if
+    /// not, no change was.
+    fn add_in_place<'a>(
+        &self,
+        run: &mut KindsRun<'a>,
+        number: usize,
+        outline: Outline<'a>,
+        made: RunEdit,
+    ) -> bool
+        requires ordered { IsOrdered made.change }
+        requires run { IsRunOn self.now run.old }
+        requires within { All (IsChangeIn self.now.text) run.old.so_far.changes }
+        ensures added { IsTrue result
+            → IsAddedInPlace self.now run.old outline.entry made.change made.line run.new }
+        ensures refused { result ≡ false → IsUnchanged run.old run.new }
+    {
+        let (Outline::Insert(_), Some(LineKind::LastInBody)) = (&outline, made.line) else {
+            return false;
+        };
+        let at = made.change.place.start;
+        if !is_plain(made.change.new.as_str()) || !self.frees_place_in(run, at) {
+            return false;
+        }
+        if at == self.text.len() && run.lines.has_appended() {
+            return false;
+        }
+        if !run.lets_change(&outline, &made.change, self.text.len())
+            || !run.paths.add(&outline).unwrap_or(false)
+        {
+            return false;
+        }
+        run.lines.keep_line(&run.so_far, &outline, &made)
+            && run.so_far.add(number, outline, made.change)
+    }
+
+    /// Whether one of the edits of a run frees a place for a new line, where no element went, and nothing has a
+    /// carriage return. The text before the place is copied for that, which counts as comparing pairs.
+    fn frees_place_in(&self, run: &mut KindsRun, at: usize) -> bool
+        requires run { IsRunOn self.now run.old }
+        requires within { All (IsChangeIn self.now.text) run.old.so_far.changes }
+        ensures plain { IsTrue result → ArePlain self.now.text run.old.so_far.changes }
+        ensures freed { IsTrue result → IsFreed self.now.text run.old.so_far.changes at }
+        ensures none { IsTrue result → run.old.gone.arrays.items ≡ [] }
+        ensures rest { run.new ≡ with_paths run.old run.old.paths run.new.left }
+    {
+        if !run.gone.is_empty() || !run.is_text_plain || !run.so_far.are_plain {
+            return false;
+        }
+        let Some(left) = run.left.checked_sub(at / BYTES_A_PAIR) else {
+            return false;
+        };
+        run.left = left;
+        run.so_far.changes.free_place(self.alloc(), self.text, at)
     }
 
     /// Adds an insert that would bring the header of its table below the last appended header that goes through the

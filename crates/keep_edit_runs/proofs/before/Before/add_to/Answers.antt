@@ -1,6 +1,7 @@
--- An edit is added to a run in four steps: the others leave it alone; it makes its change; its place is kept; and its
--- change is put beside theirs, in order with the lines, or at the end of the text. The first three leave all else of
--- the run as it was, so what is known of the run before is known of what is left of it after them.
+-- An edit is added to a run in four steps: the others leave it alone; it makes its change; its place is kept, or it may
+-- come in the place of what another takes; and its change is put beside theirs, in order with the lines, or at the end
+-- of the text. The first three leave all else of the run as it was, whether the place is kept or not, so what is known
+-- of the run before is known of what is left of it after them.
 use Rattle.std.proofs.Common.{◌≡◌, ◌∙◌, Bor, Global, List, None, Option, Some, String, ap, refl, subst, sym, true}
 use Rattle.keep_edit_spec.specs.Runs.{IsPlain}
 use Rattle.keep_edit_plan.specs.Reading.{ProfiledText}
@@ -10,8 +11,8 @@ use Rattle.keep_edit_runs.specs.Runs.{MakesInRunHere}
 use Rattle.keep_edit_runs.specs.declared.at_once.AtOnce.{AtOnce}
 use Rattle.keep_edit_runs.specs.declared.kinds_run.KindsRun.{KindsRun}
 use Rattle.keep_edit_runs.specs.declared.opened.OpenValues.{OpenValues}
-use Rattle.keep_edit_runs.proofs.SameRuns.{added_as, adds_one, alone_as, appends_one, on_planned, planned, puts_below}
-use Rattle.keep_edit_runs.proofs.SameRuns.{run_at_end, run_before, unchanged_as}
+use Rattle.keep_edit_runs.proofs.SameRuns.{added_as, adds_in_place, adds_one, alone_as, appends_one, on_planned}
+use Rattle.keep_edit_runs.proofs.SameRuns.{planned, puts_below, run_at_end, run_before, run_in_place, unchanged_as}
 use Rattle.keep_edit_runs.proofs.before.Before.add_to.Goals as goal
 
 -- there is none if it is no keys
@@ -44,6 +45,53 @@ keeps_place_in-requires-clause-run c =
     on_planned old (record left { opened = opened; planner = planner }) opened planner left.left old.is_text_plain
     (ap (λ (r : KindsRun). record r { opened = opened; planner = planner }) rest) c.args.self.now run
     (c.change_in_run.ensures.planner ∙ ap (λ (r : KindsRun). r.planner) rest ∙ run.planner) run.text
+
+pub add_in_place-requires-clause-run : goal.add_in_place-requires-clause-run
+add_in_place-requires-clause-run c =
+    then_on c.args.run.now c.is_left_alone.new.self c.keeps_place_in.new.run c.change_in_run.new.opened
+    c.change_in_run.new.planner c.is_left_alone.ensures.rest c.keeps_place_in.ensures.rest c.args.self.now
+    c.requires.run c.change_in_run.ensures.planner c.keeps_place_in.ensures.text
+
+pub returns-then-not-keeps_place_in-clause-added : goal.returns-then-not-keeps_place_in-clause-added
+returns-then-not-keeps_place_in-clause-added c = λ added.
+    let now = c.args.self.now in
+    let x = c.args.edit.now in
+    let old = c.args.run.now in
+    let o = c.of-outline.result in
+    let made = c.in-Some.made in
+    let left = c.is_left_alone.new.self in
+    let then = c.keeps_place_in.new.run in
+    let opened = c.change_in_run.new.opened in
+    let planner = c.change_in_run.new.planner in
+    let new = c.add_in_place.new.run in
+    let is = then_is old left then opened planner c.is_left_alone.ensures.rest c.keeps_place_in.ensures.rest in
+    let makes = subst (λ a. MakesInRunHere now x a made.change made.line) (sym c.of-outline.ensures)
+    c.in-Some.ensures.made in
+    let alone = alone_as old then opened planner left.left then.is_text_plain is o
+    (c.is_left_alone.ensures.alone c.if-not-is_left_alone.false) in
+    added_as old then opened planner left.left then.is_text_plain is now x new
+    (adds_in_place now then x o made.change made.line new makes alone (c.add_in_place.ensures.added added))
+
+pub returns-then-not-keeps_place_in-clause-run : goal.returns-then-not-keeps_place_in-clause-run
+returns-then-not-keeps_place_in-clause-run c = λ added.
+    let now = c.args.self.now in
+    let made = c.in-Some.made in
+    let run = then_on c.args.run.now c.is_left_alone.new.self c.keeps_place_in.new.run c.change_in_run.new.opened
+    c.change_in_run.new.planner c.is_left_alone.ensures.rest c.keeps_place_in.ensures.rest now c.requires.run
+    c.change_in_run.ensures.planner c.keeps_place_in.ensures.text in
+    run_in_place now c.keeps_place_in.new.run c.of-outline.result made.change made.line c.add_in_place.new.run run
+    (c.add_in_place.ensures.added added)
+
+pub returns-then-not-keeps_place_in-clause-refused : goal.returns-then-not-keeps_place_in-clause-refused
+returns-then-not-keeps_place_in-clause-refused c = λ refused.
+    let old = c.args.run.now in
+    let left = c.is_left_alone.new.self in
+    let then = c.keeps_place_in.new.run in
+    let opened = c.change_in_run.new.opened in
+    let planner = c.change_in_run.new.planner in
+    unchanged_as old then opened planner left.left then.is_text_plain
+    (then_is old left then opened planner c.is_left_alone.ensures.rest c.keeps_place_in.ensures.rest)
+    c.add_in_place.new.run (c.add_in_place.ensures.refused refused)
 
 pub append-requires : goal.append-requires
 append-requires c =
