@@ -10,10 +10,10 @@ itself. Texts, faults and the number of the refused edit have to be the same. KI
 here, if all are to be of that kind.
 Most lists are of edits of one kind, a fifth of them of edits of all kinds in turn, among them removes of tables and of elements, and
 inserts into tables that dotted keys make. Some are of lines that come to one byte in an order that jumps, some of headers and of keys that
-come below them at the end of the text, some of new tables and elements, each with keys of its own. A fifth of the lines that are changed have a comment. Values are set and keys renamed again,
-values are set that were inserted, and edits of entries come back to a value, which goes on in the row. Among the edits are some that
-end it: one that is refused, any other of a path that was there before, one that is in another's, one that adds a line at the place of
-a line of another table.
+come below them at the end of the text, some of new tables and elements, each with keys of its own, some of lines that come in the place
+of others. A fifth of the lines that are changed have a comment. Values are set and keys renamed again, values are set that were
+inserted, and edits of entries come back to a value, which goes on in the row. Among the edits are some that end it: one that is refused,
+any other of a path that was there before, one that is in another's, one that adds a line at the place of a line of another table.
 """
 import sys
 from pathlib import Path
@@ -49,7 +49,7 @@ class Run:
         self.entries = [tuple(it.rsplit(b"\t", 1)) for it in self.ran([b"list"], self.text).stdout.split(b"\n")[:-1]]
         kinds = (self.inserts, self.items, self.removes, self.sections, self.sets, self.renames, self.tables, self.elements)
         kinds += (self.gone_elements, self.gone_below, self.dotted, self.brought, self.in_any_order, self.below, self.filled)
-        kinds += (self.parts,) + 3 * (self.all_kinds,)
+        kinds += (self.in_place, self.parts) + 3 * (self.all_kinds,)
         self.edits = (getattr(self, kind) if kind else self.random.choice(kinds))()
 
     def ran(self, words, given):
@@ -221,6 +221,26 @@ class Run:
                 edits.append(edit_of(op, above + b"." + name))
             else:
                 edits.append(self.insert_or_set(given, random.choice((0, 0, 0.1)), table, number, several))
+        return edits
+
+    def in_place(self):
+        """The last lines of a few bodies go one by one, or change, in an order that jumps, and new keys come into the same bodies; in half
+        of the lists headers are appended between. So many of the keys come in the place of a line that went."""
+        random, left = self.random, {}
+        for path in self.with_lines():
+            left.setdefault(path.rpartition(b".")[0], []).append(path)
+        tables = random.sample(sorted(left), min(len(left), random.choice((2, 5, 20))))
+        headers, later, given, edits = random.choice((0, 0.1)), random.choice((0, 0.2)), [], []
+        for number in range(self.many):
+            table = random.choice(tables)
+            if random.random() < headers:
+                edits.append(edit_of(b"table", b"h_%d" % number))
+            elif not left[table] or random.random() < 0.4:
+                edits.append(self.insert_or_set(given, later, table, number, 0))
+            else:
+                op, path = random.choice((b"remove", b"remove", b"set", b"rename")), left[table].pop()
+                value = value_of(random) if op == b"set" else None
+                edits.append(edit_of(op, path, value, b"new_%d" % number if op == b"rename" else None))
         return edits
 
     def some_values(self):
