@@ -138,11 +138,12 @@ impl<'a> KindsRun<'a> {
     }
 
     /// Whether an insert that would bring the header of its table has to come below an appended header, as far as is
-    /// known.
+    /// known: where that header was not brought before it.
     pub fn comes_below(&self, outline: &Outline, made: &RunEdit) -> bool {
         match (outline, made.line) {
             (Outline::Insert(first), Some(LineKind::WithHeader)) => {
                 self.lines.has_header_through(&first.parent())
+                    && !self.lines.brings_table(outline, made.change.place.start)
             }
             _ => false,
         }
