@@ -42,8 +42,8 @@ use Rattle.keep_edit_plan.proofs.Shared.{change_in, editable}
 use Rattle.keep_edit_plan.specs.TextEdits.{IsChangeIn, IsPutAhead, change_of}
 use Rattle.keep_edit_plan.specs.declared.edit.Edit.{Edit}
 use Rattle.keep_edit_plan.specs.declared.text_edit.TextEdit.{TextEdit}
-use Rattle.keep_edit_runs.specs.AddedLines.{IsCountBehind, IsCounted, IsHeaderKnown, IsKnownAt, brought_at, line_of}
-use Rattle.keep_edit_runs.specs.AddedLines.{lines_by, lines_known_behind}
+use Rattle.keep_edit_runs.specs.AddedLines.{IsCountBehind, IsCounted, IsHeaderKnown, IsKnownAt, PassesHeaderAt}
+use Rattle.keep_edit_runs.specs.AddedLines.{brought_at, line_of, lines_by, lines_known_behind}
 use Rattle.keep_edit_runs.specs.Lists.{AreMade, IsEdit}
 use Rattle.keep_edit_plan.specs.Reading.{IsTextOfTree, ProfiledText, limit}
 use Rattle.keep_edit_runs.specs.Runs.{IsAddedAhead, IsKeptAhead, IsRenamedBy, IsRunTo, IsSetBy, LeavesAlone}
@@ -55,10 +55,11 @@ use Rattle.keep_edit_runs.proofs.AheadLists.{ahead, its_line_ahead, line_ahead, 
 use Rattle.keep_edit_runs.proofs.AheadLists.{lines_counted_ahead, made_all_ahead, rename_ahead, seen_ahead}
 use Rattle.keep_edit_runs.proofs.AheadLists.{seen_counted_ahead, set_ahead}
 use Rattle.keep_edit_runs.proofs.HeaderLaws.{table_passed}
-use Rattle.keep_edit_runs.proofs.LineLaws.{lets_known, with_header}
+use Rattle.keep_edit_runs.proofs.LineLaws.{lets_known, lets_no_header, with_header}
 use Rattle.keep_edit_runs.proofs.MadeMore.{more_made}
-use Rattle.keep_edit_runs.proofs.RunSteps.{AreMadeTo, IsPlaced, one_or_more, parts, plain_allows, plain_alone}
-use Rattle.keep_edit_runs.proofs.RunSteps.{plain_header, plain_insert, plain_known, run_so_far, text_utf8, tree_of_run}
+use Rattle.keep_edit_runs.proofs.RunSteps.{AreMadeTo, IsPlaced, each_uncounted, one_or_more, parts, plain_allows}
+use Rattle.keep_edit_runs.proofs.RunSteps.{plain_alone, plain_header, plain_insert, plain_known, run_so_far, text_utf8}
+use Rattle.keep_edit_runs.proofs.RunSteps.{tree_of_run}
 
 -- ---- the changes
 
@@ -183,15 +184,21 @@ module _ (s : Document) (edits : List Edit) (n : ℕ) (old now : ProfiledText) (
 
   -- headers pass by the table of a header there, unless all are at the end of the text
   passed : c.at ≢ length (text before) → (l : Added) → IsKnownAt adds l → IsHeaderAt c.at l → All (LetsTable l) es
-  passed other l known (at, headed) =
-      let (there, (own, brought)) = with_header adds l known headed in
-      let its : brought_at adds c.at ≡ Some (table_of l) =
-      subst (λ (i : ℕ). brought_at adds i ≡ Some (table_of l)) at there in
-      let lacks : ¬ HasAppended adds.headers (table_of l) = kept.passed (not_at_end refl) (table_of l) its in
-      All-weaker (IsHeaderKnown adds) (LetsTable l)
-      (lets_known adds l (λ keys has is. table_passed adds.headers keys (table_of l) brought.0 lacks has)) es
-      h.headers_known
+  passed other l known (at, headed) = by (kept.passed (not_at_end refl))
     where
+      by : PassesHeaderAt adds c.at → All (LetsTable l) es
+      by (inl none) =
+          All-weaker (λ f. runs.is_header f ≡ false) (LetsTable l) (lets_no_header l) es
+          (each_uncounted runs.is_header es (h.counts.appended ∙ none))
+      by (inr passes) =
+          let (there, (own, brought)) = with_header adds l known headed in
+          let its : brought_at adds c.at ≡ Some (table_of l) =
+          subst (λ (i : ℕ). brought_at adds i ≡ Some (table_of l)) at there in
+          let lacks : ¬ HasAppended adds.headers (table_of l) = passes (table_of l) its in
+          All-weaker (IsHeaderKnown adds) (LetsTable l)
+          (lets_known adds l (λ keys has is. table_passed adds.headers keys (table_of l) brought.0 lacks has)) es
+          h.headers_known
+
       not_at_end : {b : Bool} → (c.at == length now.text) ≡ b → (c.at == length now.text) ≡ false
       not_at_end {b = false} is = is
       not_at_end {b = true} is =

@@ -151,6 +151,15 @@ unheaded added (law.remove p) none = tt
 unheaded added (law.set p v) none = tt
 unheaded added (law.rename p name) none = tt
 
+-- An edit that appends no header passes by each table.
+pub lets_no_header : (l : Added) (e : law.Edit) → runs.is_header e ≡ false → LetsTable l e
+lets_no_header l (law.append_table ks) none = absurd cc
+lets_no_header l (law.append_element ks) none = absurd cc
+lets_no_header l (law.insert p v) none = tt
+lets_no_header l (law.remove p) none = tt
+lets_no_header l (law.set p v) none = tt
+lets_no_header l (law.rename p name) none = tt
+
 -- Headers pass by the table of a line, if it has a header of its own, where those that are known do.
 pub lets_known : (added : AddedLines) (l : Added)
     → ((keys : List (List ℕ)) → HasHeader added.headers (map key keys) → PassesTable keys l)

@@ -336,19 +336,20 @@ counted_alone : {A : Type 0} (p : A → Bool) (x : A) (xs : List A)
     → count_by p (x ∷ xs) ≡ count_by p (x ∷ []) + count_by p xs
 counted_alone p x xs = omega (arith, counted_more p x xs, counted_more p x [])
 
--- where none of them is counted, none is there
-none_counted : (p : law.Edit → Bool) (es : List law.Edit) → count_by p es ≡ 0 → list_any p es ≡ false
-none_counted p es none = list_any_none p es (by es none)
+-- where none of them is counted, each is none of those,
+pub each_uncounted : (p : law.Edit → Bool) (es : List law.Edit) → count_by p es ≡ 0 → All (λ e. p e ≡ false) es
+each_uncounted p [] none = All-nil (λ e. p e ≡ false)
+each_uncounted p (e ∷ es) none =
+    All-cons (λ f. p f ≡ false) e es (its (p e) (omega (arith, none, counted_more p e es)))
+    (each_uncounted p es (omega (arith, none, counted_more p e es)))
   where
     its : (b : Bool) → one_if b ≡ 0 → b ≡ false
     its false is = refl
     its true is = absurd (omega (arith, is))
 
-    by : (fs : List law.Edit) → count_by p fs ≡ 0 → All (λ f. p f ≡ false) fs
-    by [] is = All-nil (λ f. p f ≡ false)
-    by (f ∷ fs) is =
-        All-cons (λ f. p f ≡ false) f fs (its (p f) (omega (arith, is, counted_more p f fs)))
-        (by fs (omega (arith, is, counted_more p f fs)))
+-- and none is there
+none_counted : (p : law.Edit → Bool) (es : List law.Edit) → count_by p es ≡ 0 → list_any p es ≡ false
+none_counted p es none = list_any_none p es (each_uncounted p es none)
 
 -- A line comes before headers that are appended, where none is counted, or elsewhere.
 pub before_headers : (bytes : List ℕ) (es : List law.Edit) (at : ℕ) (adds : AddedLines)

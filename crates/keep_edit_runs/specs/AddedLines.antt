@@ -41,9 +41,12 @@ IsKnownAs WithHeader added l =
 abbrev pub IsKnownAt : AddedLines → Added → Type 0
 IsKnownAt added l = IsKnownAs l.kind added l
 
--- No header that is appended is of the table whose header comes at that byte, or goes through it.
+-- No header is appended among these edits, or none that is of the table whose header comes at that byte or goes through
+-- it.
 abbrev pub PassesHeaderAt : AddedLines → ℕ → Type 0
-PassesHeaderAt added at = (table : List Part) → brought_at added at ≡ Some table → ¬ HasAppended added.headers table
+PassesHeaderAt added at =
+    (added.appended ≡ 0)
+    ⊎ ((table : List Part) → brought_at added at ≡ Some table → ¬ HasAppended added.headers table)
 
 -- The header that the edit appends, if it does, is known.
 abbrev pub IsHeaderKnown : AddedLines → law.Edit → Type 0
