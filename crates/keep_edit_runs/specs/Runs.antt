@@ -161,8 +161,8 @@ pub record IsLineKept (old : AddedLines) (changes : List TextChange) (x : Outlin
 
 -- An edit with this outline adds a line of this kind at this byte, where lines or headers have to come behind it: all
 -- others there come before it. No header that is known to be appended is of its table or goes through it, if it has a
--- header; nor one of these edits of a table whose header comes there, unless that is the end of the text. No change takes the byte before.
--- The line is known then, and all that were known.
+-- header; nor one of these edits of a table whose header comes there, unless that is the end of the text. No change
+-- takes the byte before. The line is known then, and all that were known.
 pub record IsKeptAhead (old : AddedLines) (changes : List TextChange) (x : Outline) (at : ℕ) (line : Option LineKind)
     (is_at_end : Bool) (new : AddedLines) : Type 0 where
   pub passed : is_at_end ≡ false → PassesHeaderAt old at

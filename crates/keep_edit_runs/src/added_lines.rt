@@ -92,9 +92,9 @@ impl<'a> AddedLines<'a> {
 
     /// Keeps the line that an edit adds where lines and headers come that have to come behind it, after these edits, so
     /// that it comes before them. Returns whether it is kept: not if the edits take the byte before it; nor where a
-    /// header that is appended among them is of the table of a header that comes there with a line, or goes through it,
-    /// unless all come at the end of the text; nor one of another table that dotted keys make than that of lines there; nor one with a
-    /// header, by the same as in `keep_line`; nor any where memory was refused.
+    /// header appended among them is of the table of a header that comes there with a line, or goes through it, unless
+    /// all come at the end of the text; nor one of another table that dotted keys make than that of lines there; nor
+    /// one with a header, by the same as in `keep_line`; nor any where memory was refused.
     pub fn keep_ahead(
         &mut self,
         so_far: &AtOnce,
@@ -197,8 +197,8 @@ impl<'a> AddedLines<'a> {
         lines.checked_add(if is_at_end { self.appended } else { 0 })
     }
 
-    /// Whether no header comes with a line at a byte, or no header that is appended among these edits is of its table or
-    /// goes through that.
+    /// Whether no header comes with a line at a byte, or no header that is appended among these edits is of its table
+    /// or goes through that.
     fn passes_header_at(&self, at: usize) -> bool
         ensures { IsTrue result → PassesHeaderAt self.now at }
     {
