@@ -6,12 +6,12 @@
 --
 -- Theorems: `follow_order`, `follow_apart`: the list is in order for the search; `place_found`: where that ends;
 -- `left_of_beside`, `right_of_beside`, `room_beside`: the two leave room exactly if none overlaps; `all_insert`,
--- `insert_change`: the list with one edit more; `none_written`, `next_change`, `part_is`, `one_written`: what is
--- written before the first edit and with one more; `takes_it`: an edit that replaces the byte before a place;
--- `others_take_not`, `none_takes`, `one_alone`, `alone_takes`, `all_if_alone`: only one does; `all_further`,
--- `all_changes`, `all_of_one`, `change_at_edit`: what holds of each edit; `has_change`: the change of one; `put_ahead`,
--- `follow_ahead`: one more ahead of others; `set_in_place`, `set_instead`, `follow_replaced`, `both_same`: one in the
--- place of another.
+-- `insert_change`, `map_insert`, `has_room`: the list with one edit more; `none_written`, `next_change`, `part_is`,
+-- `one_written`: what is written before the first edit and with one more; `takes_it`: an edit that replaces the byte
+-- before a place; `others_take_not`, `none_takes`, `one_alone`, `alone_takes`, `all_if_alone`: only one does;
+-- `all_further`, `all_changes`, `all_of_one`, `change_at_edit`: what holds of each edit; `has_change`: the change of
+-- one; `put_ahead`, `follow_ahead`: one more ahead of others; `set_in_place`, `set_instead`, `follow_replaced`,
+-- `both_same`: one in the place of another.
 use Rattle.std.proofs.Common.{◌≡◌, ℕ, zero, suc, ◌+◌, ◌-◌, ◌<◌, ◌≤◌, true, false, List, [], ◌∷◌, ◌++◌, length}
 use Rattle.std.proofs.Common.{get_or, take, drop, insert, set, map, slice_range, string_bytes, All, leb}
 use Rattle.std.proofs.Common.{IsUtf8, IsCharBoundary, refl, sym, ap, ◌∙◌, subst, append_assoc, drop-cons, add-one}
@@ -32,8 +32,8 @@ use Rattle.std.specs.List.Sorted.{IsNonDecreasingBy, IsPartitionPoint}
 use Rattle.keep_edit_spec.specs.Runs.{takes_up_to}
 use Rattle.keep_edit_spec.specs.TextChanges.{Follow, IsBeside, TextChange, text_with, with_change}
 use Rattle.keep_edit_plan.specs.declared.text_edit.TextEdit.{TextEdit}
-use Rattle.keep_edit_plan.specs.TextEdits.{HasChange, HasInstead, IsChangeIn, IsOrdered, IsPutAhead, IsReplaced}
-use Rattle.keep_edit_plan.specs.TextEdits.{TakesAlone, change_of}
+use Rattle.keep_edit_plan.specs.TextEdits.{HasChange, HasInstead, HasRoom, IsChangeIn, IsOrdered, IsPutAhead}
+use Rattle.keep_edit_plan.specs.TextEdits.{IsReplaced, TakesAlone, change_of}
 
 -- ---- the order
 
@@ -176,6 +176,21 @@ insert_change m (t ∷ ts) (suc place) p =
     } in
     rw (le-ltb m.place.start t.place.start first)
     (ap (λ (cs : List TextChange). change_of t ∷ cs) (insert_change m ts place rest))
+
+pub map_insert : (ts : List TextEdit) (n : ℕ) (t : TextEdit)
+    → map change_of (insert ts n t) ≡ insert (map change_of ts) n (change_of t)
+map_insert [] zero t = refl
+map_insert [] (suc n) t = refl
+map_insert (x ∷ ts) zero t = refl
+map_insert (x ∷ ts) (suc n) t = ap (λ (cs : List TextChange). change_of x ∷ cs) (map_insert ts n t)
+
+pub has_room : (m : TextEdit) (ts : List TextEdit) (place : ℕ) → IsPlaceOf m ts place → Follow 0 (map change_of ts)
+    → HasLeft m ts place → HasRight m ts place → HasRoom (map change_of ts) (change_of m) place
+has_room m ts place p follow left right = record {
+  beside = room_beside m ts place p follow left right;
+  within = omega (arith, p.within, length-map ts change_of);
+  is = sym (insert_change m ts place p) ∙ map_insert ts place m;
+}
 
 -- ---- one more, ahead of others
 

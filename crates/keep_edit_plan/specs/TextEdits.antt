@@ -1,6 +1,6 @@
 -- Edits of one text, and what changes of the text they are.
 use Rattle.std.specs.Prelude.{◌≡◌, ◌+◌, ◌-◌, ◌<◌, ◌≤◌, ◌++◌, ◌∷◌, [], ℕ, All, List, None, IsCharBoundary, false, true}
-use Rattle.std.specs.Prelude.{length, string_bytes, take}
+use Rattle.std.specs.Prelude.{insert, length, string_bytes, take}
 use Rattle.keep_syntax.specs.Tree.{Document, Value, text}
 use Rattle.keep_path.specs.Path.{Part}
 use Rattle.keep_meaning.specs.Meaning.{mentions_in}
@@ -12,7 +12,7 @@ use Rattle.keep_edit_spec.specs.LinesInPlace.{FreesPlace}
 use Rattle.keep_edit_spec.specs.Refusals.{refusal}
 use Rattle.keep_edit_spec.specs.Runs.{MakesChange, takes_up_to}
 use Rattle.keep_edit_spec.specs.SetValues.{SetsValue}
-use Rattle.keep_edit_spec.specs.TextChanges.{IsBeside, TextChange, change_at, text_with}
+use Rattle.keep_edit_spec.specs.TextChanges.{IsBeside, TextChange, change_at, text_with, with_change}
 use Rattle.keep_edit_plan.specs.Answers.{IsMadeAt, IsSpanOf}
 use Rattle.keep_edit_plan.specs.Given.{IsEdit}
 use Rattle.keep_edit_plan.specs.Reading.{IsTextOfTree, ProfiledText, limit}
@@ -59,6 +59,12 @@ abbrev pub IsTextBefore : List ℕ → List TextChange → ℕ → List ℕ → 
 IsTextBefore bytes changes number new =
     (before : List TextChange) (c : TextChange) (after : List TextChange) → changes ≡ before ++ c ∷ after
     → length before ≡ number → new ≡ text_with 0 (take c.at bytes) before
+
+-- The change overlaps none of these, and has this number among them.
+pub record HasRoom (changes : List TextChange) (c : TextChange) (n : ℕ) : Type 0 where
+  pub beside : All (λ d. IsBeside d c) changes
+  pub within : n ≤ length changes
+  pub is : with_change changes c ≡ insert changes n c
 
 -- the change comes in the place of one that takes the same bytes
 pub record IsReplaced (old : List TextChange) (d : TextChange) (new : List TextChange) : Type 0 where

@@ -6,8 +6,8 @@ ghost use Rattle.std.specs.List.{list_any};
 ghost use Rattle.keep_edit_spec.specs.Runs.{LeavesPlace, LetsCome, takes_up_to};
 ghost use Rattle.keep_edit_spec.specs.TextChanges.{IsBeside, text_with, with_change};
 ghost use Rattle.keep_edit_plan.specs.SaidSpans.{Leaves};
-ghost use Rattle.keep_edit_plan.specs.TextEdits.{HasChange, HasInstead, IsChangeIn, IsFreed, IsOrdered, IsPutAhead};
-ghost use Rattle.keep_edit_plan.specs.TextEdits.{IsReplaced, IsTextBefore, TakesAlone, change_of};
+ghost use Rattle.keep_edit_plan.specs.TextEdits.{HasChange, HasInstead, HasRoom, IsChangeIn, IsFreed, IsOrdered};
+ghost use Rattle.keep_edit_plan.specs.TextEdits.{IsPutAhead, IsReplaced, IsTextBefore, TakesAlone, change_of};
 
 use crate::said::said_line;
 use crate::text_edit::TextEdit;
@@ -64,16 +64,9 @@ impl TextEdits {
             ≡ (if added then with_change self.old (change_of edit) else self.old)) }
         ensures refused { OnErr result (self.new ≡ self.old) }
     {
-        let start = edit.place.start;
-        let number = self
-            .edits
-            .partition_point(|other| other.place.start <= start);
-        if number > 0 && self.edits[number - 1].place.end > start {
+        let Some(number) = self.number_for(&edit) else {
             return Ok(false);
-        }
-        if number < self.edits.len() && self.edits[number].place.start < edit.place.end {
-            return Ok(false);
-        }
+        };
         match self.edits.insert(number, edit) {
             Ok(()) => Ok(true),
             Err(_) => Err(AllocError),
@@ -83,19 +76,29 @@ impl TextEdits {
     /// Whether an edit overlaps none of these, so that it could be added.
     pub fn leave(&self, edit: &TextEdit) -> bool
         requires { IsOrdered edit.now }
-        ensures { IsTrue result → All (λ c. IsBeside c (change_of edit.now)) self.now }
+        ensures { Decides result (All (λ c. IsBeside c (change_of edit.now)) self.now) }
     {
-        let start = edit.place.start;
-        let after = self
+        self.number_for(edit).is_some()
+    }
+
+    /// The number that an edit would have among these, after those that begin where it does or before it; none if it
+    /// overlaps one.
+    fn number_for(&self, edit: &TextEdit) -> Option<usize>
+        requires { IsOrdered edit.now }
+        ensures room { IfSome result (HasRoom self.now (change_of edit.now)) }
+        ensures none { result ≡ None → ¬ All (λ c. IsBeside c (change_of edit.now)) self.now }
+    {
+        let Span { start, end } = edit.place;
+        let number = self
             .edits
-            .partition_point(|begun| begun.place.start <= start);
-        if after > 0 && self.edits[after - 1].place.end > start {
-            return false;
+            .partition_point(|other| other.place.start <= start);
+        if number > 0 && self.edits[number - 1].place.end > start {
+            return None;
         }
-        if after < self.edits.len() && self.edits[after].place.start < edit.place.end {
-            return false;
+        if number < self.edits.len() && self.edits[number].place.start < end {
+            return None;
         }
-        true
+        Some(number)
     }
 
     /// Puts an edit that takes nothing before the last of those that begin where it does, so many. Returns whether it
