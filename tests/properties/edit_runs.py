@@ -199,7 +199,7 @@ class Run:
     def below(self):
         """New headers through tables that no header defines, and keys of these tables, of others and of those that hold them, in an order
         that jumps; in most lists other edits come between. So many of the keys come at the end of the text, below the last header
-        through their table."""
+        through their table, or behind other keys of it there, whatever headers came since."""
         random, nests, paths = self.random, self.with_dotted(), self.with_implicit()
         if not paths:
             return self.inserts()

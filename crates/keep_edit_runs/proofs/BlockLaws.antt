@@ -5,23 +5,24 @@
 --
 -- Theorems: `goes_through`, `same_text`: a header whose keys are those of a table, and more; `one_more`: of one more;
 -- `passes_on`, `last_is`: the last header that goes through a table; `lets_none`, `lets_one`, `none_by`, `lets_all`:
--- inserts into no other table; `bytes_more`, `bytes_one`, `bytes_same`: what is written; `pushed`, `pushed_unless`,
--- `not_pushed`: what a push leaves; `put_below`: an insert more.
+-- inserts into no other table; `block_found`, `block_there`: below whose header one more comes; `bytes_more`,
+-- `bytes_one`, `bytes_same`: what is written; `pushed`, `pushed_unless`, `not_pushed`: what a push leaves; `put_below`:
+-- an insert more.
 use Rattle.std.proofs.Common.{◌≡◌, ◌≢◌, ◌<◌, ◌+◌, ◌∷◌, ◌++◌, ◌∙◌, [], ℕ, zero, suc, All, List, None, Option, Some}
 use Rattle.std.proofs.Common.{ap, ap₂, arith, drop, get_or, inl, inr, length, map, refl, slice_get, subst, sym, take}
 use Rattle.std.proofs.Common.{Bool, false, set, string_bytes, true}
-use Rattle.std.specs.Prelude.{◌⊎◌, Err, Ok, Result, if◌then◌else◌}
+use Rattle.std.specs.Prelude.{◌⊎◌, Err, IfSome, Ok, Result, if◌then◌else◌, unwrap_or}
 use Rattle.std.specs.Result.{is_err, is_ok}
 use Rattle.std.specs.Str.{bytes_eq}
 use Rattle.std.proofs.lemmas.List.{append_assoc, append-nil, drop_more, length-take-le, set_at, take-append-drop}
 use Rattle.std.proofs.lemmas.List.{take_more}
 use Rattle.std.proofs.lemmas.Option.{slice_get_read, slice_get_within}
-use Rattle.std.proofs.lemmas.List.Elements.{All-append, All-cons, All-nil, All-push, All-weaker}
+use Rattle.std.proofs.lemmas.List.Elements.{All-append, All-cons, All-head, All-nil, All-push, All-tail, All-weaker}
 use Rattle.std.proofs.lemmas.Slice.Eq.{bytes_eq-Decides}
 use Rattle.keep_path.specs.Path.{Part, key, strip}
 use Rattle.keep_edit_spec.specs.HeadersBelow.{GoThrough}
 use Rattle.keep_edit_spec.specs.Runs.{PassesBy}
-use Rattle.keep_edit_runs.specs.Tail.{IsLastThrough, IsPutBelow, LetsTable, bytes_of, keys_of}
+use Rattle.keep_edit_runs.specs.Tail.{IsBlockFor, IsBlockOf, IsLastThrough, IsPutBelow, LetsTable, bytes_of, keys_of}
 use Rattle.keep_edit_runs.specs.declared.tail.Block.{Block}
 
 -- ---- the keys of a header and a table
@@ -184,6 +185,82 @@ lets_all blocks n table each before block after is many = (
         (at (length before + suc k) b (behind before (block ∷ after) (suc k) ∙ there) t has).1
         (λ same. absurd (omega (arith, same, many)))
 
+-- ---- the block below whose header an insert comes
+
+-- what holds of all of two lists holds of all of each
+pub all_of_first : (P : Block → Type 0) (first last : List Block) → All P (first ++ last) → All P first
+all_of_first P [] last h = All-nil P
+all_of_first P (x ∷ first) last h =
+    All-cons P x first (All-head P x (first ++ last) h) (all_of_first P first last (All-tail P x (first ++ last) h))
+
+pub all_of_last : (P : Block → Type 0) (first last : List Block) → All P (first ++ last) → All P last
+all_of_last P [] last h = h
+all_of_last P (x ∷ first) last h = all_of_last P first last (All-tail P x (first ++ last) h)
+
+-- the one below which others into the table came
+block_with : (blocks : List Block) (table : List Part) (n last : ℕ) → IsLastThrough blocks table last
+    → IsBlockOf blocks table n → LetsTable blocks n table → IsBlockFor blocks table n
+block_with blocks table n last l k lets = record {
+  before = k.before;
+  block = k.block;
+  after = k.after;
+  is = k.is;
+  number = k.number;
+  own = (lets k.before k.block k.after k.is k.number).0;
+  last = λ none. absurd (let both : None ≡ Some table = sym none ∙ k.into in cc);
+  others = All-append (PassesOrThrough table) k.before k.after
+      (all_of_first (PassesOrThrough table) k.before (k.block ∷ k.after) all)
+      (All-tail (PassesOrThrough table) k.block k.after
+      (all_of_last (PassesOrThrough table) k.before (k.block ∷ k.after) all));
+  apart = (lets k.before k.block k.after k.is k.number).1;
+}
+  where
+    all : All (PassesOrThrough table) (k.before ++ k.block ∷ k.after)
+    all = subst (All (PassesOrThrough table)) k.is (all_pass_or_through blocks table (Some last) l)
+
+-- the last one
+block_last : (blocks : List Block) (table : List Part) (n : ℕ) → IsLastThrough blocks table n
+    → LetsTable blocks n table → IsBlockFor blocks table n
+block_last blocks table n l lets = record {
+  before = l.before;
+  block = l.block;
+  after = l.after;
+  is = l.is;
+  number = l.number;
+  own = (lets l.before l.block l.after l.is l.number).0;
+  last = λ none. (l.through, l.later);
+  others = All-append (PassesOrThrough table) l.before l.after l.earlier
+      (All-weaker (λ b. PassesBy (keys_of b) table) (PassesOrThrough table) (λ b passes. inl passes) l.after l.later);
+  apart = (lets l.before l.block l.after l.is l.number).1;
+}
+
+-- the blocks before the one with that number, it, and those after it
+parted : (blocks : List Block) (n : ℕ) (b : Block) → n < length blocks → b ≡ get_or blocks n b
+    → blocks ≡ take n blocks ++ b ∷ drop (n + 1) blocks
+parted blocks n b lt is =
+    sym (take-append-drop n blocks)
+    ∙ ap (λ (l : List Block). take n blocks ++ l)
+    (drop_more blocks n b lt ∙ ap (λ (a : Block). a ∷ drop (n + 1) blocks) (sym is))
+
+-- either, as it was found
+pub block_found : (blocks : List Block) (table : List Part) (last : ℕ) (own : Option ℕ)
+    → IsLastThrough blocks table last → IfSome own (IsBlockOf blocks table)
+    → LetsTable blocks (unwrap_or own last) table → IsBlockFor blocks table (unwrap_or own last)
+block_found blocks table last None l k lets = block_last blocks table last l lets
+block_found blocks table last (Some n) l k lets = block_with blocks table n last l k lets
+
+-- the one with that number, into whose table inserts come
+pub block_there : (blocks : List Block) (n : ℕ) (b : Block) (table : List Part) → n < length blocks
+    → b ≡ get_or blocks n b → b.table ≡ Some table → IsBlockOf blocks table n
+block_there blocks n b table lt is into = record {
+  before = take n blocks;
+  block = b;
+  after = drop (n + 1) blocks;
+  is = parted blocks n b lt is;
+  number = length-take-le n blocks (omega (arith, lt));
+  into = into;
+}
+
 -- ---- what is written
 
 pub bytes_more : (blocks more : List Block) → bytes_of (blocks ++ more) ≡ bytes_of blocks ++ bytes_of more
@@ -214,14 +291,6 @@ not_pushed (Ok a) new with_it old is error = absurd cc
 not_pushed (Err e) new with_it old is error = is
 
 -- ---- one block changed
-
--- the blocks before the one with that number, it, and those after it
-parted : (blocks : List Block) (n : ℕ) (b : Block) → n < length blocks → b ≡ get_or blocks n b
-    → blocks ≡ take n blocks ++ b ∷ drop (n + 1) blocks
-parted blocks n b lt is =
-    sym (take-append-drop n blocks)
-    ∙ ap (λ (l : List Block). take n blocks ++ l)
-    (drop_more blocks n b lt ∙ ap (λ (a : Block). a ∷ drop (n + 1) blocks) (sym is))
 
 changed_at : (blocks : List Block) (n : ℕ) (b now : Block) → n < length blocks → b ≡ get_or blocks n b
     → set blocks n now ≡ take n blocks ++ now ∷ drop (n + 1) blocks

@@ -1,9 +1,9 @@
 -- One edit more at the end of the text, after a run of edits that are made at once: an insert below a header.
 --
 -- By the document before the run it would bring the header of its table elsewhere, and so it would after the edits
--- elsewhere (`brings_later`). Of the blocks it comes below the last header that goes through the table, so all others
--- let it come there (`comes`), and what it writes is its header and its line, or its line alone (`writes`). So it is at
--- the end, too (`end_goes_on_below`), as one more of the block's edits.
+-- elsewhere (`brings_later`). It comes below the header below which others into its table came, else below the last
+-- that goes through the table, so all others let it come there (`comes`), and what it writes is its header and its
+-- line, or its line alone (`writes`). So it is at the end, too (`end_goes_on_below`), as one more of the block's edits.
 --
 -- Theorem: `puts_below`.
 use Rattle.std.proofs.Common.{◌≡◌, ◌≢◌, ◌<◌, ◌+◌, ◌∷◌, ◌++◌, [], ℕ, suc, All, IsUtf8, List, length, take, get_or}
@@ -57,12 +57,13 @@ use Rattle.keep_edit_runs.specs.KindsRun.{PutsBelow}
 use Rattle.keep_edit_runs.specs.Lists.{AreMade, IsEdit}
 use Rattle.keep_edit_runs.specs.Runs.{AddsLineAlone, IsOfKind, MakesInRun, no_value, outlined, plain}
 use Rattle.keep_edit_runs.specs.SeenHeaders.{HasMore, HasTableOf}
-use Rattle.keep_edit_runs.specs.Tail.{AreBelow, AreBlocks, IsBlock, IsLastThrough, IsPutBelow, keys_of}
+use Rattle.keep_edit_runs.specs.Tail.{AreBelow, AreBlocks, IsBlock, IsBlockFor, IsPutBelow, keys_of}
 use Rattle.keep_edit_runs.specs.Tail.{written}
 use Rattle.keep_edit_runs.specs.declared.added_lines.AddedLines.{AddedLines}
 use Rattle.keep_edit_runs.specs.declared.kinds_run.KindsRun.{KindsRun}
 use Rattle.keep_edit_runs.specs.declared.outline.Outline.{Outline}
 use Rattle.keep_edit_runs.specs.declared.tail.Block.{Block}
+use Rattle.keep_edit_runs.proofs.BlockLaws.{all_of_first, all_of_last}
 use Rattle.keep_edit_runs.proofs.ElementsGone.{of_one, plain_elsewhere}
 use Rattle.keep_edit_runs.proofs.LineLaws.{with_header}
 use Rattle.keep_edit_runs.proofs.RunSteps.{before_headers}
@@ -143,16 +144,7 @@ same_parts (z ∷ a) (w ∷ b) x y c d is same =
     let (begins, others) = same_parts a b x y c d rest (omega (arith, same)) in
     (ap₂ (λ (p : Block) (q : List Block). p ∷ q) first begins, others)
 
--- what holds of all of two lists holds of all of each
-all_of_first : (P : Block → Type 0) (first last : List Block) → All P (first ++ last) → All P first
-all_of_first P [] last h = All-nil P
-all_of_first P (x ∷ first) last h =
-    All-cons P x first (All-head P x (first ++ last) h) (all_of_first P first last (All-tail P x (first ++ last) h))
-
-all_of_last : (P : Block → Type 0) (first last : List Block) → All P (first ++ last) → All P last
-all_of_last P [] last h = h
-all_of_last P (x ∷ first) last h = all_of_last P first last (All-tail P x (first ++ last) h)
-
+-- what holds of all as one and as another holds as both
 all_of_both : (P Q : Block → Type 0) (bs : List Block) → All P bs → All Q bs → All (λ b. P b × Q b) bs
 all_of_both P Q [] h k = All-nil (λ b. P b × Q b)
 all_of_both P Q (x ∷ bs) h k =
@@ -368,8 +360,8 @@ module _ (edits : List Edit) (first end : ℕ) (now : ProfiledText) (run new : K
 
   -- ---- the blocks
 
-  abbrev last : IsLastThrough run.tail.blocks.items (without_last one.inserted.first) one.inserted.number
-  last = one.inserted.block.0
+  abbrev found : IsBlockFor run.tail.blocks.items (without_last one.inserted.first) one.inserted.number
+  found = one.inserted.block
 
   abbrev put : IsPutBelow run.tail.blocks.items one.inserted.number (without_last one.inserted.first)
       one.inserted.text new.tail.blocks.items
@@ -379,29 +371,22 @@ module _ (edits : List Edit) (first end : ℕ) (now : ProfiledText) (run new : K
   abbrev with_it : Block
   with_it = one.inserted.put.now
 
-  same_place : (put.before ≡ last.before) × ((put.block ≡ last.block) × (put.after ≡ last.after))
+  same_place : (put.before ≡ found.before) × ((put.block ≡ found.block) × (put.after ≡ found.after))
   same_place =
-      same_parts put.before last.before put.block last.block put.after last.after (sym put.was ∙ last.is)
-      (put.number ∙ sym last.number)
+      same_parts put.before found.before put.block found.block put.after found.after (sym put.was ∙ found.is)
+      (put.number ∙ sym found.number)
 
-  blocks_are : new.tail.blocks.items ≡ last.before ++ with_it ∷ last.after
+  blocks_are : new.tail.blocks.items ≡ found.before ++ with_it ∷ found.after
   blocks_are =
       put.is ∙ ap₂ (λ (p q : List Block). p ++ with_it ∷ q) same_place.0 same_place.1.1
 
-  keys_same : keys_of with_it ≡ keys_of last.block
+  keys_same : keys_of with_it ≡ keys_of found.block
   keys_same =
       ap (λ (ks : Bor (List (String Global))). key_texts ks.now)
       (put.keys_are ∙ ap (λ (b : Block). b.keys) same_place.1.0)
 
-  text_same : string_bytes with_it.text ≡ string_bytes last.block.text ++ one.inserted.text
+  text_same : string_bytes with_it.text ≡ string_bytes found.block.text ++ one.inserted.text
   text_same = put.text_is ∙ ap (λ (b : Block). string_bytes b.text ++ one.inserted.text) same_place.1.0
-
-  keys_are : map key (keys_in table) ≡ table
-  keys_are = keys_alone (keys_of last.block) table last.through
-
-  lets_table : ((t : List Part) → last.block.table ≡ Some t → t ≡ table)
-      × All (λ b. (t : List Part) → b.table ≡ Some t → strip table t ≡ None) (last.before ++ last.after)
-  lets_table = one.inserted.block.1 last.before last.block last.after last.is last.number
 
   -- ---- it brings the header of its table to the document before the run
 
@@ -554,8 +539,10 @@ module _ (edits : List Edit) (first end : ℕ) (now : ProfiledText) (run new : K
 
     -- ---- the edits at the end, apart at the header
 
-    a : AreApartAt last.before last.block last.after t.ts
-    a = apart_at last.before last.block last.after t.ts (subst (λ (bs : List Block). AreBlocks bs t.ts) last.is t.is)
+    a : AreApartAt found.before found.block found.after t.ts
+    a =
+        apart_at found.before found.block found.after t.ts
+        (subst (λ (bs : List Block). AreBlocks bs t.ts) found.is t.is)
 
     abbrev upper : List EndEdit
     upper = a.upper ++ a.h ∷ a.own
@@ -566,23 +553,35 @@ module _ (edits : List Edit) (first end : ℕ) (now : ProfiledText) (run new : K
     ends_later : (y : Document) × AreAtEnd now.profile limit y a.later
     ends_later = (document_with tree upper, (ends_split now.profile limit tree upper a.later ends).1)
 
+    -- where inserts into the table came below the header, it goes through the table, too
+    through : GoThrough (keys_of found.block) table
+    through = by found.block.table refl
+      where
+        by : (o : Option (List Part)) → found.block.table ≡ o → GoThrough (keys_of found.block) table
+        by None is = (found.last is).0
+        by (Some other) is =
+            subst (GoThrough (keys_of found.block)) (found.own other is) (a.one.below other is).through
+
+    keys_are : map key (keys_in table) ≡ table
+    keys_are = keys_alone (keys_of found.block) table through
+
     goes_through : GoesThrough table a.h.edit
     goes_through = by a.one.header
       where
-        by : (a.h.edit ≡ law.append_table (keys_of last.block)) ⊎ (a.h.edit ≡ law.append_element (keys_of last.block))
+        by : (a.h.edit ≡ law.append_table (keys_of found.block)) ⊎ (a.h.edit ≡ law.append_element (keys_of found.block))
             → GoesThrough table a.h.edit
-        by (inl is) = subst (GoesThrough table) (sym is) last.through
-        by (inr is) = subst (GoesThrough table) (sym is) last.through
+        by (inl is) = subst (GoesThrough table) (sym is) through
+        by (inr is) = subst (GoesThrough table) (sym is) through
 
     into_table : All (λ y. IsInto table y.seen) a.own
-    into_table = by last.block.table refl
+    into_table = by found.block.table refl
       where
-        by : (o : Option (List Part)) → last.block.table ≡ o → All (λ y. IsInto table y.seen) a.own
+        by : (o : Option (List Part)) → found.block.table ≡ o → All (λ y. IsInto table y.seen) a.own
         by None is =
             subst (All (λ (y : EndEdit). IsInto table y.seen)) (sym (a.one.none is))
             (All-nil (λ (y : EndEdit). IsInto table y.seen))
         by (Some other) is =
-            subst (λ (q : List Part). All (λ (y : EndEdit). IsInto q y.seen) a.own) (lets_table.0 other is)
+            subst (λ (q : List Part). All (λ (y : EndEdit). IsInto q y.seen) a.own) (found.own other is)
             (a.one.below other is).into
 
     abbrev IsElseThan : Block → Type 0
@@ -593,28 +592,27 @@ module _ (edits : List Edit) (first end : ℕ) (now : ProfiledText) (run new : K
 
     others_above : All (λ y. IsNotOf table y.seen) a.upper
     others_above =
-        none_of table keys_are last.before a.upper a.earlier
-        (all_of_both PassesOr IsElseThan last.before last.earlier
-        (all_of_first IsElseThan last.before last.after lets_table.1))
+        none_of table keys_are found.before a.upper a.earlier
+        (all_of_both PassesOr IsElseThan found.before (all_of_first PassesOr found.before found.after found.others)
+        (all_of_first IsElseThan found.before found.after found.apart))
 
     others_later : All (λ y. IsNotOf table y.seen) a.later
     others_later =
-        none_of table keys_are last.after a.later a.rest
-        (all_of_both PassesOr IsElseThan last.after
-        (All-weaker (λ y. PassesBy (keys_of y) table) PassesOr (λ y passes. inl passes) last.after last.later)
-        (all_of_last IsElseThan last.before last.after lets_table.1))
+        none_of table keys_are found.after a.later a.rest
+        (all_of_both PassesOr IsElseThan found.after (all_of_last PassesOr found.before found.after found.others)
+        (all_of_last IsElseThan found.before found.after found.apart))
 
     other_header : IsNotOf table a.h.seen
     other_header = by a.one.header
       where
-        by : (a.h.edit ≡ law.append_table (keys_of last.block)) ⊎ (a.h.edit ≡ law.append_element (keys_of last.block))
+        by : (a.h.edit ≡ law.append_table (keys_of found.block)) ⊎ (a.h.edit ≡ law.append_element (keys_of found.block))
             → IsNotOf table a.h.seen
         by (inl is) =
             subst (IsNotOf table) (sym (a.one.seen ∙ is))
-            (through_other table keys_are (keys_of last.block) last.through)
+            (through_other table keys_are (keys_of found.block) through)
         by (inr is) =
             subst (IsNotOf table) (sym (a.one.seen ∙ is))
-            (through_other table keys_are (keys_of last.block) last.through)
+            (through_other table keys_are (keys_of found.block) through)
 
     -- as others see it there
     abbrev its_later : law.Edit
@@ -630,16 +628,26 @@ module _ (edits : List Edit) (first end : ℕ) (now : ProfiledText) (run new : K
         (subst (λ (g : law.Edit). All (λ y. runs.LeavesAlone (outlined y) g) run.tail.outlines.items)
         (sym plain_later) one.alone.tail))
 
+    -- where none of the table came there, no later header goes through it
+    passes : a.own ≡ [] → All (λ y. GoesThrough table y.edit → ⊥) a.later
+    passes none = by found.block.table refl
+      where
+        by : (o : Option (List Part)) → found.block.table ≡ o → All (λ y. GoesThrough table y.edit → ⊥) a.later
+        by None is =
+            none_go table keys_are now.profile ends_later.0 a.later ends_later.1
+            (none_through table keys_are found.after a.later a.rest (found.last is).1)
+        by (Some other) is =
+            absurd (omega (arith, (a.one.below other is).some, ap (λ (us : List EndEdit). length us) none))
+
     comes : ComesBelow tree a.upper a.h a.own a.later table e
     comes = record {
       through = goes_through;
       into = into_table;
-      passes = none_go table keys_are now.profile ends_later.0 a.later ends_later.1
-          (none_through table keys_are last.after a.later a.rest last.later);
+      passes = passes;
       others = All-append (λ y. IsNotOf table y.seen) a.upper (a.h ∷ a.later) others_above
           (All-cons (λ y. IsNotOf table y.seen) a.h a.later other_header others_later);
       alone = alone_later;
-      first = begin_with last.after a.later a.rest;
+      first = begin_with found.after a.later a.rest;
     }
 
     plain_tree : IsPlain (text tree)
@@ -711,9 +719,9 @@ module _ (edits : List Edit) (first end : ℕ) (now : ProfiledText) (run new : K
         × IsUtf8 one.inserted.text
 
     writes : IsText a.own
-    writes = by last.block.table refl a.own refl
+    writes = by found.block.table refl a.own refl
       where
-        by : (o : Option (List Part)) → last.block.table ≡ o → (us : List EndEdit) → a.own ≡ us → IsText us
+        by : (o : Option (List Part)) → found.block.table ≡ o → (us : List EndEdit) → a.own ≡ us → IsText us
         by None is [] own =
             let whole : one.inserted.text ≡ string_bytes one.change.new = one.inserted.written.first is in
             (sym whole, subst IsUtf8 (sym whole) (IsUtf8-string_bytes one.change.new))
@@ -756,14 +764,14 @@ module _ (edits : List Edit) (first end : ℕ) (now : ProfiledText) (run new : K
           let own : table ≡ q = cc in own) (record {
             some = omega (arith, length-append a.own (its_end ∷ []));
             into = All-push (λ y. IsInto table y.seen) a.own its_end into_table (ap without_last first_later);
-            through = subst (λ (ks : List (List ℕ)). GoThrough ks table) (sym keys_same) last.through;
+            through = subst (λ (ks : List (List ℕ)). GoThrough ks table) (sym keys_same) through;
           });
       text = text_same ∙ ap₂ (λ (p q : List ℕ). p ++ q) a.one.text (sym writes.0)
           ∙ append_assoc a.h.new (written a.own) new_bytes
           ∙ ap (λ (p : List ℕ). a.h.new ++ p) (sym (written_more a.own its_end));
     }
       where
-        by : (a.h.edit ≡ law.append_table (keys_of last.block)) ⊎ (a.h.edit ≡ law.append_element (keys_of last.block))
+        by : (a.h.edit ≡ law.append_table (keys_of found.block)) ⊎ (a.h.edit ≡ law.append_element (keys_of found.block))
             → (a.h.edit ≡ law.append_table (keys_of with_it)) ⊎ (a.h.edit ≡ law.append_element (keys_of with_it))
         by (inl is) = inl (is ∙ ap law.append_table (sym keys_same))
         by (inr is) = inr (is ∙ ap law.append_element (sym keys_same))
@@ -771,8 +779,8 @@ module _ (edits : List Edit) (first end : ℕ) (now : ProfiledText) (run new : K
     blocks : AreBlocks new.tail.blocks.items (upper ++ its_end ∷ a.later)
     blocks =
         subst (λ (bs : List Block). AreBlocks bs (upper ++ its_end ∷ a.later)) (sym blocks_are)
-        (subst (AreBlocks (last.before ++ with_it ∷ last.after)) same
-        (blocks_with last.before with_it last.after a.upper a.h (a.own ++ its_end ∷ []) a.later a.earlier its_block
+        (subst (AreBlocks (found.before ++ with_it ∷ found.after)) same
+        (blocks_with found.before with_it found.after a.upper a.h (a.own ++ its_end ∷ []) a.later a.earlier its_block
         a.rest))
       where
         same : a.upper ++ a.h ∷ (a.own ++ its_end ∷ []) ++ a.later ≡ upper ++ its_end ∷ a.later
@@ -794,8 +802,8 @@ module _ (edits : List Edit) (first end : ℕ) (now : ProfiledText) (run new : K
   end_clear (inl none) =
       absurd (omega (
         arith,
-        ap (λ (bs : List Block). length bs) (sym none ∙ last.is),
-        length-append last.before (last.block ∷ last.after),
+        ap (λ (bs : List Block). length bs) (sym none ∙ found.is),
+        length-append found.before (found.block ∷ found.after),
       ))
 
   pub puts_below : AreMadeIn edits first (suc end) now new

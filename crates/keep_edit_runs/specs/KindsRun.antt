@@ -235,8 +235,9 @@ pub record IsWrittenBelow (now : ProfiledText) (edit : Edit) (change : TextEdit)
   pub next : (t : List Part) → table ≡ Some t
       → (line : TextEdit) × (AddsLineAlone now edit line × (text ≡ string_bytes line.new))
 
--- An insert of this first new key comes below the last header that goes through its table. By the document before the
--- run it would make this change: beside the others, and none takes the byte before it.
+-- An insert of this first new key comes below a header that goes through its table: behind others into the table, or
+-- below the last one. By the document before the run it would make this change: beside the others, and none takes the
+-- byte before it.
 pub record IsInsertedBelow (now : ProfiledText) (old : KindsRun) (edit : Edit) (o : Outline) (t : TextEdit)
     (line : Option LineKind) (new : KindsRun) : Type 0 where
   pub first : List Part
@@ -247,7 +248,7 @@ pub record IsInsertedBelow (now : ProfiledText) (old : KindsRun) (edit : Edit) (
   pub number : ℕ
   pub block : IsBlockFor old.tail.blocks.items (without_last first) number
   pub text : List ℕ
-  pub written : IsWrittenBelow now edit t block.0.block.table text
+  pub written : IsWrittenBelow now edit t block.block.table text
   pub plain : IsPlain text × IsPlain (string_bytes t.new)
   pub lines : IsTableBelow old.lines (change_of t).at (without_last first) new.lines
   pub put : IsPutBelow old.tail.blocks.items number (without_last first) text new.tail.blocks.items

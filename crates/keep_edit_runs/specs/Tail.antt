@@ -88,9 +88,28 @@ LetsTable blocks n table =
     → ((t : List Part) → block.table ≡ Some t → t ≡ table)
     × All (λ b. (t : List Part) → b.table ≡ Some t → strip table t ≡ None) (before ++ after)
 
--- both
-abbrev pub IsBlockFor : List Block → List Part → ℕ → Type 0
-IsBlockFor blocks table n = IsLastThrough blocks table n × LetsTable blocks n table
+-- The inserts below the header with this number are into the table.
+pub record IsBlockOf (blocks : List Block) (table : List Part) (n : ℕ) : Type 0 where
+  pub before : List Block
+  pub block : Block
+  pub after : List Block
+  pub is : blocks ≡ before ++ block ∷ after
+  pub number : length before ≡ n
+  pub into : block.table ≡ Some table
+
+-- It is the one below whose header inserts into the table came, or the last one whose header goes through the table
+-- where none did. All other headers pass by the table or go through it, and no inserts below them are into it or one
+-- below it.
+pub record IsBlockFor (blocks : List Block) (table : List Part) (n : ℕ) : Type 0 where
+  pub before : List Block
+  pub block : Block
+  pub after : List Block
+  pub is : blocks ≡ before ++ block ∷ after
+  pub number : length before ≡ n
+  pub own : (t : List Part) → block.table ≡ Some t → t ≡ table
+  pub last : block.table ≡ None → GoThrough (keys_of block) table × All (λ b. PassesBy (keys_of b) table) after
+  pub others : All (λ b. PassesBy (keys_of b) table ⊎ GoThrough (keys_of b) table) (before ++ after)
+  pub apart : All (λ b. (t : List Part) → b.table ≡ Some t → strip table t ≡ None) (before ++ after)
 
 -- An insert into the table writes this below the header with this number, behind what is there.
 pub record IsPutBelow (old : List Block) (n : ℕ) (table : List Part) (text : List ℕ) (new : List Block) : Type 0 where

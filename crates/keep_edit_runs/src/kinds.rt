@@ -198,9 +198,9 @@ impl Before<'_> {
         run.so_far.changes.free_place(self.alloc(), self.text, at)
     }
 
-    /// Adds an insert that would bring the header of its table below the last appended header that goes through the
-    /// table: with that header, or its line alone where inserts into the table came there before. Returns whether it
-    /// was added; if not, what comes at the end of the text is the same.
+    /// Adds an insert that would bring the header of its table below an appended header: its line alone where others
+    /// into the table came, or else with its table's header below the last that goes through the table. Returns whether
+    /// it was added; if not, what comes at the end of the text is the same.
     fn put_below<'a>(
         &self,
         run: &mut KindsRun<'a>,

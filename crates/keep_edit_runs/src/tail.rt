@@ -8,8 +8,8 @@ ghost use Rattle.keep_edit_plan.specs.Headers.{key_texts};
 ghost use Rattle.keep_edit_runs.specs.Runs.{LeavesAlone, outlined};
 ghost use Rattle.keep_edit_runs.specs.SeenPaths.{IsSeen};
 ghost use Rattle.keep_edit_runs.specs.declared.tail.Block.{Block};
-ghost use Rattle.keep_edit_runs.specs.Tail.{HeaderIsAdded, IsBlockFor, IsLastThrough, IsOutlineAdded, IsPutBelow};
-ghost use Rattle.keep_edit_runs.specs.Tail.{LetsTable, bytes_of};
+ghost use Rattle.keep_edit_runs.specs.Tail.{HeaderIsAdded, IsBlockFor, IsBlockOf, IsLastThrough, IsOutlineAdded};
+ghost use Rattle.keep_edit_runs.specs.Tail.{IsPutBelow, LetsTable, bytes_of};
 ghost use Rattle.keep_edit_spec.specs.ElementRuns.{IsElsewhere};
 ghost use Rattle.keep_edit_spec.specs.HeadersBelow.{GoThrough};
 
@@ -100,16 +100,32 @@ impl<'a> Tail<'a> {
         self.paths.add(&outline).unwrap_or(false) && self.outlines.push(outline).is_ok()
     }
 
-    /// The number of the block below whose header an insert into a table comes, which goes through the table: no later
-    /// header does, none is the table's own, and no other insert is into the table or one below it.
+    /// The number of the block below whose header an insert into a table comes: the one below which others into the
+    /// table came, or else the last whose header goes through it. No header is the table's own, and no insert below
+    /// another is into the table or one below it.
     pub fn block_for(&self, table: &Steps) -> Option<usize>
         ensures { IfSome result (IsBlockFor self.now.blocks.items table.now) }
     {
-        let number = self.last_through(table)?;
+        let last = self.last_through(table)?;
+        let number = self.block_of(table).unwrap_or(last);
         if !self.lets_table(number, table) {
             return None;
         }
         Some(number)
+    }
+
+    /// The number of the first block with inserts into a table.
+    fn block_of(&self, table: &Steps) -> Option<usize>
+        ensures { IfSome result (IsBlockOf self.now.blocks.items table.now) }
+    {
+        for number in 0..self.blocks.len() {
+            if let Some(other) = &self.blocks[number].table {
+                if is_same(other, table) {
+                    return Some(number);
+                }
+            }
+        }
+        None
     }
 
     /// The number of the last block whose header goes through a table. None where none does, and where a header is of

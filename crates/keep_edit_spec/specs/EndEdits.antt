@@ -166,13 +166,13 @@ IsInto table (insert first value) = without_last first ≡ table
 IsInto table e = ⊥
 
 -- An insert into the table comes behind the header `h`, which goes through the table, and behind the lines of the table
--- that came there: the last one does. Of those later no header goes through the table. The others leave it alone, and
--- none is of the table or of one below it, but for such a header.
+-- that came there. Where none came, `h` is the last header through the table: of those later none goes through it. The
+-- others leave it alone, and none is of the table or inserts into it or into one below it.
 pub record ComesBelow (s : Document) (before : List EndEdit) (h : EndEdit) (own later : List EndEdit)
     (table : List Part) (e : Edit) : Type 0 where
   pub through : GoesThrough table h.edit
   pub into : All (λ t. IsInto table t.seen) own
-  pub passes : All (λ t. GoesThrough table t.edit → ⊥) later
+  pub passes : own ≡ [] → All (λ t. GoesThrough table t.edit → ⊥) later
   pub others : All (λ t. IsNotOf table t.seen) (before ++ h ∷ later)
   pub alone : All (λ t. LeavesAlone t.seen (seen s e)) (before ++ h ∷ own ++ later)
   pub first : BeginWithHeader later

@@ -4,8 +4,8 @@
 -- Before the header it brings that of the table at some byte (BroughtOverEnds, `brings_there`), and after it at the end
 -- of the text (`brings_behind`). Where other inserts into the table came there, it adds its line alone, behind theirs
 -- (EndOwnLines). So it is at the end right there. What came later comes after it, too, as after any edit that comes
--- before (`goes_on`, by `EndComesLater`): no header of that is of the table or goes through it (`lets_all`), and a line
--- alone lets all come (`lets_none`).
+-- before (`goes_on`, by `EndComesLater`): no header of that is of the table, or goes through it where the table's
+-- header is brought (`lets_all`), and a line alone lets all come (`lets_none`).
 --
 -- Theorem: `end_goes_on_below`.
 use Rattle.std.proofs.Common.{◌≡◌, ◌≢◌, ℕ, List, [], ◌∷◌, ◌++◌, length, map, All, refl, sym, ap, subst, ◌∙◌, None, Some}
@@ -267,13 +267,13 @@ module _ (comes_later : EndComesLater) (profile : Profile) (limit : ℕ) (s : Do
   -- ---- with what came later
 
   -- where no other line of the table came there
-  with_header : AddsAtEnd WithHeader profile limit s now path value c.new
+  with_header : own ≡ [] → AddsAtEnd WithHeader profile limit s now path value c.new
       → IsMadeBelow profile limit s upper later (record { edit = e; seen = seen s e; new = c.new })
-  with_header b =
+  with_header none b =
       let change : TextChange = change_at (length (text now)) 0 c.new in
       goes_on comes_later profile limit s upper later path value WithHeader c.new split.0 split.1 b alone_later
       (lets_all profile limit table is_keys (added_as now path change) (ap without_last b.first ∙ is_table) now later
-      split.1 below.passes others_later) (plain_now c.new plain.new_is) below.first
+      split.1 (below.passes none) others_later) (plain_now c.new plain.new_is) below.first
 
   -- where some did
   with_line : AddsAtEnd LastInBody profile limit s now path value line
@@ -290,7 +290,7 @@ module _ (comes_later : EndComesLater) (profile : Profile) (limit : ℕ) (s : Do
       → IsMadeBelow profile limit s upper later
       (record { edit = e; seen = seen s e; new = written_below s value (k.text ∷ k.more) c.new ts })
   made_below [] is =
-      with_header (subst (λ (x : Document). AddsAtEnd WithHeader profile limit s x path value c.new)
+      with_header (sym is) (subst (λ (x : Document). AddsAtEnd WithHeader profile limit s x path value c.new)
       (ap (document_with behind) is ∙ sym now_is) brings_behind)
   made_below (t ∷ ts) is =
       with_line (subst (λ (x : Document). AddsAtEnd LastInBody profile limit s x path value line)

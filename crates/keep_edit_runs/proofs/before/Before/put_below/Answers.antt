@@ -37,7 +37,6 @@ returns-clause-put c = λ put.
     let bytes = string_bytes c.in-Some-text_below.text in
     let block : IsBlockFor there (without_last first) number =
     subst (λ (table : List Part). IsBlockFor there table number) same c.in-Some-block_for.ensures in
-    let own = block.0 in
     elim c.if-keep_below.branch [
       | then-keep_below w ↦
           let yes = sym w.result-is ∙ put in
@@ -51,8 +50,8 @@ returns-clause-put c = λ put.
             number = number;
             block = block;
             text = bytes;
-            written = text.written own.block
-                (numbered there own.before own.after own.block number own.is own.number);
+            written = text.written block.block
+                (numbered there block.before block.after block.block number block.is block.number);
             plain = text.plain;
             lines = subst (λ (table : List Part).
                 IsTableBelow old.lines (change_of t).at table c.keep_below.new.self) same
