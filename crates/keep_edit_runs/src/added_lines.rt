@@ -121,8 +121,10 @@ impl<'a> AddedLines<'a> {
         }
     }
 
-    /// Whether an appended header may be of a table or go through it.
-    pub fn has_header_through(&self, table: &Steps) -> bool {
+    /// Whether an appended header may be of a table or go through it; if not, none is or does.
+    pub fn has_header_through(&self, table: &Steps) -> bool
+        ensures { result ≡ false → ¬ HasAppended self.now.headers table.now }
+    {
         self.headers.has_appended_table(table)
     }
 

@@ -28,17 +28,6 @@ pub enum Again<'a> {
     Line(u64, TextEdit, TextEdit),
 }
 
-impl Again<'_> {
-    /// Its change of the text.
-    pub fn change(&self) -> &TextEdit
-        ensures { result.now ≡ edit_of self.now }
-    {
-        match self {
-            Again::Value(change) | Again::Key(_, change) | Again::Line(_, _, change) => change,
-        }
-    }
-}
-
 impl Before<'_> {
     /// What an edit does again that these edits, some of a list, are known to do.
     pub(crate) fn again<'a>(

@@ -123,6 +123,14 @@ impl<'a> KindsRun<'a> {
             && (matches!(outline, Outline::Insert(_)) || change.place.end < len)
     }
 
+    /// The same of what an element's remove takes.
+    pub fn lets_section(&self, change: &TextEdit, len: usize) -> bool
+        ensures { IsTrue result
+            → (path : List Part) → LetsChange self.now.tail.blocks.items len (remove path) change.now }
+    {
+        self.tail.is_empty() || (is_plain(change.new.as_str()) && change.place.end < len)
+    }
+
     /// Appends a header with these keys, as it is written, behind all that is at the end of the text. Returns whether
     /// it did: not one that has a carriage return, or is of a table whose header comes with a line, nor any where
     /// memory was refused. Then what is at the end of the text is the same.
@@ -147,14 +155,6 @@ impl<'a> KindsRun<'a> {
             }
             _ => false,
         }
-    }
-
-    /// The same of what an element's remove takes.
-    pub fn lets_section(&self, change: &TextEdit, len: usize) -> bool
-        ensures { IsTrue result
-            → (path : List Part) → LetsChange self.now.tail.blocks.items len (remove path) change.now }
-    {
-        self.tail.is_empty() || (is_plain(change.new.as_str()) && change.place.end < len)
     }
 
     /// Whether an edit is known to be left alone by those before it and elsewhere than in the arrays of which elements
