@@ -240,6 +240,8 @@ pub mod EndHeaders
 pub mod EndElements
 pub mod EndJoined
 pub mod KeysThrough
+pub mod MoreKeys
+pub mod MoreKeyRuns
 pub mod BroughtOverEnds
 pub mod EndOwnLines
 pub mod EndBelow

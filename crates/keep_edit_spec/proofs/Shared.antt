@@ -136,3 +136,4 @@ pub use Rattle.keep_edit_spec.proofs.Lists.EndElements.{end_comes_after_element}
 pub use Rattle.keep_edit_spec.proofs.Lists.EndHeaders.{end_goes_on}
 pub use Rattle.keep_edit_spec.proofs.Lists.EndJoined.{document_joined, ends_joined, ends_split, fine_after, plain_after}
 pub use Rattle.keep_edit_spec.proofs.Lists.EndTexts.{IsLonger, end_editable, end_text, with_ends}
+pub use Rattle.keep_edit_spec.proofs.Lists.MoreKeyRuns.{run_goes_on_inside, run_is_open}

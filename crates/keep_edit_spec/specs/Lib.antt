@@ -3,6 +3,7 @@ pub mod Changed
 pub mod Values
 pub mod Lines
 pub mod LinesAhead
+pub mod MoreKeys
 pub mod LinesInPlace
 pub mod Edits
 pub mod Refusals

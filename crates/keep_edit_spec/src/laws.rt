@@ -16,6 +16,7 @@ ghost use Rattle.keep_edit_spec.specs.KeyvalLines as keyvals;
 ghost use Rattle.keep_edit_spec.specs.Laws as spec;
 ghost use Rattle.keep_edit_spec.specs.LinesAhead as ahead;
 ghost use Rattle.keep_edit_spec.specs.LinesInPlace as in_place;
+ghost use Rattle.keep_edit_spec.specs.MoreKeys as more_keys;
 ghost use Rattle.keep_edit_spec.specs.RemovedHeaders as taken;
 ghost use Rattle.keep_edit_spec.specs.RemovedLines as removed;
 ghost use Rattle.keep_edit_spec.specs.RenamedKeys as keys;
@@ -197,6 +198,14 @@ pub fn headers_come_below()
     ensures table { below.StillBringsBelowTable }
     ensures element { below.StillBringsBelowElement }
     ensures ahead { below.StillBringsAhead }
+{}
+
+/// An insert of several keys adds the line that it adds at the end of a body after another of the same first new key,
+/// too: right behind that one's line, in the table that its dotted keys made. So runs of edits go on by such inserts.
+pub fn more_keys_come_behind()
+    ensures line { more_keys.AddsMoreKey }
+    ensures opens { more_keys.RunIsOpen }
+    ensures inside { more_keys.RunGoesOnInside }
 {}
 
 /// Edits that write at the end of the text come after any other that they leave alone, whichever was made first: each
