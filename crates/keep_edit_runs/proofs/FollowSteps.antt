@@ -8,7 +8,7 @@
 use Rattle.std.proofs.Common.{◌≡◌, ◌<◌, ◌∷◌, ◌++◌, [], ℕ, suc, List, take, length, get_or, refl, sym}
 use Rattle.std.proofs.Common.{ap, subst, ◌∙◌, All, IsUtf8, inl, inr, None, Option, Some, false, map, true}
 use Rattle.std.proofs.Common.{arith, string_bytes}
-use Rattle.std.specs.Prelude.{◌⊎◌, ◌==◌, ◌&&◌, ◌+◌, Any, Bool, IsTrue}
+use Rattle.std.specs.Prelude.{◌⊎◌, ◌==◌, ◌&&◌, Any, Bool, IsTrue}
 use Rattle.std.specs.List.{list_any}
 use Rattle.std.proofs.lemmas.List.Elements.{All-cons, All-weaker}
 use Rattle.std.proofs.lemmas.Str.{IsUtf8-string_bytes}

@@ -5,7 +5,7 @@
 -- with its change, behind all others where it begins. What is known of the edits is known of them in that order, too.
 --
 -- Theorems: `more_in_place`; `made_there`: the insert adds its line in the document after the edits.
-use Rattle.std.proofs.Common.{◌≡◌, ◌<◌, ◌+◌, ◌∷◌, ◌++◌, [], ℕ, suc, List, take, length, get_or, refl, sym}
+use Rattle.std.proofs.Common.{◌≡◌, ◌<◌, ◌∷◌, ◌++◌, [], ℕ, suc, List, take, length, get_or, refl, sym}
 use Rattle.std.proofs.Common.{ap, subst, ◌∙◌, All, IsUtf8, arith, inl, inr, None, Some, true}
 use Rattle.std.specs.Prelude.{Any, Bool, IsTrue}
 use Rattle.std.specs.List.{count_by}

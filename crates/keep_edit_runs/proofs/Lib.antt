@@ -41,4 +41,5 @@ mod TailEnds
 mod TailBelow
 mod TailLaws
 mod TailSteps
+mod ElementsAlone
 mod SameRuns

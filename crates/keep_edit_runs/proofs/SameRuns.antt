@@ -5,9 +5,10 @@
 -- Theorems: `on_planned`: the run is still of that text; `alone_as`, `added_as`, `unchanged_as`: what an edit does to
 -- it; `run_before`, `run_in_place`, `run_at_end`: the run with one edit more, before what is at the end of the text, or
 -- there; `adds_one`, `appends_one`, `puts_below`, `adds_in_place`: what that edit does.
-use Rattle.std.proofs.Common.{◌≡◌, ◌∙◌, ℕ, All, Bor, Global, List, Option, String, ap, false, inl, inr, refl, subst}
-use Rattle.std.proofs.Common.{sym, true}
+use Rattle.std.proofs.Common.{◌≡◌, ◌∙◌, ◌∷◌, ◌++◌, [], ℕ, All, Bor, Global, List, Option, String, ap, false, inl, inr}
+use Rattle.std.proofs.Common.{refl, subst, subst₂, sym, true}
 use Rattle.std.specs.Prelude.{Bool}
+use Rattle.std.proofs.lemmas.List.Elements.{All-cons, All-nil}
 use Rattle.keep_edit_spec.specs.Runs.{IsPlain, is_header}
 use Rattle.keep_edit_spec.specs.declared.line_kind.LineKind.{LineKind}
 use Rattle.keep_edit_plan.specs.Reading.{ProfiledText}
@@ -17,8 +18,9 @@ use Rattle.keep_edit_plan.specs.declared.text_edit.TextEdit.{TextEdit}
 use Rattle.keep_edit_runs.specs.KindsRun.{AddsAny, IsAddedBefore, IsAddedInPlace, IsAlone, IsAppended}
 use Rattle.keep_edit_runs.specs.KindsRun.{IsInsertedBelow, IsOfHeader}
 use Rattle.keep_edit_runs.specs.KindsRun.{IsPlacedAmong, IsRunOn, IsUnchanged, with_tail}
-use Rattle.keep_edit_runs.specs.Runs.{IsAddedBehind, MakesInRunHere, outlined}
+use Rattle.keep_edit_runs.specs.Runs.{IsAddedBehind, LeavesAlone, MakesInRunHere, outlined}
 use Rattle.keep_edit_runs.specs.SeenPaths.{IsArraySeen, IsSeen}
+use Rattle.keep_edit_runs.specs.Tail.{IsOutlineAdded}
 use Rattle.keep_edit_runs.specs.declared.added_lines.AddedLines.{AddedLines}
 use Rattle.keep_edit_runs.specs.declared.gone_between.GoneBetween.{GoneBetween}
 use Rattle.keep_edit_runs.specs.declared.kinds_run.KindsRun.{KindsRun}
@@ -26,6 +28,7 @@ use Rattle.keep_edit_runs.specs.declared.opened.OpenValues.{OpenValues}
 use Rattle.keep_edit_runs.specs.declared.outline.Outline.{Outline}
 use Rattle.keep_edit_runs.specs.declared.tail.Block.{Block}
 use Rattle.keep_edit_runs.specs.declared.tail.Tail.{Tail}
+use Rattle.keep_edit_runs.proofs.ElementsAlone.{AreElementsAlone, alone_at_end, alone_before}
 use Rattle.keep_edit_runs.proofs.SeenLaws.{more_seen}
 use Rattle.keep_edit_runs.proofs.SeenPathLaws.{arrays_still}
 
@@ -46,6 +49,7 @@ module _ (old then : KindsRun) (opened : OpenValues) (planner : ProfiledText) (l
       edits = run.seen.edits;
       arrays = run.seen.arrays;
       tail = run.seen.tail;
+      elements = run.seen.elements;
     };
     text = text;
     plain = run.plain;
@@ -53,11 +57,7 @@ module _ (old then : KindsRun) (opened : OpenValues) (planner : ProfiledText) (l
   })
 
   pub alone_as : (o : Outline) → IsAlone old o → IsAlone then o
-  alone_as o alone = subst (λ (r : KindsRun). IsAlone r o) (sym is) (record {
-    edits = alone.edits;
-    tail = alone.tail;
-    elsewhere = alone.elsewhere;
-  })
+  alone_as o alone = subst (λ (r : KindsRun). IsAlone r o) (sym is) alone
 
   pub unchanged_as : (new : KindsRun) → IsUnchanged then new → IsUnchanged old new
   unchanged_as new = subst (λ (r : KindsRun). IsUnchanged r new → IsUnchanged old new) (sym is) (λ h. record {
@@ -68,13 +68,6 @@ module _ (old then : KindsRun) (opened : OpenValues) (planner : ProfiledText) (l
   pub added_as : (now : ProfiledText) (x : Edit) (new : KindsRun) → AddsAny now then x new → AddsAny now old x new
   added_as now x new = subst (λ (r : KindsRun). AddsAny now r x new → AddsAny now old x new) (sym is) by
     where
-      its : (o : Outline) → IsAlone (planned old opened planner left plain) o → IsAlone old o
-      its o h = record {
-        edits = h.edits;
-        tail = h.tail;
-        elsewhere = h.elsewhere;
-      }
-
       by : AddsAny now (planned old opened planner left plain) x new → AddsAny now old x new
       by (inl h) = inl (record {
         outline = h.outline;
@@ -82,7 +75,7 @@ module _ (old then : KindsRun) (opened : OpenValues) (planner : ProfiledText) (l
         change = h.change;
         line = h.line;
         makes = h.makes;
-        alone = its h.outline h.alone;
+        alone = h.alone;
         lets = h.lets;
         placed = h.placed;
         added = h.added;
@@ -99,7 +92,7 @@ module _ (old then : KindsRun) (opened : OpenValues) (planner : ProfiledText) (l
             change = h.change;
             line = h.line;
             makes = h.makes;
-            alone = its h.outline h.alone;
+            alone = h.alone;
             placed = h.placed;
             appended = record {
               plain = put.plain;
@@ -118,7 +111,7 @@ module _ (old then : KindsRun) (opened : OpenValues) (planner : ProfiledText) (l
             change = h.change;
             line = h.line;
             makes = h.makes;
-            alone = its h.outline h.alone;
+            alone = h.alone;
             placed = h.placed;
             inserted = record {
               first = put.first;
@@ -145,7 +138,7 @@ module _ (old then : KindsRun) (opened : OpenValues) (planner : ProfiledText) (l
         is = h.is;
         change = h.change;
         makes = h.makes;
-        alone = its h.outline h.alone;
+        alone = h.alone;
         lets = h.lets;
         plain = h.plain;
         new_plain = h.new_plain;
@@ -159,10 +152,22 @@ module _ (old then : KindsRun) (opened : OpenValues) (planner : ProfiledText) (l
 
 -- ---- one edit more
 
+-- the elements at the end of the text are left alone
+still_alone : {now : ProfiledText} (old new : KindsRun) (o : Outline) → IsRunOn now old → IsAlone old o
+    → new.so_far.outlines.items ≡ old.so_far.outlines.items ++ o ∷ [] → new.tail ≡ old.tail → new.gone ≡ old.gone
+    → AreElementsAlone new.so_far.outlines.items new.tail.outlines.items new.gone.arrays.items
+still_alone old new o run alone outlines tail gone =
+    subst₂ (λ (l : Tail) (g : GoneBetween).
+    AreElementsAlone new.so_far.outlines.items l.outlines.items g.arrays.items) (sym tail) (sym gone)
+    (subst (λ (l : List Outline). AreElementsAlone l old.tail.outlines.items old.gone.arrays.items) (sym outlines)
+    (alone_before old.so_far.outlines.items old.tail.outlines.items old.gone.arrays.items run.seen.elements (o ∷ [])
+    (All-cons (λ (x : Outline). All (λ y. LeavesAlone y x) old.tail.outlines.items) o [] alone.tail
+    (All-nil (λ (x : Outline). All (λ y. LeavesAlone y x) old.tail.outlines.items)))))
+
 -- before what is at the end of the text
 pub run_before : (now : ProfiledText) (old : KindsRun) (x : Edit) (o : Outline) (t : TextEdit) (line : Option LineKind)
-    (new : KindsRun) → IsRunOn now old → IsAddedBefore now old x o t line new → IsRunOn now new
-run_before now old x o t line new run added = record {
+    (new : KindsRun) → IsRunOn now old → IsAlone old o → IsAddedBefore now old x o t line new → IsRunOn now new
+run_before now old x o t line new run alone added = record {
   seen = record {
     edits = subst (All (IsSeen new.paths)) (sym added.outlines)
         (more_seen (IsSeen old.paths) (IsSeen new.paths) old.so_far.outlines.items o added.others added.seen
@@ -172,6 +177,8 @@ run_before now old x o t line new run added = record {
         (arrays_still old.paths new.paths added.others old.gone.arrays.items run.seen.arrays);
     tail = subst (λ (l : Tail). All (IsSeen l.paths) l.outlines.items)
         (sym (ap (λ (r : KindsRun). r.tail) added.rest)) run.seen.tail;
+    elements = still_alone old new o run alone added.outlines (ap (λ (r : KindsRun). r.tail) added.rest)
+        (ap (λ (r : KindsRun). r.gone) added.rest);
   };
   text = λ yes. run.text (sym (ap (λ (r : KindsRun). r.is_text_plain) added.rest) ∙ yes);
   plain = λ yes. let (before, more) = added.plain yes in more (run.plain before);
@@ -180,8 +187,8 @@ run_before now old x o t line new run added = record {
 
 -- so it is in the place of what another takes
 pub run_in_place : (now : ProfiledText) (old : KindsRun) (o : Outline) (t : TextEdit) (line : Option LineKind)
-    (new : KindsRun) → IsRunOn now old → IsAddedInPlace now old o t line new → IsRunOn now new
-run_in_place now old o t line new run added = record {
+    (new : KindsRun) → IsRunOn now old → IsAlone old o → IsAddedInPlace now old o t line new → IsRunOn now new
+run_in_place now old o t line new run alone added = record {
   seen = record {
     edits = subst (All (IsSeen new.paths)) (sym added.outlines)
         (more_seen (IsSeen old.paths) (IsSeen new.paths) old.so_far.outlines.items o added.others added.seen
@@ -191,6 +198,8 @@ run_in_place now old o t line new run added = record {
         (arrays_still old.paths new.paths added.others old.gone.arrays.items run.seen.arrays);
     tail = subst (λ (l : Tail). All (IsSeen l.paths) l.outlines.items)
         (sym (ap (λ (r : KindsRun). r.tail) added.rest)) run.seen.tail;
+    elements = still_alone old new o run alone added.outlines (ap (λ (r : KindsRun). r.tail) added.rest)
+        (ap (λ (r : KindsRun). r.gone) added.rest);
   };
   text = λ yes. run.text (sym (ap (λ (r : KindsRun). r.is_text_plain) added.rest) ∙ yes);
   plain = λ yes. let (before, more) = added.plain yes in more (run.plain before);
@@ -198,13 +207,18 @@ run_in_place now old o t line new run added = record {
 }
 
 -- and at the end of the text
-pub run_at_end : (now : ProfiledText) (old new : KindsRun) (lines : AddedLines) (tail : Tail) → IsRunOn now old
-    → new ≡ with_tail old lines tail → All (IsSeen tail.paths) tail.outlines.items → IsRunOn now new
-run_at_end now old new lines tail run is seen = subst (IsRunOn now) (sym is) (record {
+pub run_at_end : (now : ProfiledText) (old new : KindsRun) (o : Outline) (lines : AddedLines) (tail : Tail)
+    → IsRunOn now old → IsAlone old o → new ≡ with_tail old lines tail → IsOutlineAdded old.tail o tail
+    → IsRunOn now new
+run_at_end now old new o lines tail run alone is added = subst (IsRunOn now) (sym is) (record {
   seen = record {
     edits = run.seen.edits;
     arrays = run.seen.arrays;
-    tail = seen;
+    tail = added.seen;
+    elements = subst (λ (l : List Outline). AreElementsAlone old.so_far.outlines.items l old.gone.arrays.items)
+        (sym added.outlines)
+        (alone_at_end old.so_far.outlines.items old.tail.outlines.items old.gone.arrays.items run.seen.elements o
+        alone);
   };
   text = run.text;
   plain = run.plain;

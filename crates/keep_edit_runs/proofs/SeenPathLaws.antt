@@ -132,7 +132,7 @@ module _ (seen : SeenPaths) where
   turned a b h = (h.1, h.0)
 
   -- a path begins with all of itself
-  whole : (p : List Part) → HasPath seen p → HasBeginning seen p
+  pub whole : (p : List Part) → HasPath seen p → HasBeginning seen p
   whole p h =
       let own = slice_get_within p 0 (key h.first.0) h.first.1 in
       let more : (length p - 1) + 1 ≡ length p = omega (arith, own) in

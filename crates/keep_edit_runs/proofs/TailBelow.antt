@@ -6,7 +6,7 @@
 -- line, or its line alone (`writes`). So it is at the end, too (`end_goes_on_below`), as one more of the block's edits.
 --
 -- Theorem: `puts_below`.
-use Rattle.std.proofs.Common.{◌≡◌, ◌≢◌, ◌<◌, ◌+◌, ◌∷◌, ◌++◌, [], ℕ, suc, All, IsUtf8, List, length, take, get_or}
+use Rattle.std.proofs.Common.{◌≡◌, ◌≢◌, ◌<◌, ◌∷◌, ◌++◌, [], ℕ, suc, All, IsUtf8, List, length, take, get_or}
 use Rattle.std.proofs.Common.{None, Some, Option, refl, sym, ap, ap₂, subst, subst₂, ◌∙◌, append_assoc, arith, inl, inr}
 use Rattle.std.proofs.Common.{length-append, map}
 use Rattle.std.specs.Prelude.{◌⊎◌, String, false, string_bytes, true}

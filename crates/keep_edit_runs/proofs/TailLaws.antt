@@ -40,13 +40,13 @@ use Rattle.keep_edit_plan.specs.declared.edit.Edit.{Edit}
 use Rattle.keep_edit_plan.proofs.Shared.{editable}
 use Rattle.keep_edit_runs.specs.AddedLines.{IsHeaderKnown}
 use Rattle.keep_edit_runs.specs.GoneBetween.{IsElementRunTo}
-use Rattle.keep_edit_runs.specs.KindsRun.{AddsInPlace, AddsOne, IsRunOn, IsRunUpTo, IsUnchanged, PutsOne}
+use Rattle.keep_edit_runs.specs.KindsRun.{AddsInPlace, AddsOne, IsAlone, IsRunOn, IsRunUpTo, IsUnchanged, PutsOne}
 use Rattle.keep_edit_runs.specs.KindsRun.{StartsAt, TakesOne}
 use Rattle.keep_edit_runs.specs.Lists.{AreMade, IsEdit, growth_of}
 use Rattle.keep_edit_runs.specs.Runs.{IsRunTo, LeavesAlone, MakeChanges, changed_text, outlined, plain}
 use Rattle.keep_edit_runs.specs.SeenHeaders.{HasTableOf}
 use Rattle.keep_edit_runs.specs.SeenPaths.{IsArraySeen, IsSeen}
-use Rattle.keep_edit_runs.specs.Tail.{AreBlocks, bytes_of, written}
+use Rattle.keep_edit_runs.specs.Tail.{AreBlocks, bytes_of, is_element, written}
 use Rattle.keep_edit_runs.specs.declared.added_lines.AddedLines.{AddedLines}
 use Rattle.keep_edit_runs.specs.declared.at_once.Run.{Run}
 use Rattle.keep_edit_runs.specs.declared.gone_between.GoneBetween.{GoneBetween}
@@ -501,6 +501,8 @@ in_begins edits first now run few h =
           edits = subst (All (IsSeen run.paths)) (sym h.outlines) (All-nil (IsSeen run.paths));
           arrays = subst (All (IsArraySeen run.paths)) (sym h.arrays) (All-nil (IsArraySeen run.paths));
           tail = subst (All (IsSeen run.tail.paths)) (sym h.outlines_at_end) (All-nil (IsSeen run.tail.paths));
+          elements = subst (All (λ (t : Outline). is_element t ≡ true → IsAlone run t)) (sym h.outlines_at_end)
+              (All-nil (λ (t : Outline). is_element t ≡ true → IsAlone run t));
         };
         text = λ yes. absurd (let no = h.text in cc);
         plain = λ yes. subst (All (λ d. IsPlain d.new)) (sym h.changes) (All-nil (λ (d : TextChange). IsPlain d.new));

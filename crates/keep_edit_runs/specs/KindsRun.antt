@@ -22,7 +22,7 @@ use Rattle.keep_edit_plan.specs.Reading.{ProfiledText}
 use Rattle.keep_path.specs.Path.{Part, without_last}
 use Rattle.keep_edit_runs.specs.Runs.{AddsLineAlone, IsAddedBehind, IsAddedInOrder, LeavesAlone, MakesInRunHere}
 use Rattle.keep_edit_runs.specs.Runs.{no_value, outlined}
-use Rattle.keep_edit_runs.specs.Tail.{HeaderIsAdded, IsBlockFor, IsOutlineAdded, IsPutBelow, bytes_of}
+use Rattle.keep_edit_runs.specs.Tail.{HeaderIsAdded, IsBlockFor, IsOutlineAdded, IsPutBelow, bytes_of, is_element}
 use Rattle.keep_edit_runs.specs.SeenPaths.{IsArraySeen, IsSeen}
 use Rattle.keep_edit_runs.specs.declared.added_lines.AddedLines.{AddedLines}
 use Rattle.keep_edit_runs.specs.declared.again.Again.{Again}
@@ -37,11 +37,23 @@ use Rattle.keep_edit_runs.specs.AddedLines.{IsCounted, IsHeaderLast, IsTableBelo
 use Rattle.keep_edit_runs.specs.declared.tail.Block.{Block}
 use Rattle.keep_edit_runs.specs.declared.tail.Tail.{Tail}
 
--- the paths of its edits are known, and those of the arrays
+-- The edits with these outlines, and those at the end of the text, leave alone this one, which is elsewhere than in the
+-- arrays.
+pub record IsAloneAmong (outlines at_end : List Outline) (arrays : List (List Part)) (o : Outline) : Type 0 where
+  pub edits : All (λ y. LeavesAlone y o) outlines
+  pub tail : All (λ y. LeavesAlone y o) at_end
+  pub elsewhere : All (λ array. IsElsewhere array (outlined o)) arrays
+
+abbrev pub IsAlone : KindsRun → Outline → Type 0
+IsAlone run o = IsAloneAmong run.so_far.outlines.items run.tail.outlines.items run.gone.arrays.items o
+
+-- The paths of its edits are known, and those of the arrays. Each element that is appended at the end of the text is
+-- left alone by all edits, itself too.
 pub record AreSeen (run : KindsRun) : Type 0 where
   pub edits : All (IsSeen run.paths) run.so_far.outlines.items
   pub arrays : All (IsArraySeen run.paths) run.gone.arrays.items
   pub tail : All (IsSeen run.tail.paths) run.tail.outlines.items
+  pub elements : All (λ t. is_element t ≡ true → IsAlone run t) run.tail.outlines.items
 
 -- no edits yet of the document of this text
 pub record StartsAt (now : ProfiledText) (run : KindsRun) : Type 0 where
@@ -75,12 +87,6 @@ with_paths run paths left = record run { paths = paths; left = left }
 -- and with these paths and these elements gone
 abbrev pub with_gone : KindsRun → SeenPaths → GoneBetween → KindsRun
 with_gone run paths gone = record run { paths = paths; gone = gone }
-
--- The edits leave alone this one, which is elsewhere than in the arrays.
-pub record IsAlone (run : KindsRun) (o : Outline) : Type 0 where
-  pub edits : All (λ y. LeavesAlone y o) run.so_far.outlines.items
-  pub tail : All (λ y. LeavesAlone y o) run.tail.outlines.items
-  pub elsewhere : All (λ array. IsElsewhere array (outlined o)) run.gone.arrays.items
 
 -- The array is one of those, as all before are, and the edits are elsewhere than in each. All paths are known still,
 -- and all else is as it was.

@@ -1,16 +1,21 @@
 -- What edits that are made at once write at the end of the text: headers, and inserts below them.
-use Rattle.std.specs.Prelude.{◌≡◌, ◌⊎◌, ℕ, ◌<◌, All, List, [], ◌∷◌, ◌++◌, None, Some, String, length}
-use Rattle.std.specs.Prelude.{string_bytes}
+use Rattle.std.specs.Prelude.{◌≡◌, ◌⊎◌, ℕ, ◌<◌, All, Any, Bool, List, [], ◌∷◌, ◌++◌, None, Some, String, false}
+use Rattle.std.specs.Prelude.{length, string_bytes, true}
 use Rattle.std.specs.Borrow.{Bor}
 use Rattle.std.specs.Global.{Global}
+use Rattle.std.specs.HashMap.{HashMap}
+use Rattle.std.specs.declared.hash.BuildHasherDefault.{BuildHasherDefault}
+use Rattle.std.specs.declared.hash.FoldHasher.{FoldHasher}
 use Rattle.keep_path.specs.Path.{Part, strip}
 use Rattle.keep_edit_spec.specs.Edits as law
 use Rattle.keep_edit_spec.specs.EndEdits.{EndEdit, IsInto}
 use Rattle.keep_edit_spec.specs.HeadersBelow.{GoThrough}
 use Rattle.keep_edit_spec.specs.Runs.{PassesBy}
 use Rattle.keep_edit_plan.specs.Headers.{key_texts}
+use Rattle.keep_edit_runs.specs.Runs.{outlined}
 use Rattle.keep_edit_runs.specs.SeenPaths.{IsSeen}
 use Rattle.keep_edit_runs.specs.declared.outline.Outline.{Outline}
+use Rattle.keep_edit_runs.specs.declared.outline.Outline.TheVariants.{Element}
 use Rattle.keep_edit_runs.specs.declared.tail.Block.{Block}
 use Rattle.keep_edit_runs.specs.declared.tail.Tail.{Tail}
 
@@ -51,7 +56,19 @@ AreBlocks (b ∷ bs) ts =
     (h : EndEdit) × ((own : List EndEdit) × ((rest : List EndEdit)
     × ((ts ≡ h ∷ own ++ rest) × (IsBlock b h own × AreBlocks bs rest))))
 
+abbrev pub is_element : Outline → Bool
+is_element (Element keys) = true
+is_element _ = false
+
+-- The edit appends an element, as one of those with these outlines does, with the same keys.
+abbrev pub HasElementLike : List Outline → Outline → Type 0
+HasElementLike outlines o = Any (λ t. (is_element t ≡ true) × (outlined t ≡ outlined o)) outlines
+
 -- ---- one more
+
+-- the same edits, with other places of elements
+abbrev pub with_elements : Tail → HashMap ℕ ℕ (BuildHasherDefault FoldHasher) → Tail
+with_elements tail elements = record tail { elements = elements }
 
 -- What one edit more does is known, and its paths, as those of all others are.
 pub record IsOutlineAdded (old : Tail) (o : Outline) (new : Tail) : Type 0 where

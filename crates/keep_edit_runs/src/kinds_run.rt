@@ -1,7 +1,8 @@
 //! A run of edits of several kinds that are made at once, as far as they are gone through.
-ghost use Rattle.std.specs.Prelude.{◌≡◌, All, IsTrue, List, false};
+ghost use Rattle.std.specs.Prelude.{◌≡◌, ◌⊎◌, [], All, IsTrue, List, false};
 ghost use Rattle.keep_edit_spec.specs.Edits.{remove};
 ghost use Rattle.keep_edit_spec.specs.ElementRuns.{IsElsewhere};
+ghost use Rattle.keep_edit_runs.specs.Again.{outlines_of};
 ghost use Rattle.keep_edit_runs.specs.GoneBetween.{AreElsewhere};
 ghost use Rattle.keep_edit_runs.specs.KindsRun.{AreSeen, DoesAgain, IsAlone, IsAppended, IsRunOn, IsRunUpTo};
 ghost use Rattle.keep_edit_runs.specs.KindsRun.{IsUnchanged, KeepsArray, LetsAgainBefore, LetsChange, StartsAt};
@@ -99,7 +100,8 @@ impl<'a> KindsRun<'a> {
 
     /// Whether what is done again may come before what is at the end of the text.
     fn lets_again(&self, again: &Again) -> bool
-        ensures { IsTrue result → LetsAgainBefore self.now.tail.blocks.items again.now }
+        ensures before { IsTrue result → LetsAgainBefore self.now.tail.blocks.items again.now }
+        ensures none { IsTrue result → (outlines_of again.now ≡ []) ⊎ (self.now.tail.outlines.items ≡ []) }
     {
         if self.tail.is_empty() {
             return true;
@@ -158,12 +160,15 @@ impl<'a> KindsRun<'a> {
     }
 
     /// Whether an edit is known to be left alone by those before it and elsewhere than in the arrays of which elements
-    /// went.
+    /// went: an element is where one with the same keys was appended before it.
     pub fn is_left_alone(&mut self, outline: &Outline) -> bool
         requires { AreSeen self.old }
         ensures alone { IsTrue result → IsAlone self.old outline.now }
         ensures rest { self.new ≡ with_paths self.old self.old.paths self.new.left }
     {
+        if self.tail.has_element_like(outline) {
+            return true;
+        }
         if outline.has_long_path_among_all() || !self.tail.leave_alone(&mut self.left, outline) {
             return false;
         }

@@ -8,16 +8,19 @@ ghost use Rattle.keep_edit_plan.specs.Headers.{key_texts};
 ghost use Rattle.keep_edit_runs.specs.Runs.{LeavesAlone, outlined};
 ghost use Rattle.keep_edit_runs.specs.SeenPaths.{IsSeen};
 ghost use Rattle.keep_edit_runs.specs.declared.tail.Block.{Block};
-ghost use Rattle.keep_edit_runs.specs.Tail.{HeaderIsAdded, IsBlockFor, IsBlockOf, IsLastThrough, IsOutlineAdded};
-ghost use Rattle.keep_edit_runs.specs.Tail.{IsPutBelow, LetsTable, bytes_of};
+ghost use Rattle.keep_edit_runs.specs.Tail.{HasElementLike, HeaderIsAdded, IsBlockFor, IsBlockOf, IsLastThrough};
+ghost use Rattle.keep_edit_runs.specs.Tail.{IsOutlineAdded, IsPutBelow, LetsTable, bytes_of, with_elements};
 ghost use Rattle.keep_edit_spec.specs.ElementRuns.{IsElsewhere};
 ghost use Rattle.keep_edit_spec.specs.HeadersBelow.{GoThrough};
 
-use crate::alike::{are_elsewhere, is_same, is_within, leave_alone_within, passes_by};
+use crate::alike::{
+    are_elsewhere, are_same_keys, is_same, is_within, leave_alone_within, passes_by,
+};
 use crate::outline::{Outline, Steps};
-use crate::seen_paths::SeenPaths;
+use crate::seen_paths::{SeenPaths, number_of_header};
 use keep_rules::Step;
 use std::alloc::{AllocError, Global};
+use std::collections::HashMap;
 
 /// A header at the end of the text, and what comes below it there.
 #[derive(Drop)]
@@ -35,6 +38,8 @@ pub struct Tail<'a> {
     pub blocks: Vec<Block<'a>>,
     /// Their paths and keys, by which most edits are known to be left alone by them.
     pub paths: SeenPaths<'a>,
+    /// Where the last element of each array of tables is among them, by the number that stands for its keys.
+    pub elements: HashMap<u64, usize>,
 }
 
 impl<'a> Tail<'a> {
@@ -46,14 +51,31 @@ impl<'a> Tail<'a> {
             outlines: Vec::new(alloc),
             blocks: Vec::new(alloc),
             paths: SeenPaths::new(alloc),
+            elements: HashMap::new(alloc),
         }
     }
 
     /// Whether there are none.
     pub fn is_empty(&self) -> bool
-        ensures { Decides result (self.now.blocks.items ≡ []) }
+        ensures { Decides result ((self.now.blocks.items ≡ []) × (self.now.outlines.items ≡ [])) }
     {
-        self.blocks.is_empty()
+        self.blocks.is_empty() && self.outlines.is_empty()
+    }
+
+    /// Whether an edit appends an element, and one of them appends one with the same keys, as far as is known.
+    pub fn has_element_like(&self, outline: &Outline) -> bool
+        ensures { IsTrue result → HasElementLike self.now.outlines.items outline.now }
+    {
+        let Outline::Element(keys) = outline else {
+            return false;
+        };
+        let Some(place) = self.elements.get(&number_of_header(keys)) else {
+            return false;
+        };
+        match self.outlines.get(*place) {
+            Some(Outline::Element(own)) => are_same_keys(own, keys),
+            _ => false,
+        }
     }
 
     /// Whether each of them is known to leave an edit alone, where at most so many pairs may still be compared.
@@ -97,7 +119,21 @@ impl<'a> Tail<'a> {
         ensures outlines { IsTrue result → IsOutlineAdded self.old outline.entry self.new }
         ensures blocks { self.new.blocks.items ≡ self.old.blocks.items }
     {
-        self.paths.add(&outline).unwrap_or(false) && self.outlines.push(outline).is_ok()
+        self.paths.add(&outline).unwrap_or(false)
+            && self.keep_element(&outline)
+            && self.outlines.push(outline).is_ok()
+    }
+
+    /// Keeps where the next edit comes among them, if it appends an element. Returns whether it is kept then; it is not
+    /// where memory was refused.
+    fn keep_element(&mut self, outline: &Outline) -> bool
+        ensures { self.new ≡ with_elements self.old self.new.elements }
+    {
+        let Outline::Element(keys) = outline else {
+            return true;
+        };
+        let place = self.outlines.len();
+        self.elements.insert(number_of_header(keys), place).is_ok()
     }
 
     /// The number of the block below whose header an insert into a table comes: the one below which others into the

@@ -6,11 +6,12 @@ use Rattle.std.proofs.Common.{◌≡◌, ◌∙◌, Bor, Global, List, None, Opt
 use Rattle.keep_edit_spec.specs.Runs.{IsPlain}
 use Rattle.keep_edit_plan.specs.Reading.{ProfiledText}
 use Rattle.keep_edit_plan.specs.TextEdits.{change_of}
-use Rattle.keep_edit_runs.specs.KindsRun.{IsPlacedAmong, IsRunOn, with_paths, with_text}
+use Rattle.keep_edit_runs.specs.KindsRun.{IsAlone, IsPlacedAmong, IsRunOn, with_paths, with_text}
 use Rattle.keep_edit_runs.specs.Runs.{MakesInRunHere}
 use Rattle.keep_edit_runs.specs.declared.at_once.AtOnce.{AtOnce}
 use Rattle.keep_edit_runs.specs.declared.kinds_run.KindsRun.{KindsRun}
 use Rattle.keep_edit_runs.specs.declared.opened.OpenValues.{OpenValues}
+use Rattle.keep_edit_runs.specs.declared.outline.Outline.{Outline}
 use Rattle.keep_edit_runs.proofs.SameRuns.{added_as, adds_in_place, adds_one, alone_as, appends_one, on_planned}
 use Rattle.keep_edit_runs.proofs.SameRuns.{planned, puts_below, run_at_end, run_before, run_in_place, unchanged_as}
 use Rattle.keep_edit_runs.proofs.before.Before.add_to.Goals as goal
@@ -33,6 +34,9 @@ module _ (old left then : KindsRun) (opened : OpenValues) (planner : ProfiledTex
   then_on now run same text =
       on_planned old then opened planner left.left then.is_text_plain then_is now run
       (same ∙ ap (λ (r : KindsRun). r.planner) is ∙ run.planner) text
+
+  then_alone : (o : Outline) → IsAlone old o → IsAlone then o
+  then_alone = alone_as old then opened planner left.left then.is_text_plain then_is
 
 pub keeps_place_in-requires-clause-run : goal.keeps_place_in-requires-clause-run
 keeps_place_in-requires-clause-run c =
@@ -80,6 +84,9 @@ returns-then-not-keeps_place_in-clause-run c = λ added.
     c.change_in_run.new.planner c.is_left_alone.ensures.rest c.keeps_place_in.ensures.rest now c.requires.run
     c.change_in_run.ensures.planner c.keeps_place_in.ensures.text in
     run_in_place now c.keeps_place_in.new.run c.of-outline.result made.change made.line c.add_in_place.new.run run
+    (then_alone c.args.run.now c.is_left_alone.new.self c.keeps_place_in.new.run c.change_in_run.new.opened
+    c.change_in_run.new.planner c.is_left_alone.ensures.rest c.keeps_place_in.ensures.rest c.of-outline.result
+    (c.is_left_alone.ensures.alone c.if-not-is_left_alone.false))
     (c.add_in_place.ensures.added added)
 
 pub returns-then-not-keeps_place_in-clause-refused : goal.returns-then-not-keeps_place_in-clause-refused
@@ -137,7 +144,11 @@ returns-in-Some-header_keys-clause-run c = λ added.
     let run = then_on c.args.run.now c.is_left_alone.new.self c.keeps_place_in.new.run c.change_in_run.new.opened
     c.change_in_run.new.planner c.is_left_alone.ensures.rest c.keeps_place_in.ensures.rest c.args.self.now
     c.requires.run c.change_in_run.ensures.planner c.keeps_place_in.ensures.text in
-    run_at_end c.args.self.now c.keeps_place_in.new.run new new.lines new.tail run appended.rest appended.outlines.seen
+    run_at_end c.args.self.now c.keeps_place_in.new.run new c.of-outline.result new.lines new.tail run
+    (then_alone c.args.run.now c.is_left_alone.new.self c.keeps_place_in.new.run c.change_in_run.new.opened
+    c.change_in_run.new.planner c.is_left_alone.ensures.rest c.keeps_place_in.ensures.rest c.of-outline.result
+    (c.is_left_alone.ensures.alone c.if-not-is_left_alone.false))
+    appended.rest appended.outlines
 
 pub returns-in-Some-header_keys-clause-refused : goal.returns-in-Some-header_keys-clause-refused
 returns-in-Some-header_keys-clause-refused c = λ refused.
@@ -181,7 +192,11 @@ returns-then-comes_below-clause-run c = λ added.
     let run = then_on c.args.run.now c.is_left_alone.new.self c.keeps_place_in.new.run c.change_in_run.new.opened
     c.change_in_run.new.planner c.is_left_alone.ensures.rest c.keeps_place_in.ensures.rest c.args.self.now
     c.requires.run c.change_in_run.ensures.planner c.keeps_place_in.ensures.text in
-    run_at_end c.args.self.now c.keeps_place_in.new.run new new.lines new.tail run put.rest put.outlines.seen
+    run_at_end c.args.self.now c.keeps_place_in.new.run new c.of-outline.result new.lines new.tail run
+    (then_alone c.args.run.now c.is_left_alone.new.self c.keeps_place_in.new.run c.change_in_run.new.opened
+    c.change_in_run.new.planner c.is_left_alone.ensures.rest c.keeps_place_in.ensures.rest c.of-outline.result
+    (c.is_left_alone.ensures.alone c.if-not-is_left_alone.false))
+    put.rest put.outlines
 
 pub returns-then-comes_below-clause-refused : goal.returns-then-comes_below-clause-refused
 returns-then-comes_below-clause-refused c = λ refused.
@@ -228,7 +243,11 @@ returns-clause-run c = λ added.
     c.change_in_run.new.planner c.is_left_alone.ensures.rest c.keeps_place_in.ensures.rest now c.requires.run
     c.change_in_run.ensures.planner c.keeps_place_in.ensures.text in
     run_before now c.keeps_place_in.new.run c.args.edit.now c.of-outline.result made.change made.line
-    c.add_before.new.run run (c.add_before.ensures.added added)
+    c.add_before.new.run run
+    (then_alone c.args.run.now c.is_left_alone.new.self c.keeps_place_in.new.run c.change_in_run.new.opened
+    c.change_in_run.new.planner c.is_left_alone.ensures.rest c.keeps_place_in.ensures.rest c.of-outline.result
+    (c.is_left_alone.ensures.alone c.if-not-is_left_alone.false))
+    (c.add_before.ensures.added added)
 
 pub returns-clause-refused : goal.returns-clause-refused
 returns-clause-refused c = λ refused.

@@ -43,6 +43,7 @@ returns-clause-found c =
         edits = kept.seen.edits;
         arrays = kept.seen.arrays;
         tail = kept.seen.tail;
+        elements = kept.seen.elements;
       };
       rest = ap (λ (r : KindsRun). with_gone r c.keep_array.new.self.paths gone) kept.rest;
     }

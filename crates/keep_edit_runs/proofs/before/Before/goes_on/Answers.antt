@@ -45,6 +45,7 @@ returns-in-Some-clause-run c = λ done.
         edits = run.seen.edits;
         arrays = run.seen.arrays;
         tail = run.seen.tail;
+        elements = run.seen.elements;
       };
       text = run.text;
       plain = run.plain;
@@ -69,6 +70,7 @@ add_to-requires-clause-run c =
               edits = run.seen.edits;
               arrays = run.seen.arrays;
               tail = run.seen.tail;
+              elements = run.seen.elements;
             };
             text = run.text;
             plain = run.plain;

@@ -1,6 +1,6 @@
 -- What the edit takes is put beside the changes of the run; its edits stay as they are, as does what is at the end of
 -- the text.
-use Rattle.std.proofs.Common.{◌∙◌, All, ap, subst, sym}
+use Rattle.std.proofs.Common.{◌∙◌, All, List, ap, subst, sym}
 use Rattle.keep_edit_spec.specs.Runs.{IsPlain}
 use Rattle.keep_edit_spec.specs.TextChanges.{IsBeside, TextChange, with_change}
 use Rattle.keep_edit_spec.proofs.Shared.{all_with}
@@ -9,6 +9,8 @@ use Rattle.keep_edit_runs.specs.GoneBetween.{AreElsewhere}
 use Rattle.keep_edit_runs.specs.SeenPaths.{IsSeen}
 use Rattle.keep_edit_runs.specs.declared.at_once.AtOnce.{AtOnce}
 use Rattle.keep_edit_runs.specs.declared.kinds_run.KindsRun.{KindsRun}
+use Rattle.keep_edit_runs.specs.declared.outline.Outline.{Outline}
+use Rattle.keep_edit_runs.proofs.ElementsAlone.{AreElementsAlone}
 use Rattle.keep_edit_runs.proofs.before.Before.take_element.Goals as goal
 
 pub returns-clause-taken : goal.returns-clause-taken
@@ -51,6 +53,9 @@ returns-clause-run c = λ added.
         edits = subst (All (IsSeen c.element_by.new.run.paths)) (sym c.add_change.ensures.outlines) found.seen.edits;
         arrays = found.seen.arrays;
         tail = found.seen.tail;
+        elements = subst (λ (l : List Outline).
+            AreElementsAlone l c.element_by.new.run.tail.outlines.items c.element_by.new.run.gone.arrays.items)
+            (sym c.add_change.ensures.outlines) found.seen.elements;
       };
       text = λ yes. run.text (sym (ap (λ (r : KindsRun). r.is_text_plain) found.rest) ∙ yes);
       plain = λ yes.

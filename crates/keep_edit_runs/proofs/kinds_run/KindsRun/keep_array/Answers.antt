@@ -10,6 +10,7 @@ use Rattle.keep_edit_runs.specs.SeenPaths.{IsArraySeen, IsSeen}
 use Rattle.keep_edit_runs.specs.declared.outline.Outline.{Outline}
 use Rattle.keep_edit_runs.specs.declared.outline.Outline.TheVariants.{Remove}
 use Rattle.keep_edit_runs.proofs.ElementArrays.{array_still, own_array, pushed, with_array}
+use Rattle.keep_edit_runs.proofs.ElementsAlone.{alone_apart}
 use Rattle.keep_edit_runs.proofs.SeenLaws.{was_added}
 use Rattle.keep_edit_runs.proofs.SeenPathLaws.{arrays_still}
 use Rattle.keep_edit_runs.proofs.kinds_run.KindsRun.keep_array.Goals as goal
@@ -27,6 +28,7 @@ returns-then-has_array-clause-kept c = λ kept.
         edits = seen.edits;
         arrays = seen.arrays;
         tail = seen.tail;
+        elements = seen.elements;
       };
       elements = refl;
       rest = refl;
@@ -66,6 +68,8 @@ returns-then-unwrap_or-clause-kept c = λ kept.
             (All-push (IsArraySeen paths) arrays array
             (arrays_still old.paths paths c.add.ensures.others arrays c.requires.seen.arrays) seen);
         tail = c.requires.seen.tail;
+        elements = alone_apart outlines old.tail.outlines.items arrays c.requires.seen.elements now array is
+            (c.are_elsewhere-3.ensures c.if-not-are_elsewhere-2.false);
       };
       elements = refl;
       rest = refl;

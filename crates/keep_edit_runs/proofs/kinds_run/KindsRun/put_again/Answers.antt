@@ -1,19 +1,32 @@
 -- What is done again may come before what is at the end of the text, and the other edits allow it. Its change comes in
 -- the place of one of theirs, and its paths are known then.
-use Rattle.std.proofs.Common.{◌≡◌, ◌∙◌, ◌++◌, All, ap, false, subst, sym, true}
-use Rattle.std.proofs.lemmas.List.Elements.{All-append, All-weaker}
+use Rattle.std.proofs.Common.{◌≡◌, ◌⊎◌, ◌∙◌, ◌++◌, [], All, List, ap, false, get_or, inl, inr, subst, sym, true}
+use Rattle.std.proofs.lemmas.List.Elements.{All-append, All-nil, All-weaker}
 use Rattle.keep_edit_spec.specs.Runs.{IsPlain}
 use Rattle.keep_edit_spec.specs.TextChanges.{TextChange}
 use Rattle.keep_edit_runs.specs.Again.{IsPutAgain, LetsAgain, outlines_of}
 use Rattle.keep_edit_runs.specs.KindsRun.{IsRunOn}
+use Rattle.keep_edit_runs.specs.Runs.{LeavesAlone}
 use Rattle.keep_edit_runs.specs.SeenPaths.{IsSeen}
 use Rattle.keep_edit_runs.specs.declared.added_lines.AddedLines.{AddedLines}
 use Rattle.keep_edit_runs.specs.declared.at_once.AtOnce.{AtOnce}
 use Rattle.keep_edit_runs.specs.declared.kinds_run.KindsRun.{KindsRun}
+use Rattle.keep_edit_runs.specs.declared.outline.Outline.{Outline}
 use Rattle.keep_edit_runs.proofs.AgainSteps.{each_put}
+use Rattle.keep_edit_runs.proofs.ElementsAlone.{AreElementsAlone, alone_before}
 use Rattle.keep_edit_runs.proofs.SeenPathLaws.{arrays_still}
 use Rattle.keep_edit_runs.proofs.kinds_run.KindsRun.put_again.Goals as goal
 use Rattle.keep_edit_runs.proofs.kinds_run.KindsRun.put_again.Goals.{else-lets_again, then-lets_again}
+
+-- where nothing more is seen, or nothing is at the end
+none_apart : (tail more : List Outline) → (more ≡ []) ⊎ (tail ≡ [])
+    → All (λ o. All (λ y. LeavesAlone y o) tail) more
+none_apart tail more (inl none) =
+    subst (All (λ (o : Outline). All (λ y. LeavesAlone y o) tail)) (sym none)
+    (All-nil (λ (o : Outline). All (λ y. LeavesAlone y o) tail))
+none_apart tail more (inr none) = λ k d lt.
+    subst (All (λ (y : Outline). LeavesAlone y (get_or more k d))) (sym none)
+    (All-nil (λ (y : Outline). LeavesAlone y (get_or more k d)))
 
 pub returns-then-allow_again-clause-done : goal.returns-then-allow_again-clause-done
 returns-then-allow_again-clause-done c = λ done.
@@ -26,7 +39,7 @@ returns-then-allow_again-clause-done c = λ done.
             allowed = w.allow_again.ensures.allowed (sym w.value-is ∙ c.if-allow_again.true);
             lets = subst (λ (l : AddedLines). LetsAgain l a) (ap (λ (r : KindsRun). r.lines) w.self-is)
                 (c.put_again.ensures.lines done);
-            before = c.lets_again.ensures w.if-lets_again.true;
+            before = c.lets_again.ensures.before w.if-lets_again.true;
             put = subst (λ (s : AtOnce). IsPutAgain a s.changes new.changes) same (c.put_again.ensures.changes done);
             outlines = c.put_again.ensures.outlines done ∙ ap (λ (s : AtOnce). s.outlines.items ++ outlines_of a) same;
             lines = ap (λ (r : KindsRun). r.lines) w.self-is;
@@ -59,6 +72,14 @@ returns-then-allow_again-clause-run c = λ now run done.
                   (w.allow_again.ensures.seen allowed));
               arrays = arrays_still old.paths paths w.allow_again.ensures.others old.gone.arrays.items run.seen.arrays;
               tail = run.seen.tail;
+              elements = subst (λ (l : List Outline).
+                  AreElementsAlone l old.tail.outlines.items old.gone.arrays.items)
+                  (sym (c.put_again.ensures.outlines done
+                  ∙ ap (λ (s : AtOnce). s.outlines.items ++ outlines_of a) same))
+                  (alone_before old.so_far.outlines.items old.tail.outlines.items old.gone.arrays.items
+                  run.seen.elements (outlines_of a)
+                  (none_apart old.tail.outlines.items (outlines_of a)
+                  (c.lets_again.ensures.none w.if-lets_again.true)));
             };
             text = run.text;
             plain = λ yes.
