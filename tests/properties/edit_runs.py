@@ -11,7 +11,7 @@ here, if all are to be of that kind.
 Most lists are of edits of one kind, a fifth of them of edits of all kinds in turn, among them removes of tables and of elements, and
 inserts into tables that dotted keys make. Some are of lines that come to one byte in an order that jumps, some of headers and of keys that
 come below them at the end of the text, some of new tables and elements, each with keys of its own, some of lines that come in the place
-of others. A fifth of the lines that are changed have a comment. Values are set and keys renamed again, values are set that were
+of others, some of new tables that dotted keys make, each with keys in a row. A fifth of the lines that are changed have a comment. Values are set and keys renamed again, values are set that were
 inserted, and edits of entries come back to a value, which goes on in the row. Among the edits are some that end it: one that is refused,
 any other of a path that was there before, one that is in another's, one that adds a line at the place of a line of another table.
 """
@@ -49,7 +49,7 @@ class Run:
         self.entries = [tuple(it.rsplit(b"\t", 1)) for it in self.ran([b"list"], self.text).stdout.split(b"\n")[:-1]]
         kinds = (self.inserts, self.items, self.removes, self.sections, self.sets, self.renames, self.tables, self.elements)
         kinds += (self.gone_elements, self.gone_below, self.dotted, self.brought, self.in_any_order, self.below, self.filled)
-        kinds += (self.in_place, self.parts) + 3 * (self.all_kinds,)
+        kinds += (self.in_place, self.parts, self.more_keys) + 3 * (self.all_kinds,)
         self.edits = (getattr(self, kind) if kind else self.random.choice(kinds))()
 
     def ran(self, words, given):
@@ -222,6 +222,27 @@ class Run:
             else:
                 edits.append(self.insert_or_set(given, random.choice((0, 0, 0.1)), table, number, several))
         return edits
+
+    def more_keys(self):
+        """New tables that dotted keys make, in tables of all sorts, each with a few keys in a row; in most lists other edits come between
+        the tables, in some between the keys of one, too. Now and then a key comes twice, or goes on deeper."""
+        random, edits, made = self.random, [], 0
+        nests, left = self.with_dotted(), self.some_values()
+        headed = [it for it in self.of_kind(b"table") if b"[%s]\n" % it in self.text or it.endswith(b"]")]
+        tables = [b"", *headed] + ([b"dot", b"dots[0]", *(nest[0] for nest in nests)] if nests else [])
+        between, within = random.choice((0, 0.2, 0.5)), random.choice((0, 0, 0.1))
+        while len(edits) < self.many:
+            made += 1
+            table = b".".join(filter(None, (random.choice(tables), b"m_%d" % made)))
+            for number in range(random.choice((1, 2, 2, 3, 10))):
+                path = table + b".k_%d" % (number if random.random() < 0.995 else 0)
+                edits.append(edit_of(b"insert", path + (b".deep" if random.random() < 0.1 else b""), value_of(random)))
+                edits += [left.pop()] if left and random.random() < within else []
+            if random.random() < between:
+                other = edit_of(*random.choice(((b"table", b"h_%d" % made), (b"element", b"hs_%d" % (made % 3)))))
+                other = edit_of(b"insert", b"other_%d" % made, value_of(random)) if random.random() < 0.4 else other
+                edits.append(left.pop() if left and random.random() < 0.5 else other)
+        return edits[: self.many]
 
     def in_place(self):
         """The last lines of a few bodies go one by one, or change, in an order that jumps, and new keys come into the same bodies; in half

@@ -17,6 +17,7 @@ use Rattle.std.proofs.lemmas.Str.{IsUtf8-string_bytes}
 use Rattle.keep_types.specs.declared.leaf.Profile.{Profile}
 use Rattle.keep_syntax.specs.Tree.{Document, Value, text}
 use Rattle.keep_path.specs.Path.{Part}
+use Rattle.keep_edit_spec.specs.AddedLines.{AddsLine}
 use Rattle.keep_edit_spec.specs.Edits as law
 use Rattle.keep_edit_spec.specs.Edits.{edited_document}
 use Rattle.keep_edit_spec.specs.ElementRuns.{IsElementRun, IsElementRunByEntry, IsElementRunLonger}
@@ -24,6 +25,7 @@ use Rattle.keep_edit_spec.specs.ElementRuns.{IsElsewhere, KeepsPlaceAmong, chang
 use Rattle.keep_edit_spec.specs.EntryEdits.{MakesSet}
 use Rattle.keep_edit_spec.specs.InsertKinds.{Added, added_as, kind_of}
 use Rattle.keep_edit_spec.specs.Laws.{IsLawfulEdit}
+use Rattle.keep_edit_spec.specs.MoreKeys.{IsOpen}
 use Rattle.keep_edit_spec.specs.Refusals.{refusal}
 use Rattle.keep_edit_spec.specs.Runs as runs
 use Rattle.keep_edit_spec.specs.Runs.{ArePlain, IsBeforeHeaders, IsInOrder, IsPlainBefore, LetsCome}
@@ -44,7 +46,7 @@ use Rattle.keep_edit_runs.specs.Runs.{IsNoSecondOf, changed_text, outlined, plai
 use Rattle.keep_edit_runs.specs.declared.added_lines.AddedLines.{AddedLines}
 use Rattle.keep_edit_runs.specs.declared.gone_between.GoneBetween.{GoneBetween}
 use Rattle.keep_edit_runs.specs.declared.outline.Outline.{Outline}
-use Rattle.keep_edit_spec.proofs.Shared.{element_run_goes_on, element_run_goes_on_by_entry}
+use Rattle.keep_edit_spec.proofs.Shared.{element_run_goes_on, element_run_goes_on_by_entry, run_is_open}
 use Rattle.keep_edit_runs.proofs.ElementsGone.{in_none, none_gone_to, of_one, one_element_less, plain_elsewhere}
 use Rattle.keep_edit_runs.proofs.RunSteps.{AreMadeTo, IsPlaced, before_headers, change_made, counted_more, headers_with}
 use Rattle.keep_edit_runs.proofs.RunSteps.{known_with, more_changes, one_if, order, parts, passes, plain_alone}
@@ -262,8 +264,8 @@ module _ (s : Document) (edits : List Edit) (n : ℕ) (old now : ProfiledText) (
         kept.counts.appended,
       )
 
-  one_more_among : IsElementRunTo s edits (suc n) old now before (outlines ++ o ∷ []) (with_change changes c) next_adds
-      arrays gone
+  pub one_more_among : IsElementRunTo s edits (suc n) old now before (outlines ++ o ∷ []) (with_change changes c)
+      next_adds arrays gone
   one_more_among = record {
     made = made;
     es = a ∷ h.es;
@@ -290,6 +292,22 @@ module _ (s : Document) (edits : List Edit) (n : ℕ) (old now : ProfiledText) (
         (with_line before longer.edit c h.lines) h.paths)
         same_tree longer.run;
   }
+
+  -- further keys go into the table that its dotted keys make, if it is an insert that adds a line at the end of a body
+  pub opened_after : h.paths ≡ [] → (p : List Part) (v : Value) → e ≡ law.insert p v → a ≡ runs.seen before e
+      → IsOfKind before e line → AddsLine now.profile limit before p v c
+      → IsOpen now.profile limit before one_more_among.es (with_change changes c) one_more_among.made.tree p
+  unfolding one_more_among
+  opened_after none p v is same of adds =
+      let itself : a ≡ runs.seen before (law.insert p v) = same ∙ ap (runs.seen before) is in
+      subst₂ (λ (b : law.Edit) (u : Document).
+      IsOpen now.profile limit before (b ∷ h.es) (with_change changes c) u p) (sym itself)
+      (ap (edited_document t) (sym is) ∙ same_tree)
+      (run_is_open now.profile limit before h.es changes h.lines t p v c
+      (subst (λ (gone : List (List Part)). IsElementRun now.profile limit before h.es changes h.lines gone t) none
+      h.run)
+      adds (subst (λ (b : law.Edit). All (λ f. runs.LeavesAlone f b) h.es) itself others) beside
+      (subst (λ (f : law.Edit). KeepsPlaceAmong before h.es changes h.lines f c) is (keeps same of)))
 
 -- as it is placed among others between which elements go, it is placed among those between which none does
 pub placed_too : (outlines : List Outline) (bytes : List ℕ) (changes : List TextChange) (x : Outline) (at : ℕ)

@@ -42,4 +42,6 @@ mod TailBelow
 mod TailLaws
 mod TailSteps
 mod ElementsAlone
+mod KeysLetIn
+mod MoreKeySteps
 mod SameRuns

@@ -11,6 +11,7 @@ pub mod AddedLines
 pub mod GoneBetween
 pub mod KindsRun
 pub mod LastElements
+pub mod MoreKeys
 pub mod FilledTables
 pub mod Next
 pub mod Counts

@@ -94,7 +94,7 @@ impl Before<'_> {
     }
 
     /// What an edit that is seen as itself changes of the text in a run.
-    fn change_by_itself(&self, planner: &mut Planner, edit: &Edit) -> Option<RunEdit>
+    pub(crate) fn change_by_itself(&self, planner: &mut Planner, edit: &Edit) -> Option<RunEdit>
         requires { planner.old ≡ self.now }
         ensures made { IfSome result (λ made. MakesItselfHere self.now edit.now made.change made.line) }
         ensures planner { planner.new ≡ planner.old }

@@ -253,7 +253,7 @@ impl Before<'_> {
 
     /// Whether an edit writes no line and no header, or the one that it writes at a byte can come there after a run's
     /// changes as before them, as the text has no carriage return.
-    fn keeps_place_in(&self, run: &mut KindsRun, outline: &Outline, at: usize) -> bool
+    pub(crate) fn keeps_place_in(&self, run: &mut KindsRun, outline: &Outline, at: usize) -> bool
         requires run { IsRunOn self.now run.old }
         requires within { All (IsChangeIn self.now.text) run.old.so_far.changes }
         ensures placed { IsTrue result

@@ -30,6 +30,7 @@ mod kinds;
 mod kinds_run;
 mod known_arrays;
 mod last_elements;
+mod more_keys;
 mod next;
 mod one_kind;
 mod opened;

@@ -4,8 +4,10 @@ ghost use Rattle.std.specs.Prelude.{◌+◌, ◌<◌, ◌≤◌, All, IfSome, No
 ghost use Rattle.keep_edit_runs.specs.Runs.{MakeChanges};
 ghost use Rattle.keep_edit_plan.specs.TextEdits.{IsChangeIn};
 
+use crate::alike::is_same;
 use crate::at_once::Run;
 use crate::before::Before;
+use crate::outline::Outline;
 use keep_edit_plan::Edit;
 use keep_rules::Origin;
 
@@ -28,8 +30,28 @@ fn are_removes(edits: &[Edit]) -> bool {
 impl Before<'_> {
     /// What the edits from number `first` on change in the text, as far as they can be made at once: inserts of the
     /// next items of one array, or new tables and elements with keys in them, or edits of one kind, or of several where
-    /// those are few or end at an element that is removed.
+    /// those are few or end at an element that is removed; or, if these end at a further key of a new table, edits of
+    /// several kinds with such keys among them.
     pub(crate) fn changes_at_once(&self, edits: &[Edit], first: usize) -> Run
+        requires { first < length edits.now }
+        ensures few { (first ≤ result.end) × (result.end ≤ length edits.now) }
+        ensures made { MakeChanges edits.now first result.end self.now result.changes }
+        ensures within { All (IsChangeIn self.now.text) result.changes }
+    {
+        let run = self.changes_without_keys(edits, first);
+        if !self.is_of_new_table(edits, run.end) {
+            return run;
+        }
+        let with_keys = self.changes_with_more_keys(edits, first);
+        if with_keys.end > run.end {
+            with_keys
+        } else {
+            run
+        }
+    }
+
+    /// The same without further keys of new tables.
+    fn changes_without_keys(&self, edits: &[Edit], first: usize) -> Run
         requires { first < length edits.now }
         ensures few { (first ≤ result.end) × (result.end ≤ length edits.now) }
         ensures made { MakeChanges edits.now first result.end self.now result.changes }
@@ -107,6 +129,23 @@ impl Before<'_> {
             kinds
         } else {
             sections
+        }
+    }
+
+    /// Whether the edit with that number inserts a further key into a table that the dotted keys of the insert before
+    /// it make.
+    fn is_of_new_table(&self, edits: &[Edit], number: usize) -> bool {
+        let Some(before) = number.checked_sub(1) else {
+            return false;
+        };
+        match (edits.get(before), edits.get(number)) {
+            (Some(before), Some(edit)) => {
+                match (self.outline_of(before), self.outline_of(edit)) {
+                    (Outline::Insert(first), Outline::Insert(other)) => is_same(&first, &other),
+                    _ => false,
+                }
+            }
+            _ => false,
         }
     }
 

@@ -342,6 +342,13 @@ impl<'a> SeenPaths<'a> {
         true
     }
 
+    /// Whether none of these begins with a path, nor is any key of it the new key of a rename.
+    pub fn lack_key(&self, path: &Steps) -> bool
+        ensures { IsTrue result → ¬ HasBeginning self.now path.now × MissesNames self.now path.now }
+    {
+        self.lacks_beginning(number_of_keys(path)) && self.misses_names(path)
+    }
+
     /// Whether the path that a rename makes is none of these, nor one that they begin with, and its new key is none of
     /// theirs.
     fn misses_new(&self, path: &Steps, key: &str) -> bool
