@@ -23,7 +23,8 @@ What counts is that a statement is refused: not that the prover cannot read the 
 takes away. Each file of must-fail/ is an edit, but for those that end in .md.
 
 The checks of a crate begin with what those before them kept of the same texts, and the first with nothing. That each
-crate is proved as it stands is shown by the gate.
+crate is proved as it stands is shown by the gate. The gate tries no edit that was refused over the same texts before
+(tools/gate/kept.py); this script tries each.
 """
 import os
 import re
@@ -288,10 +289,9 @@ def picked(checks, left):
     return chosen
 
 
-def series_of(crate, names=()):
-    """The edits of a crate, or those of these names, in series of which each is tried one check after the other; those of one function
-    are in different ones."""
-    edits = sorted((it for it in edits_of(crate) if not names or it.name in names), key=lambda it: it.function)
+def series_of(edits):
+    """Edits of a crate in series of which each is tried one check after the other; those of one function are in different ones."""
+    edits = sorted(edits, key=lambda it: it.function)
     count = -(-len(edits) // MOST)
     return [sorted(edits[number::count], key=lambda it: it.name) for number in range(count)]
 
@@ -310,11 +310,13 @@ def tried(crate, edits, built):
         return [results[it] for it in edits], checks.spent
 
 
-def say_tried(crate, edits, built):
-    """Tries edits of a crate and says what became of them; gives what was refused, what was not, the seconds of the clock, and
-    of each check its seconds of processor and its edits."""
+def say_tried(crate, edits, built, kept=None):
+    """Tries edits of a crate, says what became of them, and keeps it, if that is asked for; gives what was refused, what was not, the
+    seconds of the clock, and of each check its seconds of processor and its edits."""
     start = time.time()
     results, spent = tried(crate, edits, built)
+    if kept:
+        kept.keep(results)
     refused = sum(it.is_refused for it in results)
     minutes = f"{(time.time() - start) / 60:.1f} minutes, {sum(it for it, _ in spent) / 60:.1f} of processor"
     print(*results, f"{crate}: {refused} of {len(results)} edits refused, in {len(spent)} checks, {minutes}", sep="\n", flush=True)
@@ -351,7 +353,8 @@ def main(*words):
         if is_unedited:
             done = list(pool.map(lambda it: say_unedited(it, built_here), named))
         else:
-            series = [(crate, edits) for crate, names in named.items() for edits in series_of(crate, names)]
+            chosen = {crate: [it for it in edits_of(crate) if not names or it.name in names] for crate, names in named.items()}
+            series = [(crate, it) for crate, edits in chosen.items() for it in series_of(edits)]
             done = list(pool.map(lambda it: say_tried(*it, built_here), series))
     passed, missed = sum(it[0] for it in done), sum(it[1] for it in done) + len(unknown)
     print(f"edits: {passed} passed, {missed} failed")

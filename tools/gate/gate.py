@@ -12,8 +12,8 @@ there. That run gives the verdict, and proves what was not kept. Some kits keep 
 again that an earlier run had proved, the runs of single crates are ended, and the run over all begins.
 
 Beside them, as soon as the crates below a crate are proved, that crate's edits are tried over them, many in one check
-(tools/gate/edits.py); `rt ci` would try each alone. The proofs go first, since each crate waits for those below it: the edits step
-back behind them. `rt ci` proves a static library and builds none, so it is built here once it is proved, beside the run over all.
+(tools/gate/edits.py); `rt ci` would try each alone. What was refused over the same texts before is not tried again
+(tools/gate/kept.py). The proofs go first, since each crate waits for those below it: the edits step back behind them. `rt ci` proves a static library and builds none, so it is built here once it is proved, beside the run over all.
 
 What was built is put into the crates' folders out/ here. Once all is proved, out/built_from says what keep_toml's program was built
 from, and then the file BUILT is made. The report tells for each task (the proof, the tests, the edits and the static library of a
@@ -36,6 +36,7 @@ from pathlib import Path
 from tempfile import TemporaryDirectory
 
 from edits import edits_of, library_words, say_tried, series_of
+from kept import Kept
 from quick import all_below, crates, static_libraries
 
 ROOT = Path(__file__).resolve().parents[2]
@@ -140,6 +141,8 @@ class Edits:
     def __init__(self):
         # of each crate that is proved the folder of the repository's copy in which it is built
         self.proved, self.begun, self.tries = {}, set(), []
+        # of each crate the edits that are known to be refused, as its texts and those below are now
+        self.kept, self.refused = {it: Kept(it) for it in crates()}, {}
         # series of edits that can be tried, the longest first
         self.ready, self.lock = [], threading.Lock()
         # A check's memory is left to the proofs for each processor; they may have up to twice as many, and `rt ci` looks at what is free.
@@ -157,7 +160,9 @@ class Edits:
         for crate in below:
             if crate not in self.begun and self.proved.keys() >= {*below[crate]}:
                 self.begun.add(crate)
-                for number, edits in enumerate(series_of(crate)):
+                edits = edits_of(crate)
+                self.refused[crate] = [it for it in edits if self.kept[crate].why(it) is not None]
+                for number, edits in enumerate(series_of(it for it in edits if it not in self.refused[crate])):
                     with self.lock:
                         heappush(self.ready, (-len(edits), crate, number, edits))
                     self.tries.append(self.pool.submit(self.try_longest))
@@ -165,12 +170,16 @@ class Edits:
     def try_longest(self):
         with self.lock:
             _, crate, _, edits = heappop(self.ready)
-        return crate, *say_tried(crate, edits, self.built)
+        return crate, *say_tried(crate, edits, self.built, self.kept[crate])
 
     def results(self):
         """Of each series of edits its crate, how many were refused, how many were not, the seconds of the clock, and of each check its
         seconds of processor and its edits."""
         results = [it.result() for it in self.tries]
+        for crate, edits in self.refused.items():
+            if edits:
+                print(f"{crate}: {len(edits)} edits were refused over the same texts before")
+                results.append((crate, len(edits), 0, 0.0, []))
         for crate in crates():
             if crate not in self.begun and (edits := edits_of(crate)):
                 print(f"{crate}: its edits were not tried, since a crate below it is not proved")

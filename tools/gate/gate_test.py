@@ -1,5 +1,6 @@
 #!/usr/bin/env python3
-"""Shows that the gate passes where all is proved and refused, and not in eight cases where something is not.
+"""Shows that the gate passes where all is proved and refused, and not in eight cases where something is not; and that it tries no edit
+again over the same texts.
 
     tools/gate/gate_test.py
 
@@ -18,7 +19,8 @@ from tempfile import TemporaryDirectory
 
 sys.dont_write_bytecode = True
 import gate
-from edits import edits_of
+import kept
+from edits import Tried, edits_of
 from quick import all_below
 
 HERE = Path(__file__).resolve().parent
@@ -40,9 +42,11 @@ CASES = [
 ]
 
 
-def tried(crate, edits, _):
+def tried(crate, edits, _, kept):
     """In the place of edits.say_tried."""
     missed = int(os.environ.get("MISSED") == crate)
+    kept.keep([Tried(it, not missed, "") for it in edits])
+    print(f"{crate}: {len(edits)} edits are tried")
     return len(edits) - missed, missed, 0.0, []
 
 
@@ -50,7 +54,7 @@ def begun(room, **more):
     """The gate, over the false `rt ci`, in an environment; what it keeps and writes is in a folder."""
     for name in ("store/running", "tmp"):
         Path(room, name).mkdir(parents=True)
-    outside = {"STORE": f"{room}/store", "TMPDIR": f"{room}/tmp", "PATH": os.environ["PATH"], **more}
+    outside = {"STORE": f"{room}/store", "TMPDIR": f"{room}/tmp", "XDG_CACHE_HOME": f"{room}/cache", "PATH": os.environ["PATH"], **more}
     words = [sys.executable, __file__, "gate", f"{room}/report", f"{room}/built", HERE / "false_rt"]
     return subprocess.Popen(words, env=outside, stdout=subprocess.PIPE, stderr=subprocess.STDOUT, text=True)
 
@@ -128,11 +132,48 @@ def fault_of_text():
         return None if wanted and (here / gate.BUILT_FROM).read_text() == wanted else "the text is not that of the sources"
 
 
+def fault_of_kept():
+    """What is wrong with the edits that are not tried again; None if nothing is."""
+    with TemporaryDirectory() as cache:
+        for tries in (True, False):
+            with TemporaryDirectory() as room:
+                said = begun(room, XDG_CACHE_HOME=cache).communicate(timeout=100)[0]
+            if ("edits are tried" in said) != tries or "not refused: 0\n" not in said:
+                return "edits are not tried at first" if tries else "edits that were refused are tried again"
+        with TemporaryDirectory() as room:
+            said = begun(room, XDG_CACHE_HOME=cache, KIT="another").communicate(timeout=100)[0]
+        return None if "edits are tried" in said else "edits are not tried with another kit"
+
+
+def fault_of_sums():
+    """What is wrong with the sums by which texts are told apart; None if nothing is."""
+    with TemporaryDirectory() as room:
+        root, sums = Path(room), []
+        for name in ("keep_types", "keep_token"):
+            for part in ("src/lib.rt", "proofs/Lib.antt"):
+                (root / "crates" / name / part).parent.mkdir(parents=True)
+                (root / "crates" / name / part).write_text("\n")
+        (root / "crates.txt").write_text("keep_types:\nkeep_token: keep_types simdutf8\n")
+        summed = lambda: (kept.sum_of_texts("keep_types", root), kept.sum_of_texts("keep_token", root))
+        sums.append(summed())
+        (root / "crates/keep_token/proofs/Lib.antt").write_text("mod A\n")
+        sums.append(summed())
+        (root / "crates/keep_types/src/lib.rt").rename(root / "crates/keep_types/src/leaf.rt")
+        sums.append(summed())
+        (root / "crates.txt").write_text("keep_types:\nkeep_token: keep_types itoa\n")
+        sums.append(summed())
+        if len({it[1] for it in sums}) != len(sums):
+            return "other texts have one sum"
+        return None if len({it[0] for it in sums}) == 2 and sums[-1] == summed() else "the same texts have two sums"
+
+
 def main():
     with ThreadPoolExecutor() as pool:
-        stopped = pool.submit(fault_of_stop)
+        stopped, again = pool.submit(fault_of_stop), pool.submit(fault_of_kept)
         faults = dict(zip([name for name, *_ in CASES], pool.map(lambda it: fault_of(*it[1:]), CASES)))
         faults["it is asked to end"] = stopped.result()
+        faults["edits that were refused before"] = again.result()
+        faults["texts are told apart"] = fault_of_sums()
         faults["it says what the program is built from"] = fault_of_text()
     for name, fault in faults.items():
         if fault:
@@ -148,6 +189,7 @@ if __name__ == "__main__":
         sys.exit(gate.put_back(sys.argv[3], sys.argv[4] == "True"))
     if sys.argv[1:2] == ["gate"]:
         gate.say_tried = tried
+        kept.kit = lambda: os.environ.get("KIT", "").encode()
         gate.library_words = lambda *_: [os.environ.get("BUILDS", "true")]
         # (copies of the crates need no files here)
         gate.LEFT_OUT = shutil.ignore_patterns(".git", "src", "specs", "proofs", "must-fail", "out", "rows")
