@@ -69,7 +69,7 @@ lets_alone table (Set p) h = λ seen name is lacks none. apart_below p table nam
 lets_alone table (Rename p own) h =
     λ seen name is lacks none. (
       apart_below p table name h.0,
-      no_step_below own.now table name (λ same. none (subst (HasName seen) same is.1.2)) h.1,
+      no_step_below own.now table name (λ same. none (subst (HasName seen) same is.1.name_is)) h.1,
     )
 lets_alone table (Table keys) h = λ seen name is lacks none. passes_below (key_texts keys.now) table name h
 lets_alone table (Element keys) h = λ seen name is lacks none. passes_below (key_texts keys.now) table name h

@@ -3,13 +3,15 @@ ghost use Rattle.std.specs.Prelude.{◌≡◌, ◌+◌, ℕ, IfOk, IsTrue, List,
 ghost use Rattle.keep_edit_runs.specs.declared.outline.Outline.{Outline};
 ghost use Rattle.keep_edit_plan.specs.Headers.{key_texts};
 ghost use Rattle.keep_edit_runs.specs.Runs.{Allows, LeavesAlone, outlined};
-ghost use Rattle.keep_edit_runs.specs.SeenPaths.{BeginsInKey, GoesOn, HasBeginning, HasEnd, HasKey, HasKeys, HasName};
-ghost use Rattle.keep_edit_runs.specs.SeenPaths.{HasNew, HasPath, IsArraySeen, IsSeen, LacksAbove};
-ghost use Rattle.keep_edit_runs.specs.SeenPaths.{MissesNames, MissesPath, keys_hashed, keys_number};
+ghost use Rattle.keep_edit_runs.specs.Seen.{number_of};
+ghost use Rattle.keep_edit_runs.specs.SeenPaths.{BeginsInKey, GoesOn, HasBeginning, HasEnd, HasKey, HasKeyBeginning};
+ghost use Rattle.keep_edit_runs.specs.SeenPaths.{HasKeyEnd, HasKeys, HasName, HasNew, HasPath, IsArraySeen, IsSeen};
+ghost use Rattle.keep_edit_runs.specs.SeenPaths.{LacksAbove, MissesNames, MissesPath, keys_hashed, keys_number};
 ghost use Rattle.keep_edit_spec.specs.ElementRuns.{IsElsewhere};
 ghost use Rattle.keep_path.specs.Path.{Part, beside, key};
 
 use crate::outline::{Outline, Steps};
+use crate::seen::{number_beside, number_of, write_step};
 use keep_rules::Step;
 use std::alloc::{AllocError, Global};
 use std::collections::HashSet;
@@ -55,7 +57,7 @@ pub fn number_of_header(keys: &[String]) -> u64
 }
 
 /// That of the path with another key in place of its last step.
-fn number_beside(path: &Steps, key: &str) -> u64
+fn number_of_keys_beside(path: &Steps, key: &str) -> u64
     ensures { result ≡ keys_number (beside path.now key.now) }
 {
     let mut hasher = keys_hashed(path, path.len().saturating_sub(1));
@@ -70,8 +72,8 @@ pub fn begins_in_key(path: &Steps) -> bool
     matches!(path.step(0), Some(Step::Key(_)))
 }
 
-/// The paths of edits and the keys of headers, each by a number that stands for its keys. Where the numbers are others,
-/// so are the keys.
+/// The paths of edits and the keys of headers, each by a number that stands for it; and a path by that of its keys,
+/// too, as headers have no other steps. Where the numbers are others, so are the paths, or the keys.
 #[derive(Drop)]
 pub struct SeenPaths<'a> {
     // those of paths and headers, and of the new paths of renames
@@ -111,7 +113,7 @@ impl<'a> SeenPaths<'a> {
                 self.add_path(path)
             }
             Outline::Rename(path, key) => {
-                self.add_new(number_beside(path, key), key)?;
+                self.add_new(path, key)?;
                 self.add_path(path)
             }
             Outline::Table(keys) | Outline::Element(keys) => self.add_names(keys),
@@ -132,10 +134,11 @@ impl<'a> SeenPaths<'a> {
         }
         let mut hasher = FoldHasher::default();
         for number in 0..path.len() {
-            write_key(&mut hasher, path, number);
+            write_step(&mut hasher, path, number);
             self.add_beginning(hasher.finish())?;
         }
         self.add_end(hasher.finish())?;
+        self.add_end(number_of_keys(path))?;
         Ok(true)
     }
 
@@ -178,28 +181,30 @@ impl<'a> SeenPaths<'a> {
         Ok(())
     }
 
-    /// Adds the new path of a rename, by its number, and its new key.
+    /// Adds the new path of a rename and its new key.
     ///
     /// # Errors
     ///
     /// Out of memory.
-    fn add_new(&mut self, number: u64, key: &'a str) -> Result<(), AllocError>
-        ensures added { OnOk result ((path : List Part) → number ≡ keys_number (beside path key.now)
-            → HasNew self.new path key.now) }
+    fn add_new(&mut self, path: &Steps, key: &'a str) -> Result<(), AllocError>
+        ensures added { OnOk result (HasNew self.new path.now key.now) }
         ensures others { GoesOn self.old self.new }
     {
+        let number = number_beside(path, key);
         self.add_end(number)?;
         self.add_beginning(number)?;
+        self.add_end(number_of_keys_beside(path, key))?;
         self.add_name(key)
     }
 
-    /// Adds the number of a path or header, or of a new path.
+    /// Adds the number of a path or header, or of a new path, or of the keys of one.
     ///
     /// # Errors
     ///
     /// Out of memory.
     fn add_end(&mut self, number: u64) -> Result<(), AllocError>
-        ensures added { OnOk result ((path : List Part) → number ≡ keys_number path → HasEnd self.new path) }
+        ensures added { OnOk result ((path : List Part) → number ≡ number_of path → HasEnd self.new path) }
+        ensures keys { OnOk result ((path : List Part) → number ≡ keys_number path → HasKeyEnd self.new path) }
         ensures others { GoesOn self.old self.new }
     {
         self.ends.insert(number)?;
@@ -212,7 +217,7 @@ impl<'a> SeenPaths<'a> {
     ///
     /// Out of memory.
     fn add_beginning(&mut self, number: u64) -> Result<(), AllocError>
-        ensures added { OnOk result ((path : List Part) → number ≡ keys_number path → HasBeginning self.new path) }
+        ensures added { OnOk result ((path : List Part) → number ≡ number_of path → HasBeginning self.new path) }
         ensures others { GoesOn self.old self.new }
     {
         self.beginnings.insert(number)?;
@@ -286,7 +291,7 @@ impl<'a> SeenPaths<'a> {
     {
         let mut hasher = FoldHasher::default();
         for number in 0..path.len().saturating_sub(1) {
-            write_key(&mut hasher, path, number);
+            write_step(&mut hasher, path, number);
             if !self.lacks_end(hasher.finish()) {
                 return false;
             }
@@ -294,7 +299,7 @@ impl<'a> SeenPaths<'a> {
         true
     }
 
-    /// Whether none of these begins with a path, nor the path with one of these.
+    /// Whether none of these begins with a path, nor the path with one of these, and no header begins with its keys.
     fn misses_path(&self, path: &Steps) -> bool
         ensures { IsTrue result → MissesPath self.now path.now }
     {
@@ -303,12 +308,12 @@ impl<'a> SeenPaths<'a> {
         }
         let mut hasher = FoldHasher::default();
         for number in 0..path.len() {
-            write_key(&mut hasher, path, number);
+            write_step(&mut hasher, path, number);
             if !self.lacks_end(hasher.finish()) {
                 return false;
             }
         }
-        self.lacks_beginning(hasher.finish())
+        self.lacks_beginning(hasher.finish()) && self.lacks_beginning(number_of_keys(path))
     }
 
     /// The same of the keys of a header.
@@ -346,27 +351,33 @@ impl<'a> SeenPaths<'a> {
     pub fn lack_key(&self, path: &Steps) -> bool
         ensures { IsTrue result → ¬ HasBeginning self.now path.now × MissesNames self.now path.now }
     {
-        self.lacks_beginning(number_of_keys(path)) && self.misses_names(path)
+        self.lacks_beginning(number_of(path)) && self.misses_names(path)
     }
 
-    /// Whether the path that a rename makes is none of these, nor one that they begin with, and its new key is none of
-    /// theirs.
+    /// Whether the path that a rename makes is none of these, nor one that they begin with, no header begins with its
+    /// keys, and its new key is none of theirs.
     fn misses_new(&self, path: &Steps, key: &str) -> bool
-        ensures { IsTrue result → ¬ HasBeginning self.now (beside path.now key.now) × ¬ HasKey self.now key.now }
+        ensures path { IsTrue result → ¬ HasBeginning self.now (beside path.now key.now) }
+        ensures keys { IsTrue result → ¬ HasKeyBeginning self.now (beside path.now key.now) }
+        ensures key { IsTrue result → ¬ HasKey self.now key.now }
     {
-        self.lacks_beginning(number_beside(path, key)) && !self.keys.contains(key)
+        self.lacks_beginning(number_beside(path, key))
+            && self.lacks_beginning(number_of_keys_beside(path, key))
+            && !self.keys.contains(key)
     }
 
     /// Whether the number is that of none of these.
     fn lacks_end(&self, number: u64) -> bool
-        ensures { IsTrue result → (path : List Part) → number ≡ keys_number path → ¬ HasEnd self.now path }
+        ensures { IsTrue result → (path : List Part) → number ≡ number_of path → ¬ HasEnd self.now path }
     {
         !self.ends.contains(&number)
     }
 
     /// Whether it is that of nothing that these begin with.
     fn lacks_beginning(&self, number: u64) -> bool
-        ensures { IsTrue result → (path : List Part) → number ≡ keys_number path → ¬ HasBeginning self.now path }
+        ensures path { IsTrue result → (path : List Part) → number ≡ number_of path → ¬ HasBeginning self.now path }
+        ensures keys { IsTrue result
+            → (path : List Part) → number ≡ keys_number path → ¬ HasKeyBeginning self.now path }
     {
         !self.beginnings.contains(&number)
     }

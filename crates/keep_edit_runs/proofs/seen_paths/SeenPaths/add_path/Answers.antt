@@ -12,8 +12,8 @@ loop-number-preserved c =
     let new = c.add_beginning.new.self in
     let more = c.add_beginning.ensures.others in (
       goes_on c.args.self.now c.loop-number.self new on more,
-      c.write_key.ensures,
+      c.write_step.ensures,
       all_before (λ (k : ℕ). HasBeginning new (take (k + 1) path)) n
-          (c.in_ok-add_beginning.ensures.added (take (n + 1) path) (c.finish.ensures ∙ ap finish c.write_key.ensures))
+          (c.in_ok-add_beginning.ensures.added (take (n + 1) path) (c.finish.ensures ∙ ap finish c.write_step.ensures))
           (λ k lt. more.beginnings (take (k + 1) path) (before k lt)),
     )

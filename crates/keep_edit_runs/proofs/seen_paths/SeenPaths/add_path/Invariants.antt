@@ -1,8 +1,9 @@
 use Rattle.std.proofs.Common.{◌≡◌, ◌<◌, ◌+◌, ℕ, take}
-use Rattle.keep_edit_runs.specs.SeenPaths.{GoesOn, HasBeginning, keys_hashed}
+use Rattle.keep_edit_runs.specs.Seen.{hashed}
+use Rattle.keep_edit_runs.specs.SeenPaths.{GoesOn, HasBeginning}
 use Rattle.keep_edit_runs.proofs.seen_paths.SeenPaths.add_path.Given as goal
 
 abbrev pub invariant-loop-number : goal.invariant-loop-number
 invariant-loop-number l =
-    GoesOn l.initial.self l.self × (l.hasher ≡ keys_hashed (take l.number l.path))
+    GoesOn l.initial.self l.self × (l.hasher ≡ hashed (take l.number l.path))
     × ((n : ℕ) → n < l.number → HasBeginning l.self (take (n + 1) l.path))

@@ -7,4 +7,4 @@ returns-then-lacks_ends_above c = λ yes.
     let seen = c.args.self.now in
     allowed_as seen c.args.outline.now _ here.is
     (key_allowed seen here.path here.key (c.lacks_ends_above.ensures c.if-lacks_ends_above.true)
-    (c.misses_new.ensures yes).0 (c.misses_new.ensures yes).1)
+    (c.misses_new.ensures.path yes) (c.misses_new.ensures.keys yes) (c.misses_new.ensures.key yes))

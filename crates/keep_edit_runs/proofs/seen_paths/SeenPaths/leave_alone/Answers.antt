@@ -10,7 +10,7 @@ returns-then-misses_path-clause-alone c = λ yes.
     let seen = c.args.self.now in
     alone_as seen c.args.outline.now _ here.is
     (rename_alone seen here.path here.key (c.misses_path.ensures c.if-misses_path.true)
-    (c.misses_new.ensures yes).0 (c.misses_new.ensures yes).1)
+    (c.misses_new.ensures.path yes) (c.misses_new.ensures.keys yes) (c.misses_new.ensures.key yes))
 
 pub returns-then-misses_path-clause-elsewhere : goal.returns-then-misses_path-clause-elsewhere
 returns-then-misses_path-clause-elsewhere c = λ yes.
@@ -18,7 +18,7 @@ returns-then-misses_path-clause-elsewhere c = λ yes.
     let seen = c.args.self.now in
     elsewhere_as seen c.args.outline.now _ here.is
     (rename_elsewhere seen here.path here.key (c.misses_path.ensures c.if-misses_path.true)
-    (c.misses_new.ensures yes).1)
+    (c.misses_new.ensures.key yes))
 
 pub returns-in-Table-clause-alone : goal.returns-in-Table-clause-alone
 returns-in-Table-clause-alone c = λ yes.

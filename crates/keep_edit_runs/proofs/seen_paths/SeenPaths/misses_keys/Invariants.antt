@@ -1,10 +1,11 @@
 use Rattle.std.proofs.Common.{◌≡◌, ◌<◌, ◌+◌, ℕ, map, take}
 use Rattle.keep_path.specs.Path.{key}
 use Rattle.keep_edit_plan.specs.Headers.{key_texts}
-use Rattle.keep_edit_runs.specs.SeenPaths.{HasEnd, keys_hashed}
+use Rattle.keep_edit_runs.specs.Seen.{hashed}
+use Rattle.keep_edit_runs.specs.SeenPaths.{HasEnd}
 use Rattle.keep_edit_runs.proofs.seen_paths.SeenPaths.misses_keys.Given as goal
 
 abbrev pub invariant-loop-key : goal.invariant-loop-key
 invariant-loop-key l =
-    (l.hasher ≡ keys_hashed (take l.key-index (map key (key_texts l.keys))))
+    (l.hasher ≡ hashed (take l.key-index (map key (key_texts l.keys))))
     × ((n : ℕ) → n < l.key-index → ¬ HasEnd l.self (take (n + 1) (map key (key_texts l.keys))))

@@ -2,7 +2,7 @@ use Rattle.std.proofs.Common.{◌≡◌, ◌∙◌, ◌-◌, ap, length, take}
 use Rattle.std.specs.Hash.FoldHasher.{finish, write}
 use Rattle.keep_edit_runs.specs.SeenPaths.{keys_hashed, with_key}
 use Rattle.keep_edit_runs.proofs.SeenLaws.{hashed_beside}
-use Rattle.keep_edit_runs.proofs.seen_paths.number_beside.Goals as goal
+use Rattle.keep_edit_runs.proofs.seen_paths.number_of_keys_beside.Goals as goal
 
 pub returns : goal.returns
 returns c =
