@@ -6,6 +6,7 @@ pub mod ScalarLaws
 pub mod EditedLaws
 pub mod FoldLaws
 pub mod ChildLaws
+pub mod NodeRefLaws
 pub mod InsideLaws
 pub mod TakeLaws
 pub mod PatchLaws

@@ -5,3 +5,4 @@ pub mod Patches
 pub mod Lists
 pub mod Headers
 pub mod Children
+pub mod NodeRefs

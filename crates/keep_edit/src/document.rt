@@ -306,7 +306,7 @@ impl Document {
     }
 
     // What the string means whose number was looked for at a path; None where another value was found, or none.
-    fn string_found(
+    pub(crate) fn string_found(
         &self,
         alloc: Global,
         found: Result<usize, EditFault>,

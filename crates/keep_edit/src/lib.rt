@@ -48,6 +48,7 @@ mod edits;
 mod index_change;
 mod lines;
 mod lists;
+mod nodes;
 mod patch;
 mod planned;
 
@@ -58,3 +59,4 @@ pub use keep_rules::{Kind, Path, PathFault, PathRoom, Step, ValueText, Why};
 pub use keep_syntax::{ReadFault, Span, Token, Tokens};
 pub use keep_token::Profile;
 pub use lists::LastEdits;
+pub use nodes::NodeRef;

@@ -1,5 +1,5 @@
 //! Questions about documents.
-use keep_edit::{Document, Entry, Path, Profile, ReadFault};
+use keep_edit::{Document, Entry, NodeRef, Path, Profile, ReadFault};
 use keep_test_questions::paths::path_of;
 use keep_test_questions::syntax::push_tokens;
 use keep_test_questions::{Answer, Row, unknown};
@@ -59,6 +59,7 @@ fn report_of(alloc: Global, document: &Document, row: &Row) -> Answer {
         "get by steps" => got_by_steps(alloc, document, row),
         "as in strict" => as_in_strict(alloc, document),
         "string beside" => string_beside(alloc, document, row.text(1), row.text(2)),
+        "keys of item" | "string in item" => in_item(alloc, document, row),
         question => report_at(alloc, document, question, row.text(1)),
     }
 }
@@ -109,6 +110,24 @@ fn string_beside(alloc: Global, document: &Document, path: &str, key: &str) -> A
         return String::from_str(alloc, "no path");
     };
     marked(alloc, document.str_value_beside(alloc, &path, key)?)
+}
+
+// What is asked of the item of a number at a path.
+fn in_item(alloc: Global, document: &Document, row: &Row) -> Answer {
+    let Ok(path) = Path::read(alloc, row.text(1)) else {
+        return String::from_str(alloc, "no path");
+    };
+    match item_at(document, &path, row.number(2)) {
+        Some(item) if row.question() == "keys of item" => {
+            format!(in alloc; "{}", item.child_count())
+        }
+        Some(item) => marked(alloc, item.str_value(alloc, row.text(3))?),
+        None => String::from_str(alloc, "no item"),
+    }
+}
+
+fn item_at<'d>(document: &'d Document, path: &Path, number: usize) -> Option<NodeRef<'d>> {
+    document.node(path)?.item(number)
 }
 
 // The string at a path.
