@@ -8,16 +8,30 @@
 -- A script for the profile Strict has values of Strict alone (`strict_script`), since each of its edits has
 -- (`strict_edit`).
 --
+-- The array at `edit` is found once (`array_at`). Where it is not there the script has no elements (`none_stated`), and
+-- an element that is not there has no op (`no_element`).
+--
 -- Theorems: `script_stated`: the text is a script with these edits, or the fault says why it is none; `stops`: the
 -- fault is that of the first element that states no edit; `strict_script`: the values of a script for Strict.
 use Rattle.std.proofs.Common.{◌≡◌, ◌+◌, ◌∙◌, ◌⊎◌, ℕ, suc, List, [], ◌∷◌, ◌++◌, length, Option, None, Some, ◌<◌, codes}
-use Rattle.std.proofs.Common.{string_bytes, refl, sym, ap, subst, inl, inr, arith, Vec, Global}
+use Rattle.std.proofs.Common.{string_bytes, refl, sym, ap, ap₂, false, zero, subst, inl, inr, arith, Vec, Global}
+use Rattle.std.specs.Option.{option_and_then}
 use Rattle.std.specs.Prelude.{Result, Ok, Err, IfOk, IsErrAnd, MatchResult}
 use Rattle.std.proofs.Math.Nat.{add-zero}
 use Rattle.keep_types.specs.declared.leaf.Profile.{Profile}
 use Rattle.keep_types.specs.declared.leaf.Profile.TheVariants.{Strict}
 use Rattle.keep_syntax.specs.Tree.{Document}
+use Rattle.keep_types.specs.declared.node.Kind.{Kind}
+use Rattle.keep_path.specs.Path.{Part, index, key}
+use Rattle.keep_meaning.specs.Meaning.{mentions_in}
+use Rattle.keep_meaning.specs.Nodes.{is_node}
 use Rattle.keep_edit_plan.specs.declared.edit.Edit.{Edit}
+use Rattle.keep_edit.specs.Answers.{kind_of}
+use Rattle.keep_edit.specs.Children.{child_count_of}
+use Rattle.keep_edit.specs.NodeRefs.{FindsNode, IsNodeAt}
+use Rattle.keep_edit.specs.declared.nodes.NodeRef.{NodeRef}
+use Rattle.keep_edit.proofs.Shared.{no_string_there}
+use Rattle.keep_args.specs.Wanted.{op_named}
 use Rattle.keep_edit.specs.Reading.{ProfiledText, IsAccepted, IsTextOfTree, text_in}
 use Rattle.keep_cli.specs.declared.fault.UseFault.{UseFault}
 use Rattle.keep_cli.specs.declared.fault.UseFault.TheVariants as fault
@@ -29,7 +43,7 @@ use Rattle.keep_args.specs.Table.{edit_words}
 use Rattle.keep_commands.specs.OwnValues.{AreStrict}
 use Rattle.keep_cli.specs.declared.script.Texts.{Texts}
 use Rattle.keep_cli.specs.Script.{AreEntries, HasWords, IsEntry, IsNoEntry, IsScript, IsScriptFault, IsTreeFault}
-use Rattle.keep_cli.specs.Script.{element_count}
+use Rattle.keep_cli.specs.Script.{counted, edit_path, element_count, key_path, op_of}
 use Rattle.keep_cli.specs.Script.{given, word_key}
 use Rattle.keep_cli.specs.Scripting.{AreTexts, AreTextsOf, IsFaultAt, StatesEdits, third_key}
 use Rattle.keep_cli.proofs.EditLaws.{strict_edit}
@@ -100,7 +114,43 @@ stops profile s count n es f (Err e) same is lt many are h =
     subst (λ (x : UseFault). (x ≡ fault.Memory) ⊎ IsTreeFault profile s x) (sym same)
     (stopped profile s count n es f is lt many are h)
 
+-- where nothing is at `edit` there are no elements
+none_counted : (keys : Option ℕ) (n : ℕ) → counted keys None None ≡ Some n → n ≡ 0
+none_counted None n is = absurd cc
+none_counted (Some zero) n is = let same : Some 0 ≡ Some n = is in cc
+none_counted (Some (suc zero)) n is = absurd cc
+none_counted (Some (suc (suc m))) n is = absurd cc
+
+pub none_stated : (profile : Profile) (s : Document) (count : ℕ) → element_count s ≡ Some count
+    → is_node edit_path (mentions_in s) ≡ false → StatesEdits profile s []
+none_stated profile s count is none =
+    let kind : kind_of edit_path s ≡ None = rw none refl in
+    let many : child_count_of edit_path s ≡ None = rw none refl in
+    let no : count ≡ 0 =
+    none_counted (child_count_of [] s) count
+    (ap₂ (λ (k : Option Kind) (m : Option ℕ). counted (child_count_of [] s) k m) (sym kind) (sym many) ∙ is) in
+    record { count = is ∙ ap Some no; entries = tt }
+
+-- the array that was found at `edit`, or none
+pub array_at : (s : Document) (path : List Part) (o : Option NodeRef) (a : NodeRef) → FindsNode s path o
+    → path ≡ edit_path → o ≡ Some a → IsNodeAt s edit_path a
+array_at s path o a found same one =
+    subst (λ (p : List Part). IsNodeAt s p a) same (subst (λ (x : Option NodeRef). FindsNode s path x) one found)
+
+pub no_array : (s : Document) (path : List Part) (o : Option NodeRef) → FindsNode s path o → path ≡ edit_path
+    → o ≡ None → is_node edit_path (mentions_in s) ≡ false
+no_array s path o found same none =
+    subst (λ (p : List Part). is_node p (mentions_in s) ≡ false) same
+    (subst (λ (x : Option NodeRef). FindsNode s path x) none found)
+
 -- ---- one element
+
+-- an element that is not there has no op
+pub no_element : (s : Document) (n : ℕ)
+    → ((more : List Part) → is_node (edit_path ++ index n ∷ more) (mentions_in s) ≡ false) → op_of s n ≡ None
+no_element s n none =
+    ap (option_and_then op_named)
+    (no_string_there (key_path n (codes "op")) s (none (key (codes "op") ∷ [])))
 
 -- two words are at `path` and the third key
 two_texts : (s : Document) (n : ℕ) (second : Word) (found : Option Texts) → AreTexts s n (Some (word_key second)) found

@@ -4,15 +4,16 @@ use Rattle.std.specs.Prelude.{option_map, slice_get, string_bytes}
 use Rattle.keep_types.specs.declared.leaf.Profile.{Profile}
 use Rattle.keep_syntax.specs.Tree.{Document}
 use Rattle.keep_edit.specs.Children.{child_count_of}
+use Rattle.keep_edit.specs.NodeRefs.{IsNodeAt}
+use Rattle.keep_edit.specs.declared.nodes.NodeRef.{NodeRef}
 use Rattle.keep_edit_plan.specs.declared.edit.Edit.{Edit}
 use Rattle.keep_args.specs.declared.subcommand.Op.{Op}
 use Rattle.keep_args.specs.declared.subcommand.Word.{Word}
 use Rattle.keep_cli.specs.declared.fault.EntryWhy.{EntryWhy}
 use Rattle.keep_cli.specs.declared.fault.UseFault.{UseFault}
 use Rattle.keep_cli.specs.declared.fault.UseFault.TheVariants.{Entry}
-use Rattle.keep_cli.specs.declared.script.Element.{Element}
 use Rattle.keep_cli.specs.declared.script.Texts.{Texts}
-use Rattle.keep_cli.specs.Script.{element_count, element_path, given, key_path, word_key, AreEntries, HasWords}
+use Rattle.keep_cli.specs.Script.{element_count, element_path, given, word_key, AreEntries, HasWords}
 use Rattle.keep_cli.specs.Script.{IsNoEntry, MakesNoneFor}
 
 -- these edits are given by all elements
@@ -20,10 +21,9 @@ pub record StatesEdits (profile : Profile) (s : Document) (edits : List Edit) : 
   pub count : element_count s ≡ Some (length edits)
   pub entries : AreEntries profile s 0 edits
 
--- what is known of the element with this number: the path of its op, and how many keys it has
-abbrev pub IsElement : Document → ℕ → Element → Type 0
-IsElement s n element =
-    (element.path ≡ key_path n (codes "op")) × (element.keys ≡ child_count_of (element_path n) s)
+-- the node is the element with this number
+abbrev pub IsElement : Document → ℕ → NodeRef → Type 0
+IsElement s n element = IsNodeAt s (element_path n) element
 
 -- the third key of an element, beside `op` and `path`: that of the second word
 abbrev pub third_key : List Word → Option (List ℕ)

@@ -97,10 +97,9 @@ fn keys_of(alloc: Global, text: &str) -> Result<Vec<String>, WordFault>
         (λ fault. (fault ≡ WordFault.Memory) ⊎ IsUnreadable Strict Word.Keys text.now fault) }
 {
     let path = path_of(alloc, text)?;
-    let index = Path::first_index(text);
     match keys_in(alloc, &path)? {
         Some(keys) => Ok(keys),
-        None => match index {
+        None => match Path::first_index(text) {
             Some(at) => Err(WordFault::Path { at }),
             None => unreachable!(),
         },

@@ -1,6 +1,8 @@
 //! Scripts: lists of edits as a document.
-ghost use Rattle.std.specs.Prelude.{◌≡◌, ◌⊎◌, ℕ, IfOk, IfSome, MatchResult, option_map, string_bytes};
+ghost use Rattle.std.specs.Prelude.{◌≡◌, ◌⊎◌, [], ℕ, IfOk, IfSome, MatchResult, option_map, string_bytes};
 ghost use Rattle.keep_syntax.specs.Tree as tree;
+ghost use Rattle.keep_edit.specs.Children.{child_count_of};
+ghost use Rattle.keep_edit.specs.NodeRefs.{IsNodeAt};
 ghost use Rattle.keep_edit.specs.Reading.{IsTextOfTree};
 ghost use Rattle.keep_args.specs.Table.{edit_words};
 ghost use Rattle.keep_cli.specs.EditWords.{words_for, Makes};
@@ -12,15 +14,8 @@ ghost use Rattle.keep_cli.specs.Scripting.{AreTexts, AreTextsOf, IsElement, IsFa
 use crate::edit::{WordFault, edit_of};
 use crate::fault::{EntryWhy, UseFault};
 use keep_args::{Op, Word, edit_named};
-use keep_edit::{Document, Edit, Kind, Path, Profile, ReadFault};
+use keep_edit::{Document, Edit, Kind, NodeRef, Path, Profile, ReadFault};
 use std::alloc::{AllocError, Global};
-
-// An element: the path of its op, beside which its other keys are, and how many keys it has.
-#[derive(Drop)]
-struct Element {
-    path: Path,
-    keys: Option<usize>,
-}
 
 // The texts of an element beside its op's. The third is empty where the op asks for none.
 #[derive(Drop)]
@@ -57,12 +52,18 @@ fn edits_of(alloc: Global, document: &Document, profile: Profile) -> Result<Vec<
         → MatchResult result (λ edits. StatesEdits profile s edits.items)
         (λ fault. (fault ≡ UseFault.Memory) ⊎ IsTreeFault profile s fault) }
 {
-    let Some(count) = element_count(alloc, document)? else {
+    let mut path = Path::new(alloc);
+    let keys = document.child_count(&path);
+    path.push_key("edit")?;
+    let Some(count) = element_count(document, &path, keys) else {
         return Err(UseFault::Shape);
     };
     let mut edits = Vec::new(alloc);
+    let Some(array) = document.node(&path) else {
+        return Ok(edits);
+    };
     for index in 0..count {
-        let edit = entry_of(alloc, document, index, profile)?;
+        let edit = entry_of(alloc, &array, index, profile)?;
         match edits.push(edit) {
             Ok(()) => {}
             Err(_) => return Err(UseFault::Memory),
@@ -71,14 +72,14 @@ fn edits_of(alloc: Global, document: &Document, profile: Profile) -> Result<Vec<
     Ok(edits)
 }
 
-// How many elements a script has; None where its top level is not a script's.
-fn element_count(alloc: Global, document: &Document) -> Result<Option<usize>, AllocError>
-    ensures { (s : tree.Document) → IsTextOfTree document.now s → IfOk result (λ found. found ≡ spec.element_count s) }
+// How many elements a script has, by the path of `edit` and the number of top-level keys; None where its top level is
+// not a script's.
+fn element_count(document: &Document, path: &Path, keys: Option<usize>) -> Option<usize>
+    requires { path.now ≡ spec.edit_path }
+    ensures { (s : tree.Document) → IsTextOfTree document.now s → keys ≡ child_count_of [] s
+        → result ≡ spec.element_count s }
 {
-    let mut path = Path::new(alloc);
-    let keys = document.child_count(&path);
-    path.push_key("edit")?;
-    Ok(counted(keys, document.kind(&path), document.child_count(&path)))
+    counted(keys, document.kind(path), document.child_count(path))
 }
 
 // How many elements `edit` has, by the number of top-level keys and the kind of `edit`.
@@ -95,52 +96,39 @@ fn counted(keys: Option<usize>, kind: Option<Kind>, elements: Option<usize>) -> 
     }
 }
 
-// The edit of an element.
+// The edit of the element of a number of the array that `edit` is.
 fn entry_of(
     alloc: Global,
-    document: &Document,
+    array: &NodeRef,
     index: usize,
     profile: Profile,
 ) -> Result<Edit, UseFault>
-    ensures { (s : tree.Document) → IsTextOfTree document.now s
+    ensures { (s : tree.Document) → IsNodeAt s spec.edit_path array.now
         → MatchResult result (IsEntry profile s index)
         (λ fault. (fault ≡ UseFault.Memory) ⊎ IsFaultAt profile s index fault) }
 {
-    let element = element_at(alloc, document, index)?;
-    let Some((op, words)) = op_of(alloc, document, &element)? else {
+    let Some(element) = array.item(index) else {
         let why = EntryWhy::Op;
         return Err(UseFault::Entry { index, why });
     };
-    let Some(texts) = texts_of(alloc, document, &element, op, words)? else {
+    let Some((op, words)) = op_of(alloc, &element)? else {
+        let why = EntryWhy::Op;
+        return Err(UseFault::Entry { index, why });
+    };
+    let Some(texts) = texts_of(alloc, &element, op, words)? else {
         let why = EntryWhy::Keys;
         return Err(UseFault::Entry { index, why });
     };
     edit_from(alloc, index, profile, op, &texts)
 }
 
-// The element of a number.
-fn element_at(alloc: Global, document: &Document, index: usize) -> Result<Element, AllocError>
-    ensures { (s : tree.Document) → IsTextOfTree document.now s → IfOk result (IsElement s index) }
-{
-    let mut path = Path::new(alloc);
-    path.push_key("edit")?;
-    path.push_index(index)?;
-    let keys = document.child_count(&path);
-    path.push_key("op")?;
-    Ok(Element { path, keys })
-}
-
 // The op of an element, and what its words are; None where it has no string `op`, or an unknown one.
-fn op_of(
-    alloc: Global,
-    document: &Document,
-    element: &Element,
-) -> Result<Option<(Op, &'static [Word])>, AllocError>
-    ensures op { (s : tree.Document) (n : ℕ) → IsTextOfTree document.now s → IsElement s n element.now
+fn op_of(alloc: Global, element: &NodeRef) -> Result<Option<(Op, &'static [Word])>, AllocError>
+    ensures op { (s : tree.Document) (n : ℕ) → IsElement s n element.now
         → IfOk result (λ found. option_map (λ edit. edit.0) found ≡ spec.op_of s n) }
     ensures words { IfOk result (λ found. IfSome found (λ edit. edit.1.now ≡ edit_words edit.0)) }
 {
-    match document.str_value(alloc, &element.path)? {
+    match element.str_value(alloc, "op")? {
         Some(name) => Ok(edit_named(name.as_str())),
         None => Ok(None),
     }
@@ -167,43 +155,36 @@ fn third_key(words: &[Word]) -> Option<&'static str>
 // The words of an element as its op takes them; None where its keys are not those of its op, or no strings.
 fn texts_of(
     alloc: Global,
-    document: &Document,
-    element: &Element,
+    element: &NodeRef,
     op: Op,
     words: &[Word],
 ) -> Result<Option<Texts>, AllocError>
     requires { words.now ≡ edit_words op }
-    ensures { (s : tree.Document) (n : ℕ) → IsTextOfTree document.now s → IsElement s n element.now
+    ensures { (s : tree.Document) (n : ℕ) → IsElement s n element.now
         → IfOk result (AreTextsOf s n (edit_words op)) }
 {
-    texts_at(alloc, document, element, words)
+    texts_at(alloc, element, words)
 }
 
 // The texts at `path` and at the key of the second of such words, if there is one; None where these are not the keys
 // beside `op`, or no strings.
-fn texts_at(
-    alloc: Global,
-    document: &Document,
-    element: &Element,
-    words: &[Word],
-) -> Result<Option<Texts>, AllocError>
-    ensures { (s : tree.Document) (n : ℕ) → IsTextOfTree document.now s → IsElement s n element.now
+fn texts_at(alloc: Global, element: &NodeRef, words: &[Word]) -> Result<Option<Texts>, AllocError>
+    ensures { (s : tree.Document) (n : ℕ) → IsElement s n element.now
         → IfOk result (AreTexts s n (steps.third_key words.now)) }
 {
     let third = third_key(words);
     let many = if third.is_some() { 3 } else { 2 };
-    match element.keys {
-        Some(count) if count == many => {}
-        _ => return Ok(None),
+    if element.child_count() != many {
+        return Ok(None);
     }
-    let Some(path) = document.str_value_beside(alloc, &element.path, "path")? else {
+    let Some(path) = element.str_value(alloc, "path")? else {
         return Ok(None);
     };
     let Some(name) = third else {
         let third = String::new(alloc);
         return Ok(Some(Texts { path, third }));
     };
-    match document.str_value_beside(alloc, &element.path, name)? {
+    match element.str_value(alloc, name)? {
         Some(third) => Ok(Some(Texts { path, third })),
         None => Ok(None),
     }

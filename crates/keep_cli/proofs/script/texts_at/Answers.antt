@@ -3,6 +3,3 @@ use Rattle.keep_cli.proofs.script.texts_at.Goals as goal
 
 pub returns-in_default-third : goal.returns-in_default-third
 returns-in_default-third c = search rules
-
-pub returns-in-Some-3 : goal.returns-in-Some-3
-returns-in-Some-3 c = search rules

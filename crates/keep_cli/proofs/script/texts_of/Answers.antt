@@ -7,7 +7,7 @@ use Rattle.keep_cli.proofs.script.texts_of.Goals as goal
 
 pub returns : goal.returns
 returns c =
-    λ s n read is.
+    λ s n is.
     texts_ok s n c.args.op c.texts_at.result
     (subst (λ (words : List Word). IfOk c.texts_at.result (AreTexts s n (third_key words))) c.requires
-    (c.texts_at.ensures s n read is))
+    (c.texts_at.ensures s n is))
