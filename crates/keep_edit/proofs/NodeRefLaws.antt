@@ -3,13 +3,13 @@
 -- The index has the paths of the tree's nodes in their order. So a number that is a path's in the tree is that path's
 -- in the index, too, and what is found a step below it is what is at the path with that step.
 --
--- Theorems: `no_string_there`: where there is no node; `same_node`, `at_is`, `same_number`, `there`, `inside`,
--- `within`: a number that the index has; `in_index`, `path_of`, `number_found_at`: a path's number; `step_at`,
--- `at_each`: the path of a number; `step_found`, `step_number`, `none_below`, `item_found`: what is found a step below;
--- `counted`: how many are a step below.
+-- Theorems: `no_string_there`: where there is no node; `same_node`, `at_is`, `same_number`, `there`, `within`: a number
+-- that the index has; `in_index`, `path_of`, `number_found_at`: a path's number; `at_each`: the path of a number;
+-- `step_found`, `step_number`, `none_below`, `item_found`: what is found a step below; `counted`: how many are a step
+-- below.
 use Rattle.std.proofs.Common.{◌≡◌, ◌<◌, ◌∷◌, ◌++◌, ◌∙◌, [], ℕ, List, None, Option, Some, ap, arith, false, length}
 use Rattle.std.proofs.Common.{Bool, refl, subst, sym, true}
-use Rattle.std.specs.Prelude.{IsNone, Result, if◌then◌else◌, nat_lt, slice_index_or}
+use Rattle.std.specs.Prelude.{IsNone, Result, if◌then◌else◌, nat_lt}
 use Rattle.std.proofs.lemmas.Bool.Decides.{nat_tests}
 use Rattle.keep_syntax.specs.declared.syntax.Syntax.{Syntax}
 use Rattle.keep_syntax.specs.Tree.{Document}
@@ -17,18 +17,17 @@ use Rattle.keep_path.specs.NodeInfos.{NodeInfos}
 use Rattle.keep_path.specs.Path.{Part, index as at_index}
 use Rattle.keep_meaning.specs.Meaning.{mentions_in}
 use Rattle.keep_meaning.specs.Nodes.{is_node, node_number, node_paths}
-use Rattle.keep_meaning.proofs.Shared.{paths-nodes_in}
 use Rattle.keep_rules.specs.Lookup.{children_numbered, number_of, path_numbered}
 use Rattle.keep_rules.specs.declared.index.NodeId.{NodeId}
 use Rattle.keep_rules.proofs.Shared.{number_is}
-use Rattle.keep_edit.specs.Answers.{IsFound, str_value_of}
+use Rattle.keep_edit.specs.Answers.{IsFound, path_at, str_value_of}
 use Rattle.keep_edit.specs.Children.{child_count_of}
-use Rattle.keep_edit.specs.NodeRefs.{FindsItemNumber, path_at}
+use Rattle.keep_edit.specs.NodeRefs.{FindsItemNumber}
 use Rattle.keep_edit.specs.Reading.{Holds, IsTextOfTree, ProfiledText}
 use Rattle.keep_edit_plan.specs.Plans.{IsNodeOf}
 use Rattle.keep_edit_spec.specs.declared.fault.EditFault.{EditFault}
 use Rattle.keep_edit_spec.specs.declared.fault.EditFault.TheVariants.{NotFound}
-use Rattle.keep_edit_plan.proofs.Shared.{no_node, one_tree, stated_is}
+use Rattle.keep_edit_plan.proofs.Shared.{no_node, one_tree, paths_are}
 use Rattle.keep_edit.proofs.ChildLaws.{all_children}
 use Rattle.keep_edit.proofs.ScalarLaws.{no_string_found}
 
@@ -62,20 +61,17 @@ there n many o none found lt =
 
 module _ (d : ProfiledText) (syntax : Syntax) (index : NodeInfos) (s : Document) (holds : Holds d syntax index)
     (read : IsTextOfTree d s) where
-  paths_are : index.paths ≡ node_paths (mentions_in s)
-  paths_are = ap (λ (t : NodeInfos). t.paths) (stated_is d syntax index s holds read) ∙ paths-nodes_in s
-
-  pub inside : (n : ℕ) → n < length (node_paths (mentions_in s)) → n < length index.paths
-  inside n lt = subst (λ (ps : List (List Part)). n < length ps) (sym paths_are) lt
+  its_paths : index.paths ≡ node_paths (mentions_in s)
+  its_paths = paths_are d syntax index s holds read
 
   pub within : (n : ℕ) → n < length index.paths → n < length (node_paths (mentions_in s))
-  within n lt = subst (λ (ps : List (List Part)). n < length ps) paths_are lt
+  within n lt = subst (λ (ps : List (List Part)). n < length ps) its_paths lt
 
   -- ---- a path's number
 
   pub in_index : (path : List Part) (node : NodeId) → IsNodeOf path s node
       → node_number index.paths path ≡ Some node.0
-  in_index path node is = ap (λ (ps : List (List Part)). node_number ps path) paths_are ∙ is
+  in_index path node is = ap (λ (ps : List (List Part)). node_number ps path) its_paths ∙ is
 
   pub path_of : (path : List Part) (node : NodeId) → IsNodeOf path s node
       → (node.0 < length index.paths) × (path_numbered index node.0 ≡ path)
@@ -84,20 +80,11 @@ module _ (d : ProfiledText) (syntax : Syntax) (index : NodeInfos) (s : Document)
   pub number_found_at : (path : List Part) (o : Option NodeId) (node : NodeId) → o ≡ Some node
       → number_of o ≡ node_number index.paths path → IsNodeOf path s node
   number_found_at path o node one found =
-      ap (λ (ps : List (List Part)). node_number ps path) (sym paths_are) ∙ sym found ∙ ap number_of one
+      ap (λ (ps : List (List Part)). node_number ps path) (sym its_paths) ∙ sym found ∙ ap number_of one
 
   -- ---- the path of a number
 
-  path_at_is : (n : ℕ) → path_numbered index n ≡ path_at s n
-  path_at_is n = ap (λ (ps : List (List Part)). slice_index_or ps n []) paths_are
-
-  pub step_at : (n : ℕ) (part : Part) (o : Option NodeId)
-      → number_of o ≡ node_number index.paths (path_numbered index n ++ part ∷ [])
-      → number_of o ≡ node_number index.paths (path_at s n ++ part ∷ [])
-  step_at n part o found =
-      found ∙ ap (λ (p : List Part). node_number index.paths (p ++ part ∷ [])) (path_at_is n)
-
-  -- the one tree of the text has it, too
+  -- the one tree of the text has it
   pub at_each : (n : ℕ) (part : Part) (r : Result ℕ EditFault) → IsFound (path_at s n ++ part ∷ []) s r
       → IsFound (path_at holds.tree n ++ part ∷ []) s r
   at_each n part r found =
@@ -124,7 +111,7 @@ module _ (d : ProfiledText) (syntax : Syntax) (index : NodeInfos) (s : Document)
       → (more : List Part) → is_node (path ++ part ∷ more) (mentions_in s) ≡ false
   none_below path node part is none more =
       no_node (path ++ part ∷ more) (mentions_in s)
-      (ap (λ (ps : List (List Part)). node_number ps (path ++ part ∷ more)) (sym paths_are)
+      (ap (λ (ps : List (List Part)). node_number ps (path ++ part ∷ more)) (sym its_paths)
       ∙ ap (λ (p : List Part). node_number index.paths (p ++ part ∷ more)) (sym (path_of path node is).1)
       ∙ none more)
 

@@ -21,8 +21,8 @@ use Rattle.keep_edit.specs.Reading.{ProfiledText, text_in}
 use Rattle.keep_edit.specs.declared.document.Counts.{Counts}
 use Rattle.keep_edit.specs.declared.document.Entry.{Entry}
 use Rattle.keep_edit_plan.specs.declared.text_edit.TextEdit.{TextEdit}
-pub use Rattle.keep_edit_plan.specs.Answers.{refusal_in, splice_of, text_after, value_number_of, HasNoValue, IsDone}
-pub use Rattle.keep_edit_plan.specs.Answers.{IsEdited, IsFound, IsMade, IsSpanOf, IsTextAfter}
+pub use Rattle.keep_edit_plan.specs.Answers.{path_at, refusal_in, splice_of, text_after, value_number_of, HasNoValue}
+pub use Rattle.keep_edit_plan.specs.Answers.{IsDone, IsEdited, IsFound, IsMade, IsSpanOf, IsTextAfter}
 
 -- ---- the whole
 

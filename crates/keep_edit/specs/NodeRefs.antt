@@ -1,17 +1,13 @@
 -- Nodes that were found in a document.
-use Rattle.std.specs.Prelude.{◌≡◌, ℕ, List, [], ◌∷◌, ◌++◌, false, Option, Some, None, slice_index_or}
+use Rattle.std.specs.Prelude.{◌≡◌, ℕ, List, [], ◌∷◌, ◌++◌, false, Option, Some, None}
 use Rattle.keep_syntax.specs.Tree.{Document}
 use Rattle.keep_meaning.specs.Meaning.{mentions_in}
-use Rattle.keep_meaning.specs.Nodes.{is_node, node_paths}
+use Rattle.keep_meaning.specs.Nodes.{is_node}
 use Rattle.keep_path.specs.Path.{Part, index}
 use Rattle.keep_rules.specs.declared.index.NodeId.{NodeId}
 use Rattle.keep_edit_plan.specs.Plans.{IsNodeOf}
 use Rattle.keep_edit.specs.Reading.{IsTextOfTree}
 use Rattle.keep_edit.specs.declared.nodes.NodeRef.{NodeRef}
-
--- the path of the node with that number
-abbrev pub path_at : Document → ℕ → List Part
-path_at s n = slice_index_or (node_paths (mentions_in s)) n []
 
 -- the node is one of this document, and has this path
 pub record IsNodeAt (s : Document) (path : List Part) (r : NodeRef) : Type 0 where

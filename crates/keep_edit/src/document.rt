@@ -237,7 +237,7 @@ impl Document {
 
 impl Document {
     ghost use Rattle.std.specs.Prelude.{List};
-    ghost use Rattle.keep_path.specs.Path.{Part, beside};
+    ghost use Rattle.keep_path.specs.Path.{Part};
     ghost use Rattle.keep_edit.specs.Answers.{kind_of, int_value_of, str_value_of, entries_of, IsFound};
     ghost use Rattle.keep_edit_spec.specs.Answers as answers;
 
@@ -288,21 +288,6 @@ impl Document {
         ensures accepted { IsAccepted self.now }
     {
         self.string_found(alloc, self.as_ref().value_number(path))
-    }
-
-    /// What the string at a path with this key, decoded, in place of its last step means, as `str_value` gives it. For
-    /// the root's path it is a key of the root. So of one path any key of a table can be asked.
-    pub fn str_value_beside(
-        &self,
-        alloc: Global,
-        path: &Path,
-        key: &str,
-    ) -> Result<Option<String>, AllocError>
-        ensures string { (s : tree.Document) → IsTextOfTree self.now s
-            → IfOk result (λ found. option_map string_bytes found ≡ str_value_of (beside path.now key.now) s) }
-        ensures accepted { IsAccepted self.now }
-    {
-        self.string_found(alloc, self.as_ref().value_number_beside(path, key))
     }
 
     // What the string means whose number was looked for at a path; None where another value was found, or none.

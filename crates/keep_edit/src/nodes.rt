@@ -1,18 +1,15 @@
 //! Nodes of a document, found once, of which several things can be asked.
-ghost use Rattle.std.specs.Prelude.{◌≡◌, ◌<◌, [], ◌∷◌, ◌++◌, IfOk, List, Some, length, option_map, string_bytes};
+ghost use Rattle.std.specs.Prelude.{◌≡◌, [], ◌∷◌, ◌++◌, IfOk, List, Some, option_map, string_bytes};
 ghost use Rattle.keep_syntax.specs.Tree as tree;
-ghost use Rattle.keep_meaning.specs.Meaning.{mentions_in};
-ghost use Rattle.keep_meaning.specs.Nodes.{node_paths};
 ghost use Rattle.keep_path.specs.Path.{Part, key};
 ghost use Rattle.keep_edit_plan.specs.Plans.{IsNodeOf};
-ghost use Rattle.keep_edit.specs.Answers.{IsFound, str_value_of};
+ghost use Rattle.keep_edit.specs.Answers.{str_value_of};
 ghost use Rattle.keep_edit.specs.Children.{child_count_of};
-ghost use Rattle.keep_edit.specs.NodeRefs.{FindsItem, FindsItemNumber, FindsNode, IsNodeAt, path_at};
+ghost use Rattle.keep_edit.specs.NodeRefs.{FindsItem, FindsItemNumber, FindsNode, IsNodeAt};
 ghost use Rattle.keep_edit.specs.Reading.{IsTextOfTree};
 
 use crate::document::Document;
-use keep_edit_spec::EditFault;
-use keep_rules::{NodeId, Origin, Path, Step};
+use keep_rules::{NodeId, Path, Step};
 use std::alloc::{AllocError, Global};
 
 /// A node that was found in a document. What is below it can be asked without its path, so many questions go down a
@@ -68,22 +65,7 @@ impl Document {
         let Some(id) = self.index.node_at(node.0) else {
             return Ok(None);
         };
-        self.string_found(alloc, self.value_below(id, text))
-    }
-
-    // The number of the value at a key of a node.
-    fn value_below(&self, node: NodeId, text: &str) -> Result<usize, EditFault>
-        requires { (s : tree.Document) → IsTextOfTree self.now s → node.0 < length (node_paths (mentions_in s)) }
-        ensures { (s : tree.Document) → IsTextOfTree self.now s
-            → IsFound (path_at s node.0 ++ key text.now ∷ []) s result }
-    {
-        let Some(child) = self.index.child(node, text) else {
-            return Err(EditFault::NotFound);
-        };
-        let Origin::Value(number) = self.index.node(child).origin else {
-            return Err(EditFault::NotValue);
-        };
-        Ok(number)
+        self.string_found(alloc, self.as_ref().value_number_below(id, text))
     }
 }
 

@@ -5,10 +5,11 @@
 -- exactly where a value is the last thing that names it, since the origins have an order (`origin_of_value`,
 -- `value_of_origin`). The number of the value is then its number in the syntax, which has its span (`value_there`).
 --
--- Theorems: `node_found`, `number_found`, `no_number_found` and `value_there`.
+-- Theorems: `paths_are`, `inside`, `step_at`: the node of a number; `node_found`, `number_found`, `no_number_found` and
+-- `value_there`.
 use Rattle.std.proofs.Common.{◌≡◌, ℕ, ◌<◌, Bool, true, false, ◌||◌, List, [], ◌∷◌, length, slice_get, refl, sym, ap}
 use Rattle.std.proofs.Common.{subst, ◌∙◌, arith, Option, Some, None}
-use Rattle.std.specs.Prelude.{IsCharBoundary}
+use Rattle.std.specs.Prelude.{◌++◌, IsCharBoundary, slice_index_or}
 use Rattle.std.specs.List.{list_any}
 use Rattle.std.specs.Option.{option_map}
 use Rattle.std.proofs.lemmas.Option.{slice_get_within}
@@ -22,7 +23,7 @@ use Rattle.keep_types.specs.declared.node.NodeInfo.{NodeInfo}
 use Rattle.keep_types.specs.declared.node.Origin.TheVariants as origin
 use Rattle.keep_meaning.specs.Counts.{Numbered, is_value, numbered_in}
 use Rattle.keep_meaning.specs.Fact.{Fact}
-use Rattle.keep_rules.specs.Lookup.{number_of}
+use Rattle.keep_rules.specs.Lookup.{number_of, path_numbered}
 use Rattle.keep_meaning.specs.Marks.{Mention}
 use Rattle.keep_meaning.specs.Meaning.{mentions_in}
 use Rattle.keep_meaning.specs.Nodes.{is_at, is_root, is_node, fact_at, node_at, node_number, node_paths, nodes_in}
@@ -35,7 +36,7 @@ use Rattle.keep_edit_spec.specs.declared.fault.EditFault.TheVariants as fault
 use Rattle.keep_edit_spec.proofs.Shared.{IsValueOf, value_of_number, none_of_number, fact_past}
 use Rattle.keep_edit_plan.specs.Plans.{IsNodeOf}
 use Rattle.keep_edit_plan.specs.Reading.{ProfiledText, IsTextOfTree, Holds}
-use Rattle.keep_edit_plan.specs.Answers.{value_number_of, HasNoValue, IsSpanOf}
+use Rattle.keep_edit_plan.specs.Answers.{path_at, value_number_of, HasNoValue, IsSpanOf}
 use Rattle.keep_edit_plan.proofs.AnswerLaws.{tree_is, stated_is}
 use Rattle.keep_edit_plan.proofs.NodeLaws.{info_at, info_of_number, node_of_number, no_node, a_node}
 use Rattle.keep_edit_plan.proofs.ValueEnds.{value_ends, starts_between, ends_between}
@@ -47,22 +48,38 @@ pub record IsStated (path : List Part) (s : Document) (info : NodeInfo) : Type 0
   pub node : is_node path (mentions_in s) ≡ true
   pub is : info ≡ info_at path s
 
+module _ (d : ProfiledText) (syntax : Syntax) (index : NodeInfos) (s : Document) (holds : Holds d syntax index)
+    (read : IsTextOfTree d s) where
+  pub paths_are : index.paths ≡ node_paths (mentions_in s)
+  paths_are = ap (λ (t : NodeInfos). t.paths) (stated_is d syntax index s holds read) ∙ paths-nodes_in s
+
+  -- a number that the tree has
+  pub inside : (n : ℕ) → n < length (node_paths (mentions_in s)) → n < length index.paths
+  inside n lt = subst (λ (ps : List (List Part)). n < length ps) (sym paths_are) lt
+
+  -- a step below the node of a number
+  pub step_at : (n : ℕ) (part : Part) (o : Option NodeId)
+      → number_of o ≡ node_number index.paths (path_numbered index n ++ part ∷ [])
+      → number_of o ≡ node_number index.paths (path_at s n ++ part ∷ [])
+  step_at n part o found =
+      found ∙ ap (λ (ps : List (List Part)). node_number index.paths (slice_index_or ps n [] ++ part ∷ [])) paths_are
+
 module _ (d : ProfiledText) (syntax : Syntax) (index : NodeInfos) (path : List Part) (s : Document)
     (holds : Holds d syntax index) (read : IsTextOfTree d s) where
-  paths_are : index.paths ≡ node_paths (mentions_in s)
-  paths_are = ap (λ (t : NodeInfos). t.paths) (stated_is d syntax index s holds read) ∙ paths-nodes_in s
+  its_paths : index.paths ≡ node_paths (mentions_in s)
+  its_paths = paths_are d syntax index s holds read
 
   pub none_found : (o : Option NodeId) → o ≡ None → number_of o ≡ node_number index.paths path
       → is_node path (mentions_in s) ≡ false
   none_found o none found =
-      no_node path (mentions_in s) (ap (λ (ps : List (List Part)). node_number ps path) (sym paths_are) ∙ sym found
+      no_node path (mentions_in s) (ap (λ (ps : List (List Part)). node_number ps path) (sym its_paths) ∙ sym found
       ∙ ap number_of none)
 
   -- the node with that number is the path's
   pub number_found_at : (id : NodeId) (o : Option NodeId) → o ≡ Some id → number_of o ≡ node_number index.paths path
       → IsNodeOf path s id
   number_found_at id o one found =
-      ap (λ (ps : List (List Part)). node_number ps path) (sym paths_are) ∙ sym found ∙ ap number_of one
+      ap (λ (ps : List (List Part)). node_number ps path) (sym its_paths) ∙ sym found ∙ ap number_of one
 
   pub one_found : (id : NodeId) (info : NodeInfo) (o : Option NodeId) → o ≡ Some id
       → number_of o ≡ node_number index.paths path → slice_get index.infos id.0 ≡ Some info → IsStated path s info

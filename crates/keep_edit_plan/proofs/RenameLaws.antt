@@ -123,12 +123,6 @@ prefix_is (p ∷ q ∷ ps) =
 pub beside_is : (path : List Part) (t : List ℕ) → take (length path - 1) path ++ key t ∷ [] ≡ beside path t
 beside_is path t = ap (λ l. l ++ key t ∷ []) (prefix_is path)
 
--- what was looked for beside a path
-pub found_beside : (paths : List (List Part)) (path : List Part) (t : List ℕ) (o : Option NodeId)
-    → number_of o ≡ node_number paths (take (length path - 1) path ++ key t ∷ [])
-    → number_of o ≡ node_number paths (beside path t)
-found_beside paths path t o found = found ∙ ap (node_number paths) (beside_is path t)
-
 -- its last part
 pub last_is : (path : List Part) → slice_get path (length path - 1) ≡ last_part path
 last_is [] = refl

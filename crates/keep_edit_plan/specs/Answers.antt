@@ -1,13 +1,13 @@
 -- What is answered of an edit, by the tree of the document: the number of a value, what the edit writes and where, or
 -- the refusal.
 use Rattle.std.specs.Prelude.{◌≡◌, ◌≤◌, ◌+◌, ℕ, true, false, List, length, Option, Some, None, Result, Ok, Err}
-use Rattle.std.specs.Prelude.{MatchResult, IsCharBoundary, string_bytes}
+use Rattle.std.specs.Prelude.{[], MatchResult, IsCharBoundary, slice_index_or, string_bytes}
 use Rattle.keep_syntax.specs.Tree.{Document}
 use Rattle.keep_types.specs.declared.syntax.Span.{Span}
 use Rattle.keep_syntax.specs.Numbered.{span}
 use Rattle.keep_meaning.specs.Counts.{numbered_in, is_value}
 use Rattle.keep_meaning.specs.Meaning.{mentions_in}
-use Rattle.keep_meaning.specs.Nodes.{is_node, numbered_at, last_number, value_number}
+use Rattle.keep_meaning.specs.Nodes.{is_node, node_paths, numbered_at, last_number, value_number}
 use Rattle.keep_path.specs.Path.{Part}
 use Rattle.keep_edit_spec.specs.declared.fault.EditFault.{EditFault}
 use Rattle.keep_edit_spec.specs.declared.fault.EditFault.TheVariants.{Memory, NotFound, NotValue}
@@ -22,6 +22,10 @@ use Rattle.keep_edit_plan.specs.Reading.{limit, ProfiledText, text_in, IsTextOfT
 use Rattle.keep_edit_plan.specs.declared.text_edit.TextEdit.{TextEdit}
 
 -- ---- the value of a node
+
+-- the path of the node with that number
+abbrev pub path_at : Document → ℕ → List Part
+path_at s n = slice_index_or (node_paths (mentions_in s)) n []
 
 -- the number of the value at a path
 abbrev pub value_number_of : List Part → Document → Option ℕ

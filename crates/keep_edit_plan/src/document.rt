@@ -1,8 +1,10 @@
 //! A document that was read, as its edits look at it.
-ghost use Rattle.std.specs.Prelude.{◌≡◌};
+ghost use Rattle.std.specs.Prelude.{◌≡◌, ◌<◌, [], ◌∷◌, ◌++◌, length};
 ghost use Rattle.keep_syntax.specs.Tree as tree;
-ghost use Rattle.keep_path.specs.Path.{beside};
-ghost use Rattle.keep_edit_plan.specs.Answers.{IsFound};
+ghost use Rattle.keep_meaning.specs.Meaning.{mentions_in};
+ghost use Rattle.keep_meaning.specs.Nodes.{node_paths};
+ghost use Rattle.keep_path.specs.Path.{key};
+ghost use Rattle.keep_edit_plan.specs.Answers.{IsFound, path_at};
 ghost use Rattle.keep_edit_plan.specs.Plans.{IsValueFound};
 ghost use Rattle.keep_edit_plan.specs.Reading.{Holds, IsTextOfTree, text_in};
 
@@ -65,19 +67,20 @@ impl<'a> DocumentRef<'a> {
         Ok(number)
     }
 
-    /// The number of the value at a path with this key, decoded, in place of its last step, among those of the syntax.
-    /// For the root's path it is a key of the root. It takes no memory.
+    /// The number of the value at a key of a node, decoded, among those of the syntax. It takes no memory.
     ///
     /// # Errors
     ///
-    /// Those of `value_number` at that path.
-    pub fn value_number_beside(&self, path: &Path, key: &str) -> Result<usize, EditFault>
-        ensures { (s : tree.Document) → IsTextOfTree self.now s → IsFound (beside path.now key.now) s result }
+    /// Those of `value_number` at the path of that key.
+    pub fn value_number_below(&self, node: NodeId, text: &str) -> Result<usize, EditFault>
+        requires { (s : tree.Document) → IsTextOfTree self.now s → node.0 < length (node_paths (mentions_in s)) }
+        ensures { (s : tree.Document) → IsTextOfTree self.now s
+            → IsFound (path_at s node.0 ++ key text.now ∷ []) s result }
     {
-        let Some(node) = self.index.sibling(path, key) else {
+        let Some(child) = self.index.child(node, text) else {
             return Err(EditFault::NotFound);
         };
-        let Origin::Value(number) = self.index.node(node).origin else {
+        let Origin::Value(number) = self.index.node(child).origin else {
             return Err(EditFault::NotValue);
         };
         Ok(number)

@@ -58,7 +58,6 @@ fn report_of(alloc: Global, document: &Document, row: &Row) -> Answer {
         "list" => list(alloc, document),
         "get by steps" => got_by_steps(alloc, document, row),
         "as in strict" => as_in_strict(alloc, document),
-        "string beside" => string_beside(alloc, document, row.text(1), row.text(2)),
         "keys of item" | "string in item" => in_item(alloc, document, row),
         question => report_at(alloc, document, question, row.text(1)),
     }
@@ -102,14 +101,6 @@ fn got(alloc: Global, document: &Document, path: &Path) -> Answer {
         Ok(text) => String::from_str(alloc, text),
         Err(fault) => fault.to_string(alloc),
     }
-}
-
-// The string beside the path that a text tells.
-fn string_beside(alloc: Global, document: &Document, path: &str, key: &str) -> Answer {
-    let Ok(path) = Path::read(alloc, path) else {
-        return String::from_str(alloc, "no path");
-    };
-    marked(alloc, document.str_value_beside(alloc, &path, key)?)
 }
 
 // What is asked of the item of a number at a path.

@@ -1,10 +1,11 @@
 use Rattle.std.proofs.Common.{◌≡◌, ◌<◌, [], ◌∷◌, ◌++◌, List, Option, length, string_bytes, subst}
 use Rattle.std.specs.Prelude.{IfOk, IfSome, option_map}
+use Rattle.keep_syntax.specs.Tree.{Document}
 use Rattle.keep_path.specs.Path.{Part, key}
 use Rattle.keep_rules.specs.declared.index.NodeId.{NodeId}
 use Rattle.keep_edit_plan.proofs.Shared.{seen}
-use Rattle.keep_edit.specs.Answers.{str_value_of}
-use Rattle.keep_edit.specs.NodeRefs.{path_at}
+use Rattle.keep_edit.specs.Answers.{path_at, str_value_of}
+use Rattle.keep_edit.specs.Reading.{IsTextOfTree}
 use Rattle.keep_edit.proofs.NodeRefLaws.{at_each, at_is, path_of, same_node, same_number, there, within}
 use Rattle.keep_edit.proofs.document.Document.string_below.Goals as goal
 
@@ -13,18 +14,19 @@ returns-in_default c = λ s path read is.
     absurd (there c.args.node.0 _ _ c.in_default.is c.node_at.ensures.found
     (path_of _ _ _ s (seen c.self.view_is c.self.invariant) read path c.args.node is).0)
 
-pub value_below-requires : goal.value_below-requires
-value_below-requires c = λ s read.
+pub value_number_below-requires : goal.value_number_below-requires
+value_number_below-requires c =
+    rw (← c.as_ref.ensures) at (λ (s : Document) (read : IsTextOfTree c.args.self.now s).
     within _ _ _ s (seen c.self.view_is c.self.invariant) read c.in-Some.id.0
     (subst (λ (o : Option NodeId). IfSome o (λ id. id.0 < length c.self.inside.index.paths)) c.in-Some.is
-    c.node_at.ensures.within)
+    c.node_at.ensures.within))
 
 pub string_found-requires : goal.string_found-requires
 string_found-requires c =
     let h = seen c.self.view_is c.self.invariant in (
       path_at h.tree c.in-Some.id.0 ++ key c.args.text.now ∷ [],
-      λ s read. at_each _ _ _ s h read c.in-Some.id.0 (key c.args.text.now) c.value_below.result
-          (c.value_below.ensures s read),
+      λ s read. at_each _ _ _ s h read c.in-Some.id.0 (key c.args.text.now) c.value_number_below.result
+          ((rw c.as_ref.ensures at c.value_number_below.ensures) s read),
     )
 
 pub returns : goal.returns
@@ -35,4 +37,5 @@ returns c = λ s path read is.
     c.node_at.ensures.found) is) in
     subst (λ (p : List Part). IfOk c.string_found.result (λ found.
     option_map string_bytes found ≡ str_value_of (p ++ key c.args.text.now ∷ []) s)) same
-    (c.string_found.ensures.string (path_at s id.0 ++ key c.args.text.now ∷ []) s read (c.value_below.ensures s read))
+    (c.string_found.ensures.string (path_at s id.0 ++ key c.args.text.now ∷ []) s read
+    ((rw c.as_ref.ensures at c.value_number_below.ensures) s read))

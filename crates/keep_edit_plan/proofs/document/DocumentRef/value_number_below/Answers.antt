@@ -1,10 +1,9 @@
 use Rattle.std.proofs.Common.{[], ◌∷◌, ◌++◌}
 use Rattle.keep_path.specs.Path.{key}
-use Rattle.keep_edit_plan.proofs.FoundLaws.{no_number_found, number_found}
-use Rattle.keep_edit_plan.proofs.Shared.{none_found, one_found, seen}
-use Rattle.keep_edit.specs.NodeRefs.{path_at}
-use Rattle.keep_edit.proofs.NodeRefLaws.{inside, step_at}
-use Rattle.keep_edit.proofs.document.Document.value_below.Goals as goal
+use Rattle.keep_edit_plan.specs.Answers.{path_at}
+use Rattle.keep_edit_plan.proofs.AnswerLaws.{seen}
+use Rattle.keep_edit_plan.proofs.FoundLaws.{inside, no_number_found, none_found, number_found, one_found, step_at}
+use Rattle.keep_edit_plan.proofs.document.DocumentRef.value_number_below.Goals as goal
 
 pub child-requires : goal.child-requires
 child-requires c =
