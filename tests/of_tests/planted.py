@@ -24,7 +24,7 @@ HERE = Path(__file__).resolve().parent
 WRONG = str(HERE / "wrong_program")
 FUZZ = str(HERE.parents[1] / "fuzz")
 # (a worker stops at the first fault, so this is for slow machines)
-SECONDS = "30"
+SECONDS = "200"
 FOUND_BY_FUZZ = """
     always_out_of_memory accepts_all counts_too_much forgets_the_last_entry has_other_kinds has_other_values
     has_other_strings makes_no_edit drops_gaps drops_comments drops_the_last_newline removes_a_line_more
