@@ -4,11 +4,12 @@
 -- cases of five truth values), so the mask's bits are those of the bytes that end a run (`block_ends`). Where the mask
 -- is 0 the run goes through the block (`run_through`); else it ends at the lowest bit (`run_stops`). The classes of
 -- bytes that the code tests are those of the grammar, which is computed for each of the 256 bytes (`upto`). Digits have
--- a mask of their own (`block_non_digits`), and where it is 0 they go through the block (`digits_through`).
+-- a mask of their own (`block_non_digits`), and where it is 0 they go through the block (`digits_through`). White space
+-- has one, too (`block_non_ws`).
 --
 -- Theorems: `block_ends`, `run_through`, `run_stops`, and `comment_class`, `basic_class` and `literal_class`, with
 -- `comment_ends`, `basic_ends` and `literal_ends` where a block has the end; for digits `block_non_digits` and
--- `digits_through`.
+-- `digits_through`; for white space `block_non_ws`.
 use Rattle.std.proofs.Common.{◌≡◌, ℕ, zero, suc, ◌+◌, ◌*◌, ◌%◌, ◌^◌, ◌<◌, ◌≤◌, Bool, true, false, not, cond, eqb, ltb}
 use Rattle.std.proofs.Common.{List, [], ◌∷◌, map, length, drop, take, take-add, replicate, bit_and, inl, inr, subst}
 use Rattle.std.proofs.Common.{refl, sym, ap, ap₂, ◌∙◌, arith, w8, Fits}
@@ -27,7 +28,7 @@ use lib.Lanes.{zip2, mask_l, top, chunk, Each1}
 use lib.Count.{count_trailing_zeros}
 use Rattle.keep_token.specs.Abnf.{between, is_comment}
 use Rattle.keep_token.specs.Strings.{is_basic, is_literal}
-use Rattle.keep_token.specs.Blocks.{ends_run, is_non_digit, is_plain}
+use Rattle.keep_token.specs.Blocks.{ends_run, is_non_digit, is_non_ws, is_plain}
 use Rattle.keep_token.proofs.ClassLaws.{same, same_is}
 
 -- ---- the mask of a block
@@ -170,6 +171,34 @@ block_non_digits v long =
     ap (λ (l : List ℕ). mask_l (map (top 7) l) % 2 ^ 64) lanes
     ∙ ap (λ (l : List Bool). mask_l l % 2 ^ 64) (each_non_digit v)
     ∙ mask_l-mod (map is_non_digit v) 64 (omega (arith, length-map v is_non_digit))
+
+-- ---- the mask of a block's bytes that are no white space
+
+neither : (a b : Bool) → (not a && not b) ≡ not (a || b)
+neither true b = refl
+neither false b = refl
+
+each_non_ws : (v : List ℕ) → map (top 7) (map (λ x. bit_and (other x 0x20) (other x 9)) v) ≡ map is_non_ws v
+each_non_ws [] = refl
+each_non_ws (x ∷ xs) =
+    let here : top 7 (bit_and (other x 0x20) (other x 9)) ≡ is_non_ws x =
+    ap (top 7) (and_set (not (eqb x 0x20)) (not (eqb x 9)))
+    ∙ top_set (not (eqb x 0x20) && not (eqb x 9))
+    ∙ neither (eqb x 0x20) (eqb x 9) in
+    ap₂ (λ (c : Bool) (cs : List Bool). c ∷ cs) here (each_non_ws xs)
+
+pub block_non_ws : (v : List ℕ) → length v ≡ 16
+    → mask_l (map (top 7) (zip2 bit_and (zip2 other v (replicate 16 0x20)) (zip2 other v (replicate 16 9)))) % 2 ^ 64
+    ≡ mask_l (map is_non_ws v)
+block_non_ws v long =
+    let lanes =
+    ap₂ (zip2 bit_and) (zip2_splat other v 16 0x20 long) (zip2_splat other v 16 9 long)
+    ∙ zip2-map bit_and (λ x. other x 0x20) (λ x. other x 9) v in
+    ap (λ (l : List ℕ). mask_l (map (top 7) l) % 2 ^ 64) lanes
+    ∙ ap (λ (l : List Bool). mask_l l % 2 ^ 64) (each_non_ws v)
+    ∙ mask_l-mod (map is_non_ws v) 64 (omega (arith, length-map v is_non_ws))
+
+-- ---- digits
 
 -- where no bit is set, each byte is a digit
 no_bit : (b : Bool) (m : ℕ) → cond (not b) 1 0 + 2 * m ≡ 0 → (b ≡ true) × (m ≡ 0)

@@ -3,7 +3,8 @@ ghost use Rattle.std.specs.Prelude.{◌≡◌, ◌+◌, ◌≤◌, true, drop, l
 ghost use Rattle.std.specs.Char.{is_ascii_digit};
 ghost use Rattle.std.specs.List.{list_all, prefix_len};
 ghost use Rattle.std.specs.Simd.Lanes.{mask_l};
-ghost use Rattle.keep_token.specs.Blocks.{ends_run, is_non_digit, is_plain};
+ghost use Rattle.keep_token.specs.Abnf.{is_ws};
+ghost use Rattle.keep_token.specs.Blocks.{ends_run, is_non_digit, is_non_ws, is_plain};
 
 use std::simd::prelude::*;
 
@@ -76,4 +77,33 @@ pub(crate) fn digits_in_blocks(bytes: &[u8]) -> usize
         digits += BLOCK;
     }
     digits
+}
+
+/// A bit for each byte that is no white space.
+#[inline(always)]
+fn non_ws(block: u8x16) -> u64
+    ensures { result ≡ mask_l (map is_non_ws block) }
+{
+    let others = block.simd_ne(u8x16::splat(b' ')) & block.simd_ne(u8x16::splat(b'\t'));
+    others.to_bitmask()
+}
+
+/// How many bytes of white space come first: `Ok` where a block has the byte after them, and else `Err` with how far
+/// whole blocks go.
+#[inline(always)]
+pub(crate) fn ws_by_blocks(bytes: &[u8]) -> Result<usize, usize>
+    ensures run { MatchResult result
+        (λ len. prefix_len is_ws bytes.now ≡ len)
+        (λ at. prefix_len is_ws bytes.now ≡ at + prefix_len is_ws (drop at bytes.now)) }
+    ensures within { MatchResult result (λ len. len ≤ length bytes.now) (λ at. at ≤ length bytes.now) }
+{
+    let mut end = 0;
+    while bytes.len() - end >= BLOCK {
+        let found = non_ws(u8x16::from_slice(&bytes[end..]));
+        if found != 0 {
+            return Ok(end + found.trailing_zeros() as usize);
+        }
+        end += BLOCK;
+    }
+    Err(end)
 }

@@ -7,7 +7,7 @@ ghost use Rattle.keep_token.specs.Numbers as numbers;
 ghost use Rattle.keep_token.specs.Strings as strings;
 ghost use Rattle.keep_token.specs.Words as words;
 
-use crate::blocks::run_by_blocks;
+use crate::blocks::{run_by_blocks, ws_by_blocks};
 
 const COMMENT: u8 = 1;
 
@@ -113,12 +113,24 @@ pub(crate) fn are_digits(bytes: &[u8]) -> bool
     bytes.iter().all(|byte| byte.is_ascii_digit())
 }
 
+/// How many bytes of white space come first, byte by byte.
+#[inline(never)]
+fn ws_tail(bytes: &[u8]) -> usize
+    ensures len { result ≡ prefix_len abnf.is_ws bytes.now }
+    ensures within { result ≤ length bytes.now }
+{
+    bytes.iter().take_while(|byte| is_ws(**byte)).count()
+}
+
 /// How many bytes of white space come first.
 pub(crate) fn ws_run(bytes: &[u8]) -> usize
     ensures len { result ≡ prefix_len abnf.is_ws bytes.now }
     ensures within { result ≤ length bytes.now }
 {
-    bytes.iter().take_while(|byte| is_ws(**byte)).count()
+    match ws_by_blocks(bytes) {
+        Ok(len) => len,
+        Err(at) => at + ws_tail(&bytes[at..]),
+    }
 }
 
 /// How many bytes of a comment come first.
