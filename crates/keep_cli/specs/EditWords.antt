@@ -3,7 +3,7 @@ use Rattle.std.specs.Prelude.{◌≡◌, ◌⊎◌, ⊤, ℕ, List, [], ◌∷�
 use Rattle.std.specs.Prelude.{String, string_bytes, Vec}
 use Rattle.std.specs.Global.{Global}
 use Rattle.keep_types.specs.declared.leaf.Profile.{Profile}
-use Rattle.keep_path.specs.Path.{Part, key, index}
+use Rattle.keep_path.specs.Path.{Part, key}
 use Rattle.keep_path.specs.PathText.{AreKeys, FirstIndex, IsPathText, StopsAt}
 use Rattle.keep_meaning.specs.ReadText as reading
 use Rattle.keep_edit.specs.Headers.{key_texts}
@@ -96,11 +96,6 @@ words_for o first second = take (length (edit_words o)) (first ∷ second ∷ []
 -- the text is this path's, and no other's
 abbrev pub IsOnlyPath : List ℕ → List Part → Type 0
 IsOnlyPath text path = IsPathText text path × ((other : List Part) → IsPathText text other → path ≡ other)
-
--- the key that a step is
-abbrev pub key_in : Option Part → Option (List ℕ)
-key_in None = None
-key_in (Some part) = elim part [ key text ↦ Some text | index n ↦ None ]
 
 -- these are all steps of the path, or one of them is an index
 abbrev pub IsKeysIn : List Part → Option (Vec (String Global) Global) → Type 0

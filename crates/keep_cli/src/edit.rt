@@ -1,10 +1,10 @@
 //! The edit that an operation makes of its words, wherever these come from.
-ghost use Rattle.std.specs.Prelude.{◌≡◌, ◌⊎◌, IfOk, MatchResult, option_map, slice_get};
+ghost use Rattle.std.specs.Prelude.{◌≡◌, ◌⊎◌, IfOk, MatchResult};
 ghost use Rattle.keep_types.specs.declared.leaf.Profile.TheVariants.{Strict};
 ghost use Rattle.keep_args.specs.declared.subcommand.Word.TheVariants as Word;
 ghost use Rattle.keep_edit.specs.Headers.{key_texts};
 ghost use Rattle.keep_cli.specs.declared.edit.WordFault.TheVariants as word_fault;
-ghost use Rattle.keep_cli.specs.EditWords.{key_in, words_for, IsGivenValue, IsKeysIn, IsKeysText, IsOnlyPath};
+ghost use Rattle.keep_cli.specs.EditWords.{words_for, IsGivenValue, IsKeysIn, IsKeysText, IsOnlyPath};
 ghost use Rattle.keep_cli.specs.EditWords.{IsUnreadable, Makes, MakesNone};
 
 use keep_args::Op;
@@ -97,7 +97,7 @@ fn keys_of(alloc: Global, text: &str) -> Result<Vec<String>, WordFault>
         (λ fault. (fault ≡ WordFault.Memory) ⊎ IsUnreadable Strict Word.Keys text.now fault) }
 {
     let path = path_of(alloc, text)?;
-    match keys_in(alloc, &path)? {
+    match keys_in(alloc, path)? {
         Some(keys) => Ok(keys),
         None => match Path::first_index(text) {
             Some(at) => Err(WordFault::Path { at }),
@@ -106,27 +106,17 @@ fn keys_of(alloc: Global, text: &str) -> Result<Vec<String>, WordFault>
     }
 }
 
-// The keys of a path; None where it has an index.
-fn keys_in(alloc: Global, path: &Path) -> Result<Option<Vec<String>>, AllocError>
-    ensures { IfOk result (IsKeysIn path.now) }
+// The keys of a path, which are not copied; None where it has an index.
+fn keys_in(alloc: Global, path: Path) -> Result<Option<Vec<String>>, AllocError>
+    ensures { IfOk result (IsKeysIn path) }
 {
-    let mut keys = Vec::new(alloc);
-    for number in 0..path.len() {
-        let Some(text) = key_at(path, number) else {
+    let steps = path.into_steps();
+    let mut keys = Vec::with_capacity(alloc, steps.len())?;
+    for step in steps {
+        let Step::Key(text) = step else {
             return Ok(None);
         };
-        keys.push(String::from_str(alloc, text)?)?;
+        keys.push(text)?;
     }
     Ok(Some(keys))
-}
-
-// The key at a place of a path; None where an index is there, or nothing.
-fn key_at(path: &Path, number: usize) -> Option<&str>
-    ensures { option_map (λ text. text.now) result ≡ key_in (slice_get path.now number) }
-{
-    match path.step(number) {
-        Some(Step::Key(text)) => Some(text.as_str()),
-        Some(Step::Index(_)) => None,
-        None => None,
-    }
 }

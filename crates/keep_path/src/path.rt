@@ -123,6 +123,15 @@ impl Path {
         self.steps.get(number)
     }
 
+    /// The steps, from the first to the last. It takes no memory.
+    pub fn into_steps(self) -> Vec<Step>
+        ensures steps { map part_of result.items ≡ self }
+        ensures rooted { IsRooted self }
+    {
+        let Path { steps, .. } = self;
+        steps
+    }
+
     /// The path's text. Where no index is above 999,999,999, it reads back as the path. The only error is out of
     /// memory.
     pub fn encode(&self, alloc: Global) -> Result<String, AllocError>
