@@ -14,7 +14,7 @@
 -- Theorems: `script_stated`: the text is a script with these edits, or the fault says why it is none; `stops`: the
 -- fault is that of the first element that states no edit; `strict_script`: the values of a script for Strict.
 use Rattle.std.proofs.Common.{◌≡◌, ◌+◌, ◌∙◌, ◌⊎◌, ℕ, suc, List, [], ◌∷◌, ◌++◌, length, Option, None, Some, ◌<◌, codes}
-use Rattle.std.proofs.Common.{string_bytes, refl, sym, ap, ap₂, false, zero, subst, inl, inr, arith, Vec, Global}
+use Rattle.std.proofs.Common.{refl, sym, ap, ap₂, false, zero, subst, inl, inr, arith, Vec, Global}
 use Rattle.std.specs.Option.{option_and_then}
 use Rattle.std.specs.Prelude.{Result, Ok, Err, IfOk, IsErrAnd, MatchResult}
 use Rattle.std.proofs.Math.Nat.{add-zero}
@@ -33,6 +33,7 @@ use Rattle.keep_edit.specs.declared.nodes.NodeRef.{NodeRef}
 use Rattle.keep_edit.proofs.Shared.{no_string_there}
 use Rattle.keep_args.specs.Wanted.{op_named}
 use Rattle.keep_edit.specs.Reading.{ProfiledText, IsAccepted, IsTextOfTree, text_in}
+use Rattle.keep_edit.specs.StrTexts.{text_of_str}
 use Rattle.keep_cli.specs.declared.fault.UseFault.{UseFault}
 use Rattle.keep_cli.specs.declared.fault.UseFault.TheVariants as fault
 use Rattle.keep_args.specs.declared.subcommand.Op.{Op}
@@ -168,7 +169,7 @@ two_texts s n second None none = no
 one_text : (s : Document) (n : ℕ) (first : Word) (found : Option Texts) → word_key first ≡ codes "path"
     → AreTexts s n None found → AreTextsOf s n (first ∷ []) found
 one_text s n first (Some texts) at (many, path) =
-    (many, (subst (λ (k : List ℕ). given s n k ≡ Some (string_bytes texts.path)) (sym at) path, tt))
+    (many, (subst (λ (k : List ℕ). given s n k ≡ Some (text_of_str texts.path)) (sym at) path, tt))
 one_text s n first None at none = no
   where
     no : (words : List (List ℕ)) → HasWords s n (first ∷ []) words → ⊥

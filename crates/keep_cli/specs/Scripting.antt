@@ -1,10 +1,11 @@
 -- What the reading of a script finds, step by step.
 use Rattle.std.specs.Prelude.{◌≡◌, ℕ, List, [], ◌∷◌, codes, length, take, Option, Some, None}
-use Rattle.std.specs.Prelude.{option_map, slice_get, string_bytes}
+use Rattle.std.specs.Prelude.{option_map, slice_get}
 use Rattle.keep_types.specs.declared.leaf.Profile.{Profile}
 use Rattle.keep_syntax.specs.Tree.{Document}
 use Rattle.keep_edit.specs.Children.{child_count_of}
 use Rattle.keep_edit.specs.NodeRefs.{IsNodeAt}
+use Rattle.keep_edit.specs.StrTexts.{text_of_str}
 use Rattle.keep_edit.specs.declared.nodes.NodeRef.{NodeRef}
 use Rattle.keep_edit_plan.specs.declared.edit.Edit.{Edit}
 use Rattle.keep_args.specs.declared.subcommand.Op.{Op}
@@ -37,13 +38,13 @@ HasKeys s n (Some name) path third =
     × (given s n name ≡ Some third)
 
 abbrev pub AreTexts : Document → ℕ → Option (List ℕ) → Option Texts → Type 0
-AreTexts s n third (Some texts) = HasKeys s n third (string_bytes texts.path) (string_bytes texts.third)
+AreTexts s n third (Some texts) = HasKeys s n third (text_of_str texts.path) (text_of_str texts.third)
 AreTexts s n third None = (path third_text : List ℕ) → HasKeys s n third path third_text → ⊥
 
 -- the texts of an element that has such words
 abbrev pub AreTextsOf : Document → ℕ → List Word → Option Texts → Type 0
 AreTextsOf s n kinds (Some texts) =
-    HasWords s n kinds (take (length kinds) (string_bytes texts.path ∷ string_bytes texts.third ∷ []))
+    HasWords s n kinds (take (length kinds) (text_of_str texts.path ∷ text_of_str texts.third ∷ []))
 AreTextsOf s n kinds None = (words : List (List ℕ)) → HasWords s n kinds words → ⊥
 
 -- the fault is that of the element, by this reason

@@ -1,9 +1,10 @@
 //! Scripts: lists of edits as a document.
-ghost use Rattle.std.specs.Prelude.{◌≡◌, ◌⊎◌, [], ℕ, IfOk, IfSome, MatchResult, option_map, string_bytes};
+ghost use Rattle.std.specs.Prelude.{◌≡◌, ◌⊎◌, [], ℕ, IfOk, IfSome, MatchResult, option_map};
 ghost use Rattle.keep_syntax.specs.Tree as tree;
 ghost use Rattle.keep_edit.specs.Children.{child_count_of};
 ghost use Rattle.keep_edit.specs.NodeRefs.{IsNodeAt};
 ghost use Rattle.keep_edit.specs.Reading.{IsTextOfTree};
+ghost use Rattle.keep_edit.specs.StrTexts.{text_of_str};
 ghost use Rattle.keep_args.specs.Table.{edit_words};
 ghost use Rattle.keep_cli.specs.EditWords.{words_for, Makes};
 ghost use Rattle.keep_cli.specs.Script as spec;
@@ -14,14 +15,14 @@ ghost use Rattle.keep_cli.specs.Scripting.{AreTexts, AreTextsOf, IsElement, IsFa
 use crate::edit::{WordFault, edit_of};
 use crate::fault::{EntryWhy, UseFault};
 use keep_args::{Op, Word, edit_named};
-use keep_edit::{Document, Edit, Kind, NodeRef, Path, Profile, ReadFault};
+use keep_edit::{Document, Edit, Kind, NodeRef, Path, Profile, ReadFault, StrText};
 use std::alloc::{AllocError, Global};
 
 // The texts of an element beside its op's. The third is empty where the op asks for none.
 #[derive(Drop)]
-struct Texts {
-    path: String,
-    third: String,
+struct Texts<'d> {
+    path: StrText<'d>,
+    third: StrText<'d>,
 }
 
 /// The edits of a script, whose values are read in a profile. It is a document whose only top-level key is `edit`, an
@@ -128,7 +129,7 @@ fn op_of(alloc: Global, element: &NodeRef) -> Result<Option<(Op, &'static [Word]
         → IfOk result (λ found. option_map (λ edit. edit.0) found ≡ spec.op_of s n) }
     ensures words { IfOk result (λ found. IfSome found (λ edit. edit.1.now ≡ edit_words edit.0)) }
 {
-    match element.str_value(alloc, "op")? {
+    match element.str_text(alloc, "op")? {
         Some(name) => Ok(edit_named(name.as_str())),
         None => Ok(None),
     }
@@ -153,12 +154,12 @@ fn third_key(words: &[Word]) -> Option<&'static str>
 }
 
 // The words of an element as its op takes them; None where its keys are not those of its op, or no strings.
-fn texts_of(
+fn texts_of<'d>(
     alloc: Global,
-    element: &NodeRef,
+    element: &NodeRef<'d>,
     op: Op,
     words: &[Word],
-) -> Result<Option<Texts>, AllocError>
+) -> Result<Option<Texts<'d>>, AllocError>
     requires { words.now ≡ edit_words op }
     ensures { (s : tree.Document) (n : ℕ) → IsElement s n element.now
         → IfOk result (AreTextsOf s n (edit_words op)) }
@@ -168,7 +169,11 @@ fn texts_of(
 
 // The texts at `path` and at the key of the second of such words, if there is one; None where these are not the keys
 // beside `op`, or no strings.
-fn texts_at(alloc: Global, element: &NodeRef, words: &[Word]) -> Result<Option<Texts>, AllocError>
+fn texts_at<'d>(
+    alloc: Global,
+    element: &NodeRef<'d>,
+    words: &[Word],
+) -> Result<Option<Texts<'d>>, AllocError>
     ensures { (s : tree.Document) (n : ℕ) → IsElement s n element.now
         → IfOk result (AreTexts s n (steps.third_key words.now)) }
 {
@@ -177,14 +182,14 @@ fn texts_at(alloc: Global, element: &NodeRef, words: &[Word]) -> Result<Option<T
     if element.child_count() != many {
         return Ok(None);
     }
-    let Some(path) = element.str_value(alloc, "path")? else {
+    let Some(path) = element.str_text(alloc, "path")? else {
         return Ok(None);
     };
     let Some(name) = third else {
-        let third = String::new(alloc);
+        let third = StrText::Plain("");
         return Ok(Some(Texts { path, third }));
     };
-    match element.str_value(alloc, name)? {
+    match element.str_text(alloc, name)? {
         Some(third) => Ok(Some(Texts { path, third })),
         None => Ok(None),
     }
@@ -199,9 +204,9 @@ fn edit_from(
     texts: &Texts,
 ) -> Result<Edit, UseFault>
     ensures { MatchResult result
-        (Makes profile op (words_for op (string_bytes texts.now.path) (string_bytes texts.now.third)))
+        (Makes profile op (words_for op (text_of_str texts.now.path) (text_of_str texts.now.third)))
         (λ fault. (fault ≡ UseFault.Memory) ⊎ IsTextsFault profile op index
-        (words_for op (string_bytes texts.now.path) (string_bytes texts.now.third)) fault) }
+        (words_for op (text_of_str texts.now.path) (text_of_str texts.now.third)) fault) }
 {
     match edit_of(
         alloc,

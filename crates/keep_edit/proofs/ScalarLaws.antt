@@ -8,7 +8,7 @@
 --
 -- Theorems: `integer_found`, `no_integer_found`, `no_integer_leaf`; `string_found`, `no_string_found`,
 -- `no_string_leaf`.
-use Rattle.std.proofs.Common.{◌≡◌, ℕ, ℤ, Bool, true, false, ◌||◌, List, [], ◌∷◌, refl, sym, ap, ◌∙◌, subst, Option}
+use Rattle.std.proofs.Common.{◌≡◌, ℕ, ℤ, Bool, true, false, List, [], ◌∷◌, refl, sym, ap, ◌∙◌, subst, Option}
 use Rattle.std.proofs.Common.{Some, None, Result, Ok, Err, ◌⊎◌, inl, inr}
 use Rattle.std.specs.Prelude.{◌↔◌, IsTrue, IsSome, IfSome, slice_get}
 use Rattle.std.specs.List.{list_any, filter_map}
@@ -19,7 +19,7 @@ use Rattle.keep_types.specs.declared.leaf.Leaf.{Leaf}
 use Rattle.keep_types.specs.declared.leaf.Leaf.TheVariants as leaf
 use Rattle.keep_types.specs.declared.leaf.Profile.{Profile}
 use Rattle.keep_types.specs.declared.leaf.Profile.TheVariants.{Strict, Wide}
-use Rattle.keep_token.specs.Leaves.{IsLeaf, Means, is_scalar_leaf, is_one_line, is_many_lines}
+use Rattle.keep_token.specs.Leaves.{IsLeaf, is_scalar_leaf, is_string_leaf}
 use Rattle.keep_token.specs.Numbers.{Integer, integer_value}
 use Rattle.keep_token.proofs.Shared.{leaf_wider}
 use Rattle.keep_types.specs.declared.syntax.ValueInfo.{ValueInfo}
@@ -32,11 +32,10 @@ use Rattle.keep_meaning.specs.Fact as fact
 use Rattle.keep_meaning.specs.Fact.{Fact, is_value_fact}
 use Rattle.keep_meaning.specs.KeyText.{text_at}
 use Rattle.keep_meaning.specs.Marks.{Mention, fact_of}
-use Rattle.keep_meaning.specs.Meaning.{mentions_in}
+use Rattle.keep_meaning.specs.Meaning.{mentions_in, string_value}
 use Rattle.keep_meaning.specs.Nodes.{is_at, is_node, kinds_at, fact_at, first_of}
 use Rattle.keep_path.specs.Path.{Part}
 use Rattle.keep_path.specs.NodeInfos.{NodeInfos}
-use Rattle.keep_meaning.proofs.Shared.{means_value}
 use Rattle.keep_edit_spec.specs.declared.fault.EditFault.{EditFault}
 use Rattle.keep_edit_spec.specs.declared.fault.EditFault.TheVariants.{NotFound, NotValue}
 use Rattle.keep_edit_spec.specs.Refusals.{has_value}
@@ -44,6 +43,7 @@ use Rattle.keep_edit_spec.proofs.Shared.{integer_at_leaf, leaf_of_integer, strin
 use Rattle.keep_edit_spec.proofs.Shared.{IsValueOf}
 use Rattle.keep_edit.specs.Answers.{integer_of, int_value_of, str_value_of, HasNoValue, IsFound}
 use Rattle.keep_edit.specs.Reading.{ProfiledText, IsTextOfTree, Holds}
+use Rattle.keep_edit.specs.StrTexts.{is_quoted}
 use Rattle.keep_edit_plan.proofs.Shared.{value_there}
 
 -- ---- the leaf that a scalar is
@@ -178,9 +178,6 @@ pub no_string_found : (path : List Part) (s : Document) (f : EditFault) → IsFo
     → None ≡ str_value_of path s
 no_string_found path s f h = sym (no_string path (mentions_in s) (no_value path s f h))
 
-abbrev pub is_quoted : Leaf → Bool
-is_quoted l = is_one_line l || is_many_lines l
-
 quoted_scalar : (l : Leaf) → IsTrue (is_quoted l) → IsTrue (is_scalar_leaf l)
 quoted_scalar leaf.Basic is = refl
 quoted_scalar leaf.Literal is = refl
@@ -188,12 +185,19 @@ quoted_scalar leaf.MlBasic is = refl
 quoted_scalar leaf.MlLiteral is = refl
 quoted_scalar _ is = absurd (false≢true is)
 
-quoted_means : (l : Leaf) (t value : List ℕ) → IsTrue (is_quoted l) → Means Wide l t value
+pub quoted_string : (l : Leaf) → IsTrue (is_quoted l) → IsTrue (is_string_leaf l)
+quoted_string leaf.Basic is = refl
+quoted_string leaf.Literal is = refl
+quoted_string leaf.MlBasic is = refl
+quoted_string leaf.MlLiteral is = refl
+quoted_string _ is = absurd (false≢true is)
+
+quoted_means : (l : Leaf) (t value : List ℕ) → IsTrue (is_quoted l) → value ≡ string_value l t
     → Some value ≡ string_of_leaf l t
-quoted_means leaf.Basic t value is h = ap Some (means_value leaf.Basic t value refl h)
-quoted_means leaf.Literal t value is h = ap Some (means_value leaf.Literal t value refl h)
-quoted_means leaf.MlBasic t value is h = ap Some (means_value leaf.MlBasic t value refl h)
-quoted_means leaf.MlLiteral t value is h = ap Some (means_value leaf.MlLiteral t value refl h)
+quoted_means leaf.Basic t value is h = ap Some h
+quoted_means leaf.Literal t value is h = ap Some h
+quoted_means leaf.MlBasic t value is h = ap Some h
+quoted_means leaf.MlLiteral t value is h = ap Some h
 quoted_means _ t value is h = absurd (false≢true is)
 
 pub quoted_leaf : (l : Leaf) → (l ≡ leaf.Basic) ⊎ ((l ≡ leaf.Literal) ⊎ ((l ≡ leaf.MlBasic) ⊎ (l ≡ leaf.MlLiteral)))
@@ -232,10 +236,9 @@ string_readable d t path s number i h is here =
 
 pub string_found : (d : ProfiledText) (t : List ℕ) (path : List Part) (s : Document) (number : ℕ) (i : ValueInfo)
     (value : List ℕ) → IsValueAt d path s number i → IsTrue (is_quoted i.leaf) → t ≡ text_at d.text i.span
-    → Means Wide i.leaf t value
-    → Some value ≡ str_value_of path s
-string_found d t path s number i value h is here means =
-    quoted_means i.leaf t value is means ∙ ap (string_of_leaf i.leaf) here ∙ sym (string_here d path s number i h)
+    → value ≡ string_value i.leaf t → Some value ≡ str_value_of path s
+string_found d t path s number i value h is here meant =
+    quoted_means i.leaf t value is meant ∙ ap (string_of_leaf i.leaf) here ∙ sym (string_here d path s number i h)
 
 pub no_string_leaf : (d : ProfiledText) (path : List Part) (s : Document) (number : ℕ) (i : ValueInfo)
     → IsValueAt d path s number i

@@ -6,3 +6,4 @@ pub mod Lists
 pub mod Headers
 pub mod Children
 pub mod NodeRefs
+pub mod StrTexts

@@ -10,11 +10,12 @@ ghost use Rattle.keep_edit.specs.Reading.{IsAccepted, IsRefused, IsSyntaxIn, IsT
 
 mod entries;
 
+use crate::str_text::{StrText, str_text};
 use keep_edit_plan::{DocumentRef, part_at};
 use keep_edit_spec::EditFault;
 use keep_rules::{Index, Kind, NodeId, Path};
 use keep_syntax::{Limits, ReadFault, STANDARD_DEPTH, Syntax, Tokens};
-use keep_token::{Leaf, Profile, decode_string, integer_of, text_of};
+use keep_token::{Leaf, Profile, integer_of, text_of};
 use std::alloc::{AllocError, Global};
 use std::marker::Model;
 
@@ -240,6 +241,7 @@ impl Document {
     ghost use Rattle.keep_path.specs.Path.{Part};
     ghost use Rattle.keep_edit.specs.Answers.{kind_of, int_value_of, str_value_of, entries_of, IsFound};
     ghost use Rattle.keep_edit_spec.specs.Answers as answers;
+    ghost use Rattle.keep_edit.specs.StrTexts.{text_of_str};
 
     /// What is at a path; None where it names no node.
     pub fn kind(&self, path: &Path) -> Option<Kind>
@@ -287,18 +289,21 @@ impl Document {
             → IfOk result (λ found. option_map string_bytes found ≡ str_value_of path.now s) }
         ensures accepted { IsAccepted self.now }
     {
-        self.string_found(alloc, self.as_ref().value_number(path))
+        match self.text_found(alloc, self.as_ref().value_number(path))? {
+            Some(text) => Ok(Some(text.into_string(alloc)?)),
+            None => Ok(None),
+        }
     }
 
     // What the string means whose number was looked for at a path; None where another value was found, or none.
-    pub(crate) fn string_found(
+    pub(crate) fn text_found(
         &self,
         alloc: Global,
         found: Result<usize, EditFault>,
-    ) -> Result<Option<String>, AllocError>
+    ) -> Result<Option<StrText<'_>>, AllocError>
         requires { (path : List Part) × ((s : tree.Document) → IsTextOfTree self.now s → IsFound path s found) }
         ensures string { (path : List Part) (s : tree.Document) → IsTextOfTree self.now s → IsFound path s found
-            → IfOk result (λ value. option_map string_bytes value ≡ str_value_of path s) }
+            → IfOk result (λ text. option_map text_of_str text ≡ str_value_of path s) }
         ensures accepted { IsAccepted self.now }
     {
         let text = self.text.as_str();
@@ -308,7 +313,7 @@ impl Document {
         let value = self.syntax.value(number);
         match value.leaf {
             Leaf::Basic | Leaf::Literal | Leaf::MlBasic | Leaf::MlLiteral => {
-                Ok(Some(decode_string(alloc, value.leaf, part_at(text, value.span))?))
+                Ok(Some(str_text(alloc, value.leaf, part_at(text, value.span))?))
             }
             _ => Ok(None),
         }

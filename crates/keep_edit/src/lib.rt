@@ -51,6 +51,7 @@ mod lists;
 mod nodes;
 mod patch;
 mod planned;
+mod str_text;
 
 pub use document::{Counts, Document, Entry};
 pub use keep_edit_plan::{Edit, TextEdit, TextEdits};
@@ -60,3 +61,4 @@ pub use keep_syntax::{ReadFault, Span, Token, Tokens};
 pub use keep_token::Profile;
 pub use lists::LastEdits;
 pub use nodes::NodeRef;
+pub use str_text::StrText;

@@ -1,5 +1,5 @@
 //! Nodes of a document, found once, of which several things can be asked.
-ghost use Rattle.std.specs.Prelude.{◌≡◌, [], ◌∷◌, ◌++◌, IfOk, List, Some, option_map, string_bytes};
+ghost use Rattle.std.specs.Prelude.{◌≡◌, [], ◌∷◌, ◌++◌, IfOk, List, Some, option_map};
 ghost use Rattle.keep_syntax.specs.Tree as tree;
 ghost use Rattle.keep_path.specs.Path.{Part, key};
 ghost use Rattle.keep_edit_plan.specs.Plans.{IsNodeOf};
@@ -7,8 +7,10 @@ ghost use Rattle.keep_edit.specs.Answers.{str_value_of};
 ghost use Rattle.keep_edit.specs.Children.{child_count_of};
 ghost use Rattle.keep_edit.specs.NodeRefs.{FindsItem, FindsItemNumber, FindsNode, IsNodeAt};
 ghost use Rattle.keep_edit.specs.Reading.{IsTextOfTree};
+ghost use Rattle.keep_edit.specs.StrTexts.{text_of_str};
 
 use crate::document::Document;
+use crate::str_text::StrText;
 use keep_rules::{NodeId, Path, Step};
 use std::alloc::{AllocError, Global};
 
@@ -52,20 +54,20 @@ impl Document {
         }
     }
 
-    // What the string at a key of a node means, as `NodeRef::str_value` gives it.
-    fn string_below(
+    // What the string at a key of a node means, as `NodeRef::str_text` gives it.
+    fn text_below(
         &self,
         alloc: Global,
         node: NodeId,
         text: &str,
-    ) -> Result<Option<String>, AllocError>
+    ) -> Result<Option<StrText<'_>>, AllocError>
         ensures { (s : tree.Document) (path : List Part) → IsTextOfTree self.now s → IsNodeOf path s node
-            → IfOk result (λ found. option_map string_bytes found ≡ str_value_of (path ++ key text.now ∷ []) s) }
+            → IfOk result (λ found. option_map text_of_str found ≡ str_value_of (path ++ key text.now ∷ []) s) }
     {
         let Some(id) = self.index.node_at(node.0) else {
             return Ok(None);
         };
-        self.string_found(alloc, self.as_ref().value_number_below(id, text))
+        self.text_found(alloc, self.as_ref().value_number_below(id, text))
     }
 }
 
@@ -90,12 +92,12 @@ impl<'d> NodeRef<'d> {
         self.document.count_below(self.node)
     }
 
-    /// What the string at a key of this node, decoded, means; None where something else is there, or nothing. The only
-    /// error is out of memory.
-    pub fn str_value(&self, alloc: Global, text: &str) -> Result<Option<String>, AllocError>
+    /// What the string at a key of this node, decoded, means; None where something else is there, or nothing. It takes
+    /// memory only for a string with escapes or of several lines, and running out of it is the only error.
+    pub fn str_text(&self, alloc: Global, text: &str) -> Result<Option<StrText<'d>>, AllocError>
         ensures { (s : tree.Document) (path : List Part) → IsNodeAt s path self.now
-            → IfOk result (λ found. option_map string_bytes found ≡ str_value_of (path ++ key text.now ∷ []) s) }
+            → IfOk result (λ found. option_map text_of_str found ≡ str_value_of (path ++ key text.now ∷ []) s) }
     {
-        self.document.string_below(alloc, self.node, text)
+        self.document.text_below(alloc, self.node, text)
     }
 }

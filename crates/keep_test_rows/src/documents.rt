@@ -112,8 +112,16 @@ fn in_item(alloc: Global, document: &Document, row: &Row) -> Answer {
         Some(item) if row.question() == "keys of item" => {
             format!(in alloc; "{}", item.child_count())
         }
-        Some(item) => marked(alloc, item.str_value(alloc, row.text(3))?),
+        Some(item) => marked(alloc, string_below(alloc, item, row.text(3))?),
         None => String::from_str(alloc, "no item"),
+    }
+}
+
+// The string at a key of a node.
+fn string_below(alloc: Global, node: NodeRef, key: &str) -> Result<Option<String>, AllocError> {
+    match node.str_text(alloc, key)? {
+        Some(text) => Ok(Some(text.into_string(alloc)?)),
+        None => Ok(None),
     }
 }
 
