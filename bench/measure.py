@@ -14,7 +14,7 @@ import subprocess
 import sys
 from concurrent.futures import ThreadPoolExecutor
 
-from documents import SHAPES, document
+from documents import document
 from lists import script
 
 HERE = os.path.dirname(os.path.abspath(__file__))
@@ -22,7 +22,45 @@ OURS = os.path.join(HERE, "..", "dist", "keep-toml")
 THEIRS = os.path.join(HERE, "toml_edit", "target", "release", "toml_edit_bench")
 SIZES = {"10 KB": 10_000, "100 KB": 100_000, "1 MB": 1_000_000}
 COUNTS = [1, 10, 100, 1000]
-KINDS = "set set_list rename remove insert insert_one table element random".split()
+KINDS = {
+    "set": "`set` of a scalar",
+    "set_list": "`set` of a list",
+    "rename": "`rename`",
+    "remove": "`remove`",
+    "insert": "`insert` into any table",
+    "insert_one": "`insert` into one table",
+    "table": "`table`",
+    "element": "`element`",
+    "random": "all six at random",
+}
+IN_PAIRS = {
+    "insert_remove": ("mix", "`insert`, then `remove`"),
+    "remove_insert": ("dense", "`remove`, then `insert`"),
+    "insert_rename": ("mix", "`insert`, then `rename`"),
+}
+SHAPES = {
+    "mix": "mix",
+    "lock": "lock file",
+    "flat": "root keys",
+    "array": "one array",
+    "elements": "arrays of tables",
+    "comments": "comments",
+    "dotted": "dotted keys",
+    "strings": "long strings",
+    "subtables": "many tables",
+}
+# what 200 KB of are read, between these
+SHORT = {
+    "empty": ("", "\n", ""),
+    "`#`": ("", "#\n", ""),
+    "a blank": ("", " \n", ""),
+    "three blanks": ("", "   \n", ""),
+    "`true,`": ("a = [", "true,", "]\n"),
+    "`[],`": ("a = [", "[],", "]\n"),
+    "one line of blanks": ("", " ", "\n"),
+    "newlines in one `'''`": ("a = '''", "\n", "'''\n"),
+    "one float": ("a = 1.", "1", "\n"),
+}
 TUNABLE = "glibc.cpu.x86_rep_movsb_threshold=1000000000"
 
 
@@ -83,15 +121,11 @@ def head(cells):
     print("\n| %s |\n|%s" % (" | ".join(cells), "---|" * len(cells)))
 
 
-def lines_of(text, size=200_000):
-    return (text * (size // len(text))).encode()
-
-
 def table(counter, pool, heads, rows):
     """Prints a table: of each row its name, and the words and the document of each cell."""
     head(heads)
     for name, cells in rows:
-        row(name, list(pool.map(lambda cell: counter.both(*cell) if cell else "", cells)))
+        row(name, pool.map(lambda cell: counter.both(*cell), cells))
         counter.keep()
 
 
@@ -100,12 +134,32 @@ def of_shape(shape):
     return [(["check"], text), (["get", "first"], text), (["set", "first", "2"], text)]
 
 
-def of_lists(shape, kind, counts, seed=1):
-    cells = []
-    for size in SIZES.values():
-        text = document(shape, size).encode()
-        cells.append([(["apply", script(text, kind, count, seed)], text) for count in counts])
-    return cells
+def of_short(before, part, after):
+    return [(["check"], (before + part * (200_000 // len(part)) + after).encode())]
+
+
+def of_list(shape, size, kind, count, seed=1):
+    text = document(shape, size).encode()
+    return ["apply", script(text, kind, count, seed)], text
+
+
+def of_kind(kind, size):
+    """Of tables of short keys where the mix has fewer of them than are renamed or removed."""
+    shape = "dense" if kind in ("rename", "remove") and size == SIZES["10 KB"] else "mix"
+    return [of_list(shape, size, kind, count) for count in COUNTS]
+
+
+def at_random():
+    """The rows of lists at random: of some shapes, and two lists more of the mix."""
+    lists = [(SHAPES[shape], shape, 1) for shape in ("lock", "flat", "elements", "subtables", "dotted")]
+    lists += [("mix, list %d" % seed, "mix", seed) for seed in (2, 3)]
+    for name, shape, seed in lists:
+        yield name, [of_list(shape, size, "random", 1000, seed) for size in SIZES.values()]
+
+
+def in_pairs():
+    for kind, (shape, name) in IN_PAIRS.items():
+        yield name, [of_list(shape, SIZES[size], kind, count) for size in ("10 KB", "100 KB") for count in (100, 1000)]
 
 
 def main():
@@ -114,34 +168,14 @@ def main():
     os.makedirs(sys.argv[1], exist_ok=True)
     counter = Counter(sys.argv[1])
     with ThreadPoolExecutor(int(os.environ.get("JOBS", "2"))) as pool:
-        shapes = [shape for shape in SHAPES if shape != "dense"]
-        table(counter, pool, ["1 MB", "check", "get", "set"], [(shape, of_shape(shape)) for shape in shapes])
-        lines = {"empty": "\n", "`#`": "#\n", "a blank": " \n", "three blanks": "   \n"}
-        lines.update({"`true,`": "true,", "`[],`": "[],"})
-        rows = []
-        for name, text in lines.items():
-            array = text.endswith(",")
-            whole = b"a = [" + lines_of(text) + b"]\n" if array else lines_of(text)
-            rows.append((name, [(["check"], whole)]))
-        rows.append(("one line of blanks", [(["check"], b" " * 200_000 + b"\n")]))
-        rows.append(("newlines in one `'''`", [(["check"], b"a = '''" + b"\n" * 200_000 + b"'''\n")]))
-        rows.append(("one float", [(["check"], b"a = 1." + b"1" * 200_000 + b"\n")]))
-        table(counter, pool, ["200 KB", "check"], rows)
-        for place, size in enumerate(SIZES):
-            heads = [size] + ["%d" % count for count in COUNTS]
-            rows = []
-            for kind in KINDS:
-                shape = "dense" if kind in ("rename", "remove") and place == 0 else "mix"
-                rows.append((kind, of_lists(shape, kind, COUNTS)[place]))
-            table(counter, pool, heads, rows)
-        many = [(shape, of_lists(shape, "random", [1000])) for shape in "lock flat elements subtables dotted".split()]
-        many += [("mix, list %d" % seed, of_lists("mix", "random", [1000], seed)) for seed in (2, 3)]
-        rows = [(name, [cells[0] for cells in of_sizes]) for name, of_sizes in many]
-        table(counter, pool, ["1,000 at random", *SIZES], rows)
-        rows = []
-        for kind, shape in (("insert_remove", "mix"), ("remove_insert", "dense"), ("insert_rename", "mix")):
-            rows.append((kind, [cell for cells in of_lists(shape, kind, [100, 1000])[:2] for cell in cells]))
-        table(counter, pool, ["in pairs", "10 KB: 100", "1,000", "100 KB: 100", "1,000"], rows)
+        shapes = [(name, of_shape(shape)) for shape, name in SHAPES.items()]
+        table(counter, pool, ["1 MB", "check", "get", "set"], shapes)
+        table(counter, pool, ["200 KB", "check"], [(name, of_short(*parts)) for name, parts in SHORT.items()])
+        for size, bytes_ in SIZES.items():
+            rows = ((name, of_kind(kind, bytes_)) for kind, name in KINDS.items())
+            table(counter, pool, [size, *map(str, COUNTS)], rows)
+        table(counter, pool, ["1,000 at random", *SIZES], at_random())
+        table(counter, pool, ["in pairs", "10 KB: 100", "1,000", "100 KB: 100", "1,000"], in_pairs())
 
 
 if __name__ == "__main__":
