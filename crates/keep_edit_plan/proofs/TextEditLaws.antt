@@ -10,8 +10,8 @@
 -- `one_written`: what is written before the first edit and with one more; `takes_it`: an edit that replaces the byte
 -- before a place; `others_take_not`, `none_takes`, `one_alone`, `alone_takes`, `all_if_alone`: only one does;
 -- `all_further`, `all_changes`, `all_of_one`, `change_at_edit`: what holds of each edit; `has_change`: the change of
--- one; `put_ahead`, `follow_ahead`: one more ahead of others; `set_in_place`, `set_instead`, `follow_replaced`,
--- `both_same`: one in the place of another.
+-- one; `put_ahead`, `follow_ahead`: one more ahead of others; `put_before`, `follow_put_before`: right before one;
+-- `set_in_place`, `set_instead`, `follow_replaced`, `both_same`: one in the place of another.
 use Rattle.std.proofs.Common.{◌≡◌, ℕ, zero, suc, ◌+◌, ◌-◌, ◌<◌, ◌≤◌, true, false, List, [], ◌∷◌, ◌++◌, length}
 use Rattle.std.proofs.Common.{get_or, take, drop, insert, set, map, slice_range, string_bytes, All, leb}
 use Rattle.std.proofs.Common.{IsUtf8, IsCharBoundary, refl, sym, ap, ◌∙◌, subst, append_assoc, drop-cons, add-one}
@@ -29,6 +29,7 @@ use Rattle.std.proofs.lemmas.List.Sorted.{IsNonDecreasingBy-from_all_adjacent}
 use Rattle.std.proofs.lemmas.Str.{IsCharBoundary-start}
 use Rattle.std.proofs.Math.Seq.{take-length}
 use Rattle.std.specs.List.Sorted.{IsNonDecreasingBy, IsPartitionPoint}
+use Rattle.keep_edit_spec.specs.LinesInPlace.{IsPutBefore}
 use Rattle.keep_edit_spec.specs.Runs.{takes_up_to}
 use Rattle.keep_edit_spec.specs.TextChanges.{Follow, IsBeside, TextChange, text_with, with_change}
 use Rattle.keep_edit_plan.specs.declared.text_edit.TextEdit.{TextEdit}
@@ -303,6 +304,48 @@ module _ (m : TextEdit) (ts : List TextEdit) (place : ℕ) (p : IsPlaceOf m ts p
       subst (Follow 0) (sym (with_it ∙ ap (λ (cs : List TextChange). before ++ change_of m ∷ cs) one_on))
       (follow_before 0 before later (change_of m) one start (omega (arith, none))
       (subst (Follow 0) (all_is ∙ ap (λ (cs : List TextChange). before ++ cs) one_on) h))
+
+-- ---- right before one that takes bytes
+
+module _ (m : TextEdit) (ts : List TextEdit) (i : ℕ) (within : i < length ts) (none : m.place.start ≡ m.place.end)
+    (start : start_of (get_or ts i m) ≡ m.place.start) (some : m.place.start < (get_or ts i m).place.end) where
+  abbrev taker : TextChange
+  taker = change_of (get_or ts i m)
+
+  abbrev earlier : List TextChange
+  earlier = map change_of (take i ts)
+
+  abbrev later : List TextChange
+  later = map change_of (drop (suc i) ts)
+
+  rest_from : map change_of (drop i ts) ≡ taker ∷ later
+  rest_from = ap (map change_of) (drop-cons ts i m within)
+
+  were : map change_of ts ≡ earlier ++ taker ∷ later
+  were =
+      ap (map change_of) (sym (take-append-drop i ts)) ∙ map-append change_of (take i ts) (drop i ts)
+      ∙ ap (λ (cs : List TextChange). earlier ++ cs) rest_from
+
+  are : map change_of (insert ts i m) ≡ earlier ++ change_of m ∷ taker ∷ later
+  are =
+      map-append change_of (take i ts) (m ∷ drop i ts)
+      ∙ ap (λ (cs : List TextChange). earlier ++ change_of m ∷ cs) rest_from
+
+  pub put_before : IsPutBefore (map change_of ts) (change_of m) (map change_of (insert ts i m))
+  put_before = record {
+    before = earlier;
+    next = taker;
+    after = later;
+    was = were;
+    at = start;
+    some = omega (arith, start, some);
+    is = are;
+  }
+
+  pub follow_put_before : Follow 0 (map change_of ts) → Follow 0 (map change_of (insert ts i m))
+  follow_put_before h =
+      subst (Follow 0) (sym are)
+      (follow_before 0 earlier later (change_of m) taker start (omega (arith, none)) (subst (Follow 0) were h))
 
 -- ---- the text, edit by edit
 

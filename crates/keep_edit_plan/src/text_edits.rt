@@ -3,6 +3,7 @@ ghost use Rattle.std.specs.Prelude.{◌≡◌, ◌<◌, ◌≤◌, [], All, IfOk
 ghost use Rattle.std.specs.Prelude.{if◌then◌else◌, length, map, slice_get, string_bytes};
 ghost use Rattle.std.specs.Bool.{Decides};
 ghost use Rattle.std.specs.List.{list_any};
+ghost use Rattle.keep_edit_spec.specs.LinesInPlace.{IsPutBefore};
 ghost use Rattle.keep_edit_spec.specs.Runs.{LeavesPlace, LetsCome, takes_up_to};
 ghost use Rattle.keep_edit_spec.specs.TextChanges.{IsBeside, text_with, with_change};
 ghost use Rattle.keep_edit_plan.specs.SaidSpans.{Leaves};
@@ -124,6 +125,34 @@ impl TextEdits {
             return Ok(false);
         }
         match self.edits.insert(first, edit) {
+            Ok(()) => Ok(true),
+            Err(_) => Err(AllocError),
+        }
+    }
+
+    /// Puts an edit that takes nothing before the one that takes bytes from its place on. Returns whether there is one;
+    /// if not, nothing has changed.
+    ///
+    /// # Errors
+    ///
+    /// Out of memory. Then nothing has changed.
+    pub fn add_before(&mut self, edit: TextEdit) -> Result<bool, AllocError>
+        ensures put { IfOk result (λ done. IsTrue done → IsPutBefore self.old (change_of edit) self.new) }
+        ensures other { IfOk result (λ done. done ≡ false → self.new ≡ self.old) }
+        ensures refused { OnErr result (self.new ≡ self.old) }
+    {
+        let Span { start, end } = edit.place;
+        let after = self
+            .edits
+            .partition_point(|there| there.place.start <= start);
+        if start != end || after == 0 {
+            return Ok(false);
+        }
+        let next = self.edits[after - 1].place;
+        if next.start != start || next.end <= start {
+            return Ok(false);
+        }
+        match self.edits.insert(after - 1, edit) {
             Ok(()) => Ok(true),
             Err(_) => Err(AllocError),
         }

@@ -1,55 +1,50 @@
--- Edits of a list that are made at once, and one more that adds a line in the place of what one of them takes.
+-- Edits of a list that are made at once, and one more that adds a line in the place of what one of them takes, or right
+-- before what one takes.
 --
--- By the law of such lines the insert is not refused after the edits, and makes the document that they make where it
--- comes before the remove that takes the place, after all others. So the edits up to it are made, and the text is that
--- with its change, behind all others where it begins. What is known of the edits is known of them in that order, too.
+-- What each of these needs is known, so by the law of such lines the edits with it are made at once, where that one
+-- comes after it (BeforeSteps). A line that comes before what is taken does not come at the end of the text.
 --
--- Theorems: `more_in_place`; `made_there`: the insert adds its line in the document after the edits.
-use Rattle.std.proofs.Common.{◌≡◌, ◌<◌, ◌∷◌, ◌++◌, [], ℕ, suc, List, take, length, get_or, refl, sym}
-use Rattle.std.proofs.Common.{ap, subst, ◌∙◌, All, IsUtf8, arith, inl, inr, None, Some, true}
-use Rattle.std.specs.Prelude.{Any, Bool, IsTrue}
-use Rattle.std.specs.List.{count_by}
-use Rattle.std.proofs.lemmas.List.Elements.{All-cons, All-weaker}
+-- Theorems: `more_in_place`, `more_before`; `line_in_place`, `line_before`: the insert adds its line in the document
+-- after the edits.
+use Rattle.std.proofs.Common.{◌≡◌, ◌<◌, ◌∷◌, ◌++◌, [], ℕ, suc, List, length, get_or, refl, sym}
+use Rattle.std.proofs.Common.{◌≢◌, ap, append_assoc, subst, subst₂, ◌∙◌, All, IsUtf8, arith, inl, inr, Option, Some}
+use Rattle.std.proofs.Common.{true}
+use Rattle.std.specs.Prelude.{◌⊎◌, IsTrue}
+use Rattle.std.specs.List.{list_any}
+use Rattle.std.proofs.lemmas.List.Elements.{All-cons, All-head, All-tail, All-weaker}
 use Rattle.std.proofs.lemmas.Str.{IsUtf8-string_bytes}
-use Rattle.keep_syntax.specs.Tree.{Document, Value, text}
+use Rattle.keep_syntax.specs.Tree.{Document, text}
 use Rattle.keep_path.specs.Path.{Part}
-use Rattle.keep_edit_spec.specs.AddedLines.{first_new}
 use Rattle.keep_edit_spec.specs.Changed.{put}
-use Rattle.keep_edit_spec.specs.InsertKinds.{Added, AddsAs, IsAfterLine, IsHeaderAt, added_as, kind_of}
+use Rattle.keep_edit_spec.specs.InsertKinds.{Added, IsAfterLine, added_as}
 use Rattle.keep_edit_spec.specs.declared.line_kind.LineKind.{LineKind}
-use Rattle.keep_edit_spec.specs.declared.line_kind.LineKind.TheVariants.{LastInBody, WithHeader}
+use Rattle.keep_edit_spec.specs.declared.line_kind.LineKind.TheVariants.{LastInBody, OfDotted}
 use Rattle.keep_edit_spec.specs.Edits as law
 use Rattle.keep_edit_spec.specs.Edits.{edited_document, place}
-use Rattle.keep_edit_spec.specs.Laws.{IsLawfulEdit}
-use Rattle.keep_edit_spec.specs.LinesAhead.{is_end_at, is_headed_at}
-use Rattle.keep_edit_spec.specs.LinesInPlace.{CanComeInPlace, FreesPlace, IsRunInPlace}
-use Rattle.keep_edit_spec.specs.Refusals.{refusal}
-use Rattle.keep_edit_spec.specs.RenameLists.{AllowsKey, IsRenameIn}
-use Rattle.keep_edit_spec.specs.RunLists.{IsSetIn, MadeEdit, changes_of, document_after, lines_of, made, seen_of}
+use Rattle.keep_edit_spec.specs.LinesInPlace.{CanComeInPlace, FreesPlace, IsPutBefore, IsRunBefore}
+use Rattle.keep_edit_spec.specs.RunLists.{changes_of, lines_of, seen_of}
 use Rattle.keep_edit_spec.specs.Runs as runs
-use Rattle.keep_edit_spec.specs.Runs.{ArePlain, IsBeforeHeaders, IsRun, LetsTable, MakesChange}
-use Rattle.keep_edit_spec.specs.TextChanges.{Follow, IsBeside, TextChange, moved_past, text_with, with_change}
-use Rattle.keep_edit_spec.proofs.Shared.{all_with, change_put, each_of_others, insert_lawful, kind_is, lines_apart}
-use Rattle.keep_edit_spec.proofs.Shared.{run_goes_on_in_place, run_is_known}
+use Rattle.keep_edit_spec.specs.Runs.{ArePlain, IsBeforeHeaders, KeepsPlace, LetsCome, LetsTable, takes_up_to}
+use Rattle.keep_edit_spec.specs.TextChanges.{IsBeside, TextChange, with_change}
+use Rattle.keep_edit_spec.proofs.Shared.{all_with}
+use Rattle.keep_edit_spec.proofs.Shared.{run_goes_on_before, run_goes_on_in_place}
 use Rattle.keep_edit_plan.proofs.Shared.{change_in, editable}
 use Rattle.keep_edit_plan.specs.TextEdits.{IsChangeIn, IsFreed, change_of}
 use Rattle.keep_edit_plan.specs.declared.edit.Edit.{Edit}
 use Rattle.keep_edit_plan.specs.declared.text_edit.TextEdit.{TextEdit}
-use Rattle.keep_edit_runs.specs.AddedLines.{IsCounted, IsHeaderKnown, IsKnownAt, brought_at, line_of, lines_by}
-use Rattle.keep_edit_runs.specs.Lists.{AreMade, IsEdit}
+use Rattle.keep_edit_runs.specs.AddedLines.{IsHeaderKnown, IsKnownAt, line_of}
+use Rattle.keep_edit_runs.specs.Lists.{IsEdit}
 use Rattle.keep_edit_plan.specs.Reading.{IsTextOfTree, ProfiledText, limit}
-use Rattle.keep_edit_runs.specs.Runs.{IsAddedBehind, IsKnownThen, IsLineKept, IsRenamedBy, IsRunTo, IsSetBy}
-use Rattle.keep_edit_runs.specs.Runs.{LeavesAlone, MakesInRun, MakesInRunHere, changed_text, no_value, outlined, plain}
+use Rattle.keep_edit_runs.specs.Runs.{IsAddedBehind, IsAddedRightBefore, IsKnownThen, IsLineKept, IsRunTo}
+use Rattle.keep_edit_runs.specs.Runs.{LeavesAlone, MakesInRun, MakesInRunHere, no_value, outlined, plain}
 use Rattle.keep_edit_runs.specs.declared.added_lines.AddedLines.{AddedLines}
 use Rattle.keep_edit_runs.specs.declared.outline.Outline.{Outline}
 use Rattle.keep_edit_runs.proofs.AheadSteps.{IsInsertThere}
-use Rattle.keep_edit_runs.proofs.MadeMore.{more_made}
-use Rattle.keep_edit_runs.proofs.RunSteps.{AreMadeTo, any_later, before_headers, counted_more, made_of_others}
-use Rattle.keep_edit_runs.proofs.RunSteps.{one_or_more, parts, plain_allows, plain_alone, plain_header, plain_insert}
-use Rattle.keep_edit_runs.proofs.RunSteps.{plain_known, run_so_far, text_utf8, tree_of_run}
-use Rattle.keep_edit_runs.proofs.SetAgainSteps.{headers_apart, rename_by_one, set_by_one}
+use Rattle.keep_edit_runs.proofs.BeforeSteps as steps
+use Rattle.keep_edit_runs.proofs.BeforeSteps.{IsInsert, insert_is}
+use Rattle.keep_edit_runs.proofs.RunSteps.{AreMadeTo, IsPlaced, before_headers, in_middle}
 
--- ---- one more
+-- ---- in the place of what one of them takes
 
 module _ (s : Document) (edits : List Edit) (n : ℕ) (old now : ProfiledText) (before : Document)
     (outlines : List Outline) (changes new : List TextChange) (adds next_adds : AddedLines)
@@ -61,304 +56,153 @@ module _ (s : Document) (edits : List Edit) (n : ℕ) (old now : ProfiledText) (
     (freed : IsFreed now.text changes c.at)
     (it : IsAddedBehind now.text adds changes o c (Some LastInBody) next_adds new)
     (utf8 : All (λ b. IsUtf8 b.new) new) (within : All (IsChangeIn now.text) new) where
-  abbrev kept : IsLineKept adds changes o c.at (Some LastInBody) next_adds
-  kept = it.kept
+  abbrev its : IsInsert s edits n old now before outlines changes new adds next_adds read h d x lt here o e a given
+      plain_is first is_insert LastInBody c makes others_alone it.kept
+  its =
+      insert_is s edits n old now before outlines changes new adds next_adds read h d x lt here o e a given
+      plain_is first is_insert LastInBody c makes others_alone it.kept
 
-  abbrev es : List law.Edit
-  es = seen_of before h.ms
+  abbrev line : Added
+  line = added_as before its.path c
 
-  -- the edit is an insert of the line
-  record IsInsert : Type 0 where
-    path : List Part
-    value : Value
-    is : e ≡ law.insert path value
-    seen_is : a ≡ law.insert (first_new before path) value
-    adds_it : AddsAs LastInBody now.profile limit before path value c
-    first_is : first_new before path ≡ first
-    kind_of_it : kind_of before path ≡ LastInBody
-
-  -- what is outlined as an insert is one
-  outline_is : plain a ≡ law.insert first no_value
-  outline_is = plain_is ∙ is_insert
-
-  insert_is : IsInsert
-  insert_is = by e refl makes
-    where
-      other : {A : Type 0} (f : law.Edit) → a ≡ f → (plain f ≡ law.insert first no_value → ⊥) → A
-      other f is never = absurd (never (sym (ap plain is) ∙ outline_is))
-
-      by : (f : law.Edit) → e ≡ f → MakesInRun now.profile before f a c (Some LastInBody) → IsInsert
-      by f same (inr (holder, value, is, sets)) = other (law.set holder value) is (λ e. cc)
-      by (law.insert p v) same (inl (is, (kind, adds_so), of)) =
-          let own : kind_of before p ≡ kind = kind_is kind now.profile limit before p v c adds_so in
-          let both : Some (kind_of before p) ≡ Some LastInBody = sym of in
-          let kinds : kind_of before p ≡ LastInBody = cc in
-          let firsts : law.insert (first_new before p) no_value ≡ law.insert first no_value =
-          sym (ap plain is) ∙ outline_is in
-          record {
-            path = p;
-            value = v;
-            is = same;
-            seen_is = is;
-            adds_it = subst (λ (k : LineKind). AddsAs k now.profile limit before p v c) (sym own ∙ kinds) adds_so;
-            first_is = cc;
-            kind_of_it = kinds;
-          }
-      by (law.set p v) same (inl (is, makes_it, of)) = other (law.set p v) is (λ e. cc)
-      by (law.rename p name) same (inl (is, makes_it, of)) = other (law.rename p name) is (λ e. cc)
-      by (law.remove p) same (inl (is, makes_it, of)) = other (law.remove p) is (λ e. cc)
-      by (law.append_table ks) same (inl (is, makes_it, of)) = other (law.append_table ks) is (λ e. cc)
-      by (law.append_element ks) same (inl (is, makes_it, of)) = other (law.append_element ks) is (λ e. cc)
-
-  abbrev path : List Part
-  path = insert_is.path
-
-  abbrev value : Value
-  value = insert_is.value
-
-  abbrev own : law.Edit
-  own = law.insert path value
-
-  abbrev its_line : Added
-  its_line = added_as before path c
-
-  line_is : line_of first c.at LastInBody ≡ its_line
+  line_is : line_of first c.at LastInBody ≡ line
   line_is =
-      ap (λ (p : List Part). line_of p c.at LastInBody) (sym insert_is.first_is)
-      ∙ ap (λ (k : LineKind). line_of (first_new before path) c.at k) (sym insert_is.kind_of_it)
+      steps.line_is s edits n old now before outlines changes new adds next_adds read h d x lt here o e a given
+      plain_is first is_insert LastInBody c makes others_alone it.kept
 
   known : IsKnownThen adds changes (line_of first c.at LastInBody) next_adds
-  known = kept.own first LastInBody is_insert refl
+  known = it.kept.own first LastInBody is_insert refl
 
-  others : All (λ f. runs.LeavesAlone f (law.insert (first_new before path) value)) es
-  others =
-      subst (λ (g : law.Edit). All (λ f. runs.LeavesAlone f g) es) insert_is.seen_is
-      (h.alone a
-      (subst (λ (g : law.Edit). All (λ y. runs.LeavesAlone (outlined y) g) outlines) (sym plain_is) others_alone))
-
-  can : CanComeInPlace before h.ms path c
+  can : CanComeInPlace before h.ms its.path c
   can = record {
-    after = All-weaker (IsKnownAt adds) (λ l. IsAfterLine l its_line)
-        (λ l its. subst (IsAfterLine l) line_is (known.after l its)) (lines_of before h.ms) h.lines;
-    passed = All-weaker (IsHeaderKnown adds) (LetsTable its_line)
-        (λ f its. subst (λ (l : Added). LetsTable l f) line_is (known.passed f its)) es h.headers_known;
+    after = All-weaker (IsKnownAt adds) (λ l. IsAfterLine l line)
+        (λ l known_l. subst (IsAfterLine l) line_is (known.after l known_l)) (lines_of before h.ms) h.lines;
+    passed = All-weaker (IsHeaderKnown adds) (LetsTable line)
+        (λ f known_f. subst (λ (l : Added). LetsTable l f) line_is (known.passed f known_f)) (seen_of before h.ms)
+        h.headers_known;
     plain = subst (λ (bytes : List ℕ). ArePlain bytes (changes_of h.ms)) read.reads.spelled
         (subst (ArePlain now.text) (sym h.changes_are) all_plain);
-    before = subst (λ (bytes : List ℕ). IsBeforeHeaders bytes es c.at) read.reads.spelled
-        (before_headers now.text es c.at adds h.counts.appended (it.ends LastInBody refl));
+    before = subst (λ (bytes : List ℕ). IsBeforeHeaders bytes (seen_of before h.ms) c.at) read.reads.spelled
+        (before_headers now.text (seen_of before h.ms) c.at adds h.counts.appended (it.ends LastInBody refl));
   }
 
-  r : IsRunInPlace now.profile limit before h.ms path value freed.c c
+  r : IsRunBefore now.profile limit before h.ms its.path its.value LastInBody c new
   r =
-      run_goes_on_in_place now.profile limit before h.ms path value freed.before freed.c freed.after c
-      (editable now before read) h.at_once insert_is.adds_it others
+      subst (IsRunBefore now.profile limit before h.ms its.path its.value LastInBody c)
+      (ap (λ (cs : List TextChange). with_change cs c) h.changes_are ∙ sym it.changes_are)
+      (run_goes_on_in_place now.profile limit before h.ms its.path its.value freed.before freed.c freed.after c
+      (editable now before read) h.at_once its.adds_it
+      (steps.others s edits n old now before outlines changes new adds next_adds read h d x lt here o e a given plain_is
+      first is_insert LastInBody c makes others_alone it.kept)
       (subst (All (λ b. IsBeside b c)) (sym h.changes_are) it.beside) can (h.changes_are ∙ freed.is)
       (subst (λ (bytes : List ℕ). FreesPlace bytes (freed.before ++ freed.after) freed.c c.at) read.reads.spelled
-      freed.frees)
+      freed.frees))
 
-  abbrev gone : MadeEdit
-  gone = made (law.remove r.gone) freed.c
-
-  abbrev one : MadeEdit
-  one = made own c
-
-  abbrev ms : List MadeEdit
-  ms = gone ∷ one ∷ r.others
-
-  so_far : IsRun now.profile limit before es changes (lines_of before h.ms) h.made.tree
-  so_far = run_so_far s edits n old now before outlines changes adds read h
-
-  goes_on : IsRun now.profile limit before (seen_of before ms) (changes_of ms) (lines_of before ms)
-      (document_after before ms)
-  goes_on = run_is_known now.profile limit before ms (editable now before read) r.still
-
-  new_is : new ≡ changes_of ms
-  new_is = it.changes_are ∙ ap (λ (cs : List TextChange). with_change cs c) (sym h.changes_are) ∙ sym r.changes
-
-  -- ---- the edit
-
-  allowed : refusal now.profile limit h.made.tree own ≡ None
-  allowed = subst (λ (u : Document). refusal now.profile limit u own ≡ None) h.tree_is r.allowed
-
-  lawful : IsLawfulEdit now.profile limit h.made.tree own
-  lawful =
-      insert_lawful now.profile limit h.made.tree path value so_far.editable insert_is.adds_it.given
-      insert_is.adds_it.utf8 allowed
-
-  same : edited_document h.made.tree own ≡ document_after before ms
-  same = ap (λ (u : Document). edited_document u own) (sym h.tree_is) ∙ r.same
-
-  abbrev next : List ℕ
-  next = text_with 0 now.text new
-
-  next_utf8 : IsUtf8 next
-  next_utf8 = text_utf8 now.text new read.utf8 (subst (Follow 0) (sym new_is) goes_on.follow) utf8 within
-
-  -- the text is the one before with the edit's change in it
-  next_is : next ≡ put (text_with 0 now.text changes) (place h.made.tree own)
-  next_is =
-      ap (λ (b : List ℕ). text_with 0 b new) read.reads.spelled
-      ∙ ap (λ (cs : List TextChange). text_with 0 (text before) cs) new_is
-      ∙ sym goes_on.text ∙ ap text (sym same) ∙ change_put h.made.tree own
-      ∙ ap (λ (b : List ℕ). put b (place h.made.tree own))
-      (so_far.text ∙ ap (λ (b : List ℕ). text_with 0 b changes) (sym read.reads.spelled))
-
-  all_made : AreMade s (take (suc n) edits) old (changed_text now new)
-  all_made =
-      more_made (changed_text now changes) h.made.tree own h.made.read lawful next next_utf8 next_is s edits n old d x
-      lt here (subst (IsEdit x) insert_is.is given) h.made refl allowed
-
-  -- ---- the edits in the list
-
-  -- what holds of the edits and of the insert holds of all
-  all_of : (P : law.Edit → Type 0) → P a → All P es → All P (seen_of before ms)
-  all_of P its all =
-      let (first_one, rest) = each_of_others before P gone h.ms r.others r.one all in
-      All-cons P (law.remove r.gone) (seen_of before (one ∷ r.others)) first_one
-      (All-cons P (runs.seen before own) (seen_of before r.others) (subst P insert_is.seen_is its) rest)
-
-  set_too : (q : List Part) → IsSetIn q h.ms → IsSetIn q ms
-  set_too q its = elim (set_by_one q gone r.one.later r.one.earlier (subst (IsSetIn q) r.one.all its)) [
-    | inl (v, is) ↦ (let never : law.remove r.gone ≡ law.set q v = is in absurd cc)
-    | inr further ↦ inr (inr (subst (IsSetIn q) (sym r.one.others) further))
-  ]
-
-  rename_too : (q : List Part) → IsRenameIn q h.ms → IsRenameIn q ms
-  rename_too q its = elim (rename_by_one q gone r.one.later r.one.earlier (subst (IsRenameIn q) r.one.all its)) [
-    | inl (name, is) ↦ (let never : law.remove r.gone ≡ law.rename q name = is in absurd cc)
-    | inr further ↦ inr (inr (subst (IsRenameIn q) (sym r.one.others) further))
-  ]
-
-  set_in : (q : List Part) → IsSetBy (outlines ++ o ∷ []) q → IsSetIn q ms
-  set_in q any = elim (one_or_more (λ y. outlined y ≡ law.set q no_value) outlines o any) [
-    | inl earlier ↦ set_too q (h.sets q earlier)
-    | inr its ↦ (let never : law.insert first no_value ≡ law.set q no_value = sym is_insert ∙ its in absurd cc)
-  ]
-
-  rename_in : (q : List Part) (name : List ℕ) → IsRenamedBy (outlines ++ o ∷ []) q name → IsRenameIn q ms
-  rename_in q name any = elim (one_or_more (λ y. outlined y ≡ law.rename q name) outlines o any) [
-    | inl earlier ↦ rename_too q (h.renames q name earlier)
-    | inr its ↦ (let never : law.insert first no_value ≡ law.rename q name = sym is_insert ∙ its in absurd cc)
-  ]
-
-  -- the remove adds no line
-  lines_same : lines_of before h.ms ≡ lines_of before r.others
-  lines_same =
-      ap (lines_of before) r.one.all ∙ lines_apart before gone r.one.later r.one.earlier (λ lines. refl)
-      ∙ ap (lines_of before) (sym r.one.others)
-
-  -- the lines are those and one more
-  lines_then : All (IsKnownAt next_adds) (lines_of before ms)
-  lines_then =
-      All-cons (IsKnownAt next_adds) its_line (lines_of before r.others)
-      (subst (IsKnownAt next_adds) line_is known.here)
-      (subst (All (IsKnownAt next_adds)) lines_same
-      (All-weaker (IsKnownAt adds) (IsKnownAt next_adds) kept.others (lines_of before h.ms) h.lines))
-
-  -- and are counted so
-  abbrev counted_by : law.Edit → (Added → Bool) → ℕ
-  counted_by f p = count_by p (lines_by f c.at (Some LastInBody))
-
-  its_counted : (p : Added → Bool) → counted_by (outlined o) p ≡ count_by p (its_line ∷ [])
-  its_counted p =
-      ap (λ (f : law.Edit). counted_by f p) is_insert ∙ ap (λ (l : Added). count_by p (l ∷ [])) line_is
-
-  counts : IsCounted next_adds (lines_of before ms) (seen_of before ms)
-  counts = record {
-    ends = λ i. omega (
-      arith,
-      counted_more (is_end_at i) its_line (lines_of before r.others),
-      counted_more (is_end_at i) its_line [],
-      ap (count_by (is_end_at i)) lines_same,
-      h.counts.ends i,
-      kept.counts.ends i,
-      its_counted (is_end_at i),
-    );
-    headed = λ i. omega (
-      arith,
-      counted_more (is_headed_at i) its_line (lines_of before r.others),
-      counted_more (is_headed_at i) its_line [],
-      ap (count_by (is_headed_at i)) lines_same,
-      h.counts.headed i,
-      kept.counts.headed i,
-      its_counted (is_headed_at i),
-    );
-    appended = omega (
-      arith,
-      counted_more runs.is_header (law.remove r.gone) (seen_of before (one ∷ r.others)),
-      counted_more runs.is_header (runs.seen before own) (seen_of before r.others),
-      ap (λ (l : List MadeEdit). count_by runs.is_header (seen_of before l)) r.one.all,
-      headers_apart before gone r.one.later r.one.earlier refl,
-      ap (λ (l : List MadeEdit). count_by runs.is_header (seen_of before l)) r.one.others,
-      h.counts.appended,
-      kept.counts.appended,
-      ap (λ (f : law.Edit). count_by runs.is_header (f ∷ [])) is_insert,
-    );
-  }
-
-  -- headers come where they came
-  headed : (i : ℕ) (table : List Part) → brought_at next_adds i ≡ Some table → Any (IsHeaderAt i) (lines_of before ms)
-  headed i table there = elim (kept.brought i table there) [
-    | inl was ↦
-        any_later (IsHeaderAt i) its_line (lines_of before r.others)
-        (subst (Any (IsHeaderAt i)) lines_same (h.headed i table was))
-    | inr (same_at, (with_it, its)) ↦ (let both : Some LastInBody ≡ Some WithHeader = with_it in absurd cc)
-  ]
-
-  pub made_in_place : IsRunTo s edits (suc n) old now before (outlines ++ o ∷ []) new next_adds
-  made_in_place = record {
-    made = all_made;
-    ms = ms;
-    alone = λ f all.
-        let (all_before, its) = parts (λ y. runs.LeavesAlone (outlined y) (plain f)) outlines o all in
-        all_of (λ g. runs.LeavesAlone g f)
-        (plain_alone a f (subst (λ (g : law.Edit). runs.LeavesAlone g (plain f)) (sym plain_is) its))
-        (h.alone f all_before);
-    inserts = λ all.
-        let (all_before, its) = parts (λ y. runs.is_insert (outlined y) ≡ true) outlines o all in
-        all_of (λ g. IsTrue (runs.is_insert g))
-        (sym (plain_insert a) ∙ ap runs.is_insert plain_is ∙ its) (h.inserts all_before);
-    headers = λ all.
-        let (all_before, its) = parts (λ y. runs.is_header (outlined y) ≡ true) outlines o all in
-        all_of (λ g. IsTrue (runs.is_header g))
-        (sym (plain_header a) ∙ ap runs.is_header plain_is ∙ its) (h.headers all_before);
-    sets = set_in;
-    renames = rename_in;
-    allow = λ q name all.
-        let (all_before, its) = parts (λ y. AllowsKey q name (outlined y)) outlines o all in
-        all_of (AllowsKey q name)
-        (plain_allows q name a (subst (AllowsKey q name) (sym plain_is) its)) (h.allow q name all_before);
-    lines = lines_then;
-    counts = counts;
-    followed = λ none.
-        let P : MadeEdit → Type 0 = λ (m : MadeEdit). MakesChange now.profile limit before m.edit m.change in
-        let (its, rest) =
-        made_of_others P gone h.ms r.others r.one (h.followed (sym kept.follower ∙ none)) in
-        All-cons P gone (one ∷ r.others) its (All-cons P one r.others (LastInBody, insert_is.adds_it) rest);
-    headed = headed;
-    headers_known = all_of (IsHeaderKnown next_adds)
-        (plain_known next_adds a
-        (subst (IsHeaderKnown next_adds) (sym plain_is) (subst (IsHeaderKnown next_adds) (sym is_insert) tt)))
-        (All-weaker (IsHeaderKnown adds) (IsHeaderKnown next_adds) kept.headers es h.headers_known);
-    at_once = r.still;
-    changes_are = sym new_is;
-    tree_is = tree_of_run now before ms new all_made.tree read r.still (sym new_is) all_made.read;
-  }
+  made_in_place : IsRunTo s edits (suc n) old now before (outlines ++ o ∷ []) new next_adds
+  made_in_place =
+      steps.made_before s edits n old now before outlines changes new adds next_adds read h d x lt here o e a given
+      plain_is first is_insert LastInBody c makes others_alone it.kept r (λ same. cc) utf8 within
 
   -- in the document after the edits it adds its line still
-  pub made_there : IsInsertThere now.profile before h.made.tree e a LastInBody c.new
-  made_there =
-      subst (λ (u : Document). IsInsertThere now.profile before u e a LastInBody c.new) h.tree_is (record {
-        path = path;
-        value = value;
-        is = insert_is.is;
-        seen_is = insert_is.seen_is;
-        change = moved_past (changes_of h.ms) c;
-        new_is = refl;
-        makes = (LastInBody, r.makes);
-        first = r.seen_still.0;
-        kind_is = r.seen_still.1 ∙ insert_is.kind_of_it;
-      })
+  pub line_in_place : IsInsertThere now.profile before h.made.tree e a LastInBody c.new
+  line_in_place =
+      steps.made_there s edits n old now before outlines changes new adds next_adds read h d x lt here o e a given
+      plain_is first is_insert LastInBody c makes others_alone it.kept r (λ same. cc) utf8 within
+
+-- ---- right before what one of them takes
+
+module _ (s : Document) (edits : List Edit) (n : ℕ) (old now : ProfiledText) (before : Document)
+    (outlines : List Outline) (changes new : List TextChange) (adds next_adds : AddedLines)
+    (read : IsTextOfTree now before) (h : IsRunTo s edits n old now before outlines changes adds) (d x : Edit)
+    (lt : n < length edits) (here : get_or edits n d ≡ x) (o : Outline) (e a : law.Edit) (given : IsEdit x e)
+    (plain_is : plain a ≡ outlined o) (first : List Part) (is_insert : outlined o ≡ law.insert first no_value)
+    (c : TextChange) (makes : MakesInRun now.profile before e a c (Some OfDotted))
+    (others_alone : All (λ y. LeavesAlone y o) outlines) (placed : IsPlaced outlines now.text changes o c.at)
+    (kept : IsLineKept adds changes o c.at (Some OfDotted) next_adds) (put : IsPutBefore changes c new)
+    (utf8 : All (λ b. IsUtf8 b.new) new) (within : All (IsChangeIn now.text) new) where
+  abbrev its_insert : IsInsert s edits n old now before outlines changes new adds next_adds read h d x lt here o e a
+      given plain_is first is_insert OfDotted c makes others_alone kept
+  its_insert =
+      insert_is s edits n old now before outlines changes new adds next_adds read h d x lt here o e a given
+      plain_is first is_insert OfDotted c makes others_alone kept
+
+  abbrev own_line : Added
+  own_line = added_as before its_insert.path c
+
+  own_line_is : line_of first c.at OfDotted ≡ own_line
+  own_line_is =
+      steps.line_is s edits n old now before outlines changes new adds next_adds read h d x lt here o e a given
+      plain_is first is_insert OfDotted c makes others_alone kept
+
+  its_known : IsKnownThen adds changes (line_of first c.at OfDotted) next_adds
+  its_known = kept.own first OfDotted is_insert refl
+
+  -- it does not come at the end of the text
+  not_at_end : c.at ≢ length now.text
+  not_at_end same =
+      let next_within : IsChangeIn now.text put.next =
+      in_middle (IsChangeIn now.text) (put.before ++ c ∷ []) put.after put.next
+      (subst (All (IsChangeIn now.text)) (put.is ∙ sym (append_assoc put.before (c ∷ []) (put.next ∷ put.after)))
+      within) in
+      omega (arith, same, put.at, put.some, next_within.ends.0)
+
+  keeps : KeepsPlace before (seen_of before h.ms) (changes_of h.ms) (lines_of before h.ms)
+      (law.insert its_insert.path its_insert.value) c
+  keeps = (
+    record {
+      after = All-weaker (IsKnownAt adds) (λ l. IsAfterLine l own_line)
+          (λ l known_l. subst (IsAfterLine l) own_line_is (its_known.after l known_l)) (lines_of before h.ms) h.lines;
+      stays = λ other. ap (list_any (takes_up_to c.at)) h.changes_are ∙ its_known.stays (λ same. cc);
+      passed = All-weaker (IsHeaderKnown adds) (LetsTable own_line)
+          (λ f known_f. subst (λ (l : Added). LetsTable l f) own_line_is (its_known.passed f known_f))
+          (seen_of before h.ms) h.headers_known;
+    },
+    alike (placed.insert (ap runs.is_insert is_insert)),
+  )
+    where
+      alike : All (λ y. runs.is_insert (outlined y) ≡ true) outlines
+          ⊎ (ArePlain now.text changes × All (LetsCome now.text changes c.at) changes)
+          → All (λ f. IsTrue (runs.is_insert f)) (seen_of before h.ms)
+          ⊎ (ArePlain (text before) (changes_of h.ms)
+          × (All (LetsCome (text before) (changes_of h.ms) c.at) (changes_of h.ms)
+          × IsBeforeHeaders (text before) (seen_of before h.ms) c.at))
+      alike (inl all) = inl (h.inserts all)
+      alike (inr (plain_all, come)) =
+          subst₂ (λ (bytes : List ℕ) (cs : List TextChange). All (λ f. IsTrue (runs.is_insert f)) (seen_of before h.ms)
+          ⊎ (ArePlain bytes cs × (All (LetsCome bytes cs c.at) cs
+          × IsBeforeHeaders bytes (seen_of before h.ms) c.at)))
+          read.reads.spelled (sym h.changes_are) (inr (plain_all, (come, inr not_at_end)))
+
+  its_run : IsRunBefore now.profile limit before h.ms its_insert.path its_insert.value OfDotted c new
+  its_run =
+      run_goes_on_before now.profile limit before h.ms its_insert.path its_insert.value c new
+      (editable now before read) h.at_once its_insert.adds_it
+      (steps.others s edits n old now before outlines changes new adds next_adds read h d x lt here o e a given plain_is
+      first is_insert OfDotted c makes others_alone kept) keeps
+      (subst (λ (cs : List TextChange). IsPutBefore cs c new) (sym h.changes_are) put)
+
+  made_right_before : IsRunTo s edits (suc n) old now before (outlines ++ o ∷ []) new next_adds
+  made_right_before =
+      steps.made_before s edits n old now before outlines changes new adds next_adds read h d x lt here o e a given
+      plain_is first is_insert OfDotted c makes others_alone kept its_run (λ same. cc) utf8 within
+
+  pub line_before : IsInsertThere now.profile before h.made.tree e a OfDotted c.new
+  line_before =
+      steps.made_there s edits n old now before outlines changes new adds next_adds read h d x lt here o e a given
+      plain_is first is_insert OfDotted c makes others_alone kept its_run (λ same. cc) utf8 within
+
+-- what holds of each change holds with one more before another
+pub each_before : (P : TextChange → Type 0) (old new : List TextChange) (c : TextChange) → IsPutBefore old c new
+    → All P old → P c → All P new
+each_before P old new c put all its = subst (All P) (sym put.is) (by put.before (subst (All P) put.was all))
+  where
+    by : (before : List TextChange) → All P (before ++ put.next ∷ put.after)
+        → All P (before ++ c ∷ put.next ∷ put.after)
+    by [] h = All-cons P c (put.next ∷ put.after) its h
+    by (x ∷ before) h =
+        All-cons P x (before ++ c ∷ put.next ∷ put.after)
+        (All-head P x (before ++ put.next ∷ put.after) h)
+        (by before (All-tail P x (before ++ put.next ∷ put.after) h))
 
 -- ---- as the code goes
 
@@ -383,6 +227,31 @@ more_in_place edits first end now outlines changes new adds next d x o path t so
       made = λ s old h. made_in_place s edits end old now h.tree outlines changes new adds next h.read
           (so_far.made s old h) d x lt here o makes.edit (makes.in_run h.tree) makes.is
           (makes.outline_is h.tree h.read) path is c (makes.makes h.tree h.read) alone all_plain freed it utf8 within;
+      within = within;
+      utf8 = utf8;
+    }
+
+pub more_before : (edits : List Edit) (first end : ℕ) (now : ProfiledText) (outlines : List Outline)
+    (changes new : List TextChange) (adds next : AddedLines) (d x : Edit) (o : Outline) (t : TextEdit)
+    (kind : Option LineKind)
+    → AreMadeTo edits first end now outlines changes adds → end < length edits → get_or edits end d ≡ x
+    → MakesInRunHere now x (outlined o) t kind → All (λ y. LeavesAlone y o) outlines
+    → IsPlaced outlines now.text changes o (change_of t).at
+    → IsAddedRightBefore adds changes o (change_of t) kind next new
+    → AreMadeTo edits first (suc end) now (outlines ++ o ∷ []) new next
+more_before edits first end now outlines changes new adds next d x o t kind so_far lt here makes alone placed it =
+    let c : TextChange = change_of t in
+    let own : MakesInRunHere now x (outlined o) t (Some OfDotted) =
+    subst (MakesInRunHere now x (outlined o) t) it.line_is makes in
+    let kept : IsLineKept adds changes o c.at (Some OfDotted) next =
+    subst (λ (l : Option LineKind). IsLineKept adds changes o c.at l next) it.line_is it.kept in
+    let utf8 = each_before (λ b. IsUtf8 b.new) changes new c it.put so_far.utf8 (IsUtf8-string_bytes t.new) in
+    let within =
+    each_before (IsChangeIn now.text) changes new c it.put so_far.within (change_in now.text t own.within) in
+    record {
+      made = λ s old h. made_right_before s edits end old now h.tree outlines changes new adds next h.read
+          (so_far.made s old h) d x lt here o own.edit (own.in_run h.tree) own.is (own.outline_is h.tree h.read)
+          it.first it.is c (own.makes h.tree h.read) alone placed kept it.put utf8 within;
       within = within;
       utf8 = utf8;
     }

@@ -25,7 +25,7 @@ use Rattle.keep_edit_runs.proofs.AgainSteps.{made_once_more}
 use Rattle.keep_edit_runs.proofs.AheadSteps.{more_ahead}
 use Rattle.keep_edit_runs.proofs.ElementSteps.{AreMadeAmong, less_among, more_among, none_gone, placed_too}
 use Rattle.keep_edit_runs.proofs.FollowSteps.{more_following}
-use Rattle.keep_edit_runs.proofs.InPlaceSteps.{more_in_place}
+use Rattle.keep_edit_runs.proofs.InPlaceSteps.{more_before, more_in_place}
 use Rattle.keep_edit_runs.proofs.RunSteps.{IsPlaced, no_changes}
 
 -- the edits up to this number are made by the run's changes, before what comes at the end of the text
@@ -73,7 +73,15 @@ module _ (edits : List Edit) (first end : ℕ) (now : ProfiledText) (old new : K
           new.lines d x h.outline h.change h.line none lt here h.makes h.alone.edits placed_here ahead)
           (empties sure) no_elements)
           h.outlines refl refl h.gone
-      by alone empties (inr (sure, inr follows)) =
+      by alone empties (inr (sure, inr (inr before))) =
+          let (no_elements, none) = so_far.none (empties sure) in
+          made_as edits first (suc end) now
+          (none_gone edits first (suc end) now _ new.so_far.changes new.lines old.gone
+          (more_before edits first end now old.so_far.outlines.items old.so_far.changes new.so_far.changes old.lines
+          new.lines d x h.outline h.change h.line none lt here h.makes h.alone.edits placed_here before)
+          (empties sure) no_elements)
+          h.outlines refl refl h.gone
+      by alone empties (inr (sure, inr (inl follows))) =
           let (no_elements, none) = so_far.none (empties sure) in
           made_as edits first (suc end) now
           (none_gone edits first (suc end) now _ new.so_far.changes new.lines old.gone

@@ -19,6 +19,7 @@ mod InsertAgainSteps
 mod AgainSteps
 mod AheadLists
 mod AheadSteps
+mod BeforeSteps
 mod InPlaceSteps
 mod FollowSteps
 mod ItemSteps

@@ -47,7 +47,8 @@ use Rattle.keep_edit_runs.specs.Again.{IsAgainHere, IsPutAgain}
 use Rattle.keep_edit_runs.specs.AddedLines.{IsHeaderKnown, line_of}
 use Rattle.keep_edit_runs.specs.KindsRun.{AddsInPlace, AddsOne, LetsAgainBefore, PutsOne}
 use Rattle.keep_edit_runs.specs.Lists.{AreMade, IsEdit}
-use Rattle.keep_edit_runs.specs.Runs.{IsAddedAhead, IsAddedFollowing, IsRunTo}
+use Rattle.keep_edit_runs.specs.Runs.{IsAddedAhead, IsAddedFollowing, IsAddedRightBefore, IsLineKept, IsRunTo}
+use Rattle.keep_edit_runs.specs.Runs.{MakesInRun}
 use Rattle.keep_edit_runs.specs.Runs.{IsSetBy, changed_text, no_value, outlined, plain}
 use Rattle.keep_edit_runs.specs.SeenPaths.{IsSeen}
 use Rattle.keep_edit_runs.specs.Tail.{AreBlocks, IsBlock, keys_of}
@@ -63,7 +64,8 @@ use Rattle.keep_edit_runs.proofs.AheadSteps.{made_there as ahead_there}
 use Rattle.keep_edit_runs.proofs.ElementSteps.{placed_too}
 use Rattle.keep_edit_runs.proofs.EndPlaces.{before_last, length_from, plain_text, takes_none}
 use Rattle.keep_edit_runs.proofs.FollowSteps.{made_there as following_there}
-use Rattle.keep_edit_runs.proofs.InPlaceSteps.{made_there as in_place_there}
+use Rattle.keep_edit_runs.proofs.InPlaceSteps.{each_before, line_before as before_there}
+use Rattle.keep_edit_runs.proofs.InPlaceSteps.{line_in_place as in_place_there}
 use Rattle.keep_edit_runs.proofs.LiftsPlain.{begins_with_header, no_through, one_given}
 use Rattle.keep_edit_runs.proofs.RunSteps.{AreMadeTo}
 use Rattle.keep_edit_runs.proofs.SetAgainSteps.{IsDoneThere, IsSetThere, each_replaced}
@@ -144,14 +146,17 @@ same_line l m first kind (law.insert p v) lets = tt
 same_line l m first kind (law.rename p name) lets = tt
 same_line l m first kind (law.remove p) lets = tt
 
--- a line at the end of a body has no header
-lets_last : (l : Added) → l.kind ≡ LastInBody → (f : law.Edit) → LetsLine l f
-lets_last l last (law.append_table ks) = λ head. absurd (let no : LastInBody ≡ WithHeader = sym last ∙ head in cc)
-lets_last l last (law.append_element ks) = λ head. absurd (let no : LastInBody ≡ WithHeader = sym last ∙ head in cc)
-lets_last l last (law.insert p v) = λ head. absurd (let no : LastInBody ≡ WithHeader = sym last ∙ head in cc)
-lets_last l last (law.set p v) = tt
-lets_last l last (law.rename p name) = tt
-lets_last l last (law.remove p) = tt
+no_header : {k : LineKind} (kind : LineKind) → k ≡ kind → (kind ≡ WithHeader → ⊥) → k ≡ WithHeader → ⊥
+no_header kind is other head = other (sym is ∙ head)
+
+-- a line without a header is let by all
+lets_last : (l : Added) → (l.kind ≡ WithHeader → ⊥) → (f : law.Edit) → LetsLine l f
+lets_last l other (law.append_table ks) = λ head. absurd (other head)
+lets_last l other (law.append_element ks) = λ head. absurd (other head)
+lets_last l other (law.insert p v) = λ head. absurd (other head)
+lets_last l other (law.set p v) = tt
+lets_last l other (law.rename p name) = tt
+lets_last l other (law.remove p) = tt
 
 -- what leaves a set alone does not hang on its value
 set_too : (f : law.Edit) (path : List Part) (v w : Value) → runs.LeavesAlone f (law.set path v)
@@ -587,7 +592,47 @@ module _ (edits : List Edit) (first end : ℕ) (now : ProfiledText) (old : Kinds
         (insert_lifts k.makes.edit placed_seen LastInBody placed_change.new placed
         (subst (λ (g : law.Edit). All (λ y. runs.LeavesAlone (outlined y) g) old.tail.outlines.items) (sym placed_is)
         k.alone.tail) k.new_plain
-        (λ i t less. lets_last (added_as d placed.path placed.change) placed.kind_is (get_or ts i t).seen))
+        (λ i t less. lets_last (added_as d placed.path placed.change) (no_header LastInBody placed.kind_is (λ same. cc))
+        (get_or ts i t).seen))
+
+  -- ---- a line right before what another takes
+
+  module _ (new : KindsRun) (k : AddsOne now old x new)
+      (it : IsAddedRightBefore old.lines changes k.outline (change_of k.change) k.line new.lines new.so_far.changes)
+    where
+      abbrev its_change : TextChange
+      its_change = change_of k.change
+
+      abbrev its_seen : law.Edit
+      its_seen = k.makes.in_run h.tree
+
+      its_plain : plain its_seen ≡ outlined k.outline
+      its_plain = k.makes.outline_is h.tree h.read
+
+      before_it : IsInsertThere now.profile h.tree d k.makes.edit its_seen OfDotted its_change.new
+      before_it =
+          subst (λ (u : Document). IsInsertThere now.profile h.tree u k.makes.edit its_seen OfDotted its_change.new)
+          same_tree
+          (before_there s all n older now h.tree outlines changes new.so_far.changes old.lines new.lines h.read run x x
+          few here k.outline k.makes.edit its_seen k.makes.is its_plain it.first it.is its_change
+          (subst (MakesInRun now.profile h.tree k.makes.edit its_seen its_change) it.line_is
+          (k.makes.makes h.tree h.read))
+          k.alone.edits (placed_too outlines now.text changes k.outline its_change.at k.placed)
+          (subst (λ (l : Option LineKind). IsLineKept old.lines changes k.outline its_change.at l new.lines) it.line_is
+          it.kept) it.put
+          (each_before (λ b. IsUtf8 b.new) changes new.so_far.changes its_change it.put none.utf8
+          (IsUtf8-string_bytes k.change.new))
+          (each_before (IsChangeIn now.text) changes new.so_far.changes its_change it.put none.within
+          (change_in now.text k.change k.makes.within)))
+
+      before_lifts : (e : law.Edit) → IsEdit x e → IsLifted now.profile d ts e
+      before_lifts e given =
+          subst (IsLifted now.profile d ts) (one_given x k.makes.edit e k.makes.is given)
+          (insert_lifts k.makes.edit its_seen OfDotted its_change.new before_it
+          (subst (λ (g : law.Edit). All (λ y. runs.LeavesAlone (outlined y) g) old.tail.outlines.items) (sym its_plain)
+          k.alone.tail) it.plain
+          (λ i t less. lets_last (added_as d before_it.path before_it.change)
+          (no_header OfDotted before_it.kind_is (λ same. cc)) (get_or ts i t).seen))
 
   -- ---- one behind the header of its table
 
@@ -621,7 +666,8 @@ module _ (edits : List Edit) (first end : ℕ) (now : ProfiledText) (old : Kinds
         (insert_lifts k.makes.edit seen_as LastInBody line.new following
         (subst (λ (g : law.Edit). All (λ y. runs.LeavesAlone (outlined y) g) old.tail.outlines.items)
         (sym following_is) k.alone.tail) it.plain
-        (λ i t less. lets_last (added_as d following.path following.change) following.kind_is (get_or ts i t).seen))
+        (λ i t less. lets_last (added_as d following.path following.change)
+        (no_header LastInBody following.kind_is (λ same. cc)) (get_or ts i t).seen))
 
   -- ---- what is done again
 
@@ -675,6 +721,13 @@ pub lifts_following : (edits : List Edit) (first end : ℕ) (now : ProfiledText)
     → Lifts edits first end now old x
 lifts_following edits first end now old new x empty k it = λ so_far s older h e given.
     following_lifts edits first end now old x empty so_far s older h new k it e given
+
+pub lifts_before : (edits : List Edit) (first end : ℕ) (now : ProfiledText) (old new : KindsRun) (x : Edit)
+    → old.gone.arrays.items ≡ [] → (k : AddsOne now old x new)
+    → IsAddedRightBefore old.lines old.so_far.changes k.outline (change_of k.change) k.line new.lines new.so_far.changes
+    → Lifts edits first end now old x
+lifts_before edits first end now old new x empty k it = λ so_far s older h e given.
+    before_lifts edits first end now old x empty so_far s older h new k it e given
 
 pub lifts_in_place : (edits : List Edit) (first end : ℕ) (now : ProfiledText) (old new : KindsRun) (x : Edit)
     → AddsInPlace now old x new → Lifts edits first end now old x

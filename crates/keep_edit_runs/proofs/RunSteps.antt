@@ -161,6 +161,12 @@ pub record IsPlaced (outlines : List Outline) (bytes : List ℕ) (changes : List
   pub header : runs.is_header (outlined x) ≡ true
       → All (λ y. runs.is_header (outlined y) ≡ true) outlines ⊎ IsPlainBefore bytes changes at
 
+-- what is known of all of a list is known of one of them
+pub in_middle : (P : TextChange → Type 0) (before after : List TextChange) (c : TextChange)
+    → All P (before ++ c ∷ after) → P c
+in_middle P [] after c all = All-head P c after all
+in_middle P (b ∷ before) after c all = in_middle P before after c (All-tail P b (before ++ c ∷ after) all)
+
 -- ---- the text is in UTF-8
 
 boundary_before : (bytes : List ℕ) (from at : ℕ) → from ≤ at → at ≤ length bytes → IsCharBoundary bytes from

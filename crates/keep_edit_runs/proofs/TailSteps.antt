@@ -6,12 +6,12 @@
 -- so that none does (`clear_with`).
 --
 -- Theorem: `run_longer`.
-use Rattle.std.proofs.Common.{◌≡◌, ◌∙◌, ◌<◌, ◌+◌, ◌∷◌, ◌++◌, [], ℕ, suc, All, List, length, arith, refl, sym, ap, ap₂}
+use Rattle.std.proofs.Common.{◌≡◌, ◌∙◌, ◌<◌, ◌+◌, ◌∷◌, [], ℕ, suc, All, List, length, arith, refl, sym, ap, ap₂}
 use Rattle.std.proofs.Common.{append-nil, cond, false, get_or, inl, inr, map, subst, true}
 use Rattle.std.specs.Prelude.{◌⊎◌, ◌&&◌, ◌==◌, Bool, Option, Some, nat_lt}
 use Rattle.std.specs.List.{count_by, list_any}
 use Rattle.std.proofs.lemmas.Bool.{and_left, and_right, ne_eqb, or_parts}
-use Rattle.std.proofs.lemmas.List.Elements.{All-cons, All-head, All-nil, All-tail}
+use Rattle.std.proofs.lemmas.List.Elements.{All-cons, All-nil}
 use Rattle.std.proofs.lemmas.List.Folds.{list_any_none}
 use Rattle.keep_types.specs.declared.leaf.Profile.{Profile}
 use Rattle.keep_syntax.specs.Tree.{Document, Value}
@@ -43,8 +43,10 @@ use Rattle.keep_edit_runs.specs.declared.outline.Outline.{Outline}
 use Rattle.keep_edit_runs.specs.declared.seen_headers.SeenHeaders.{SeenHeaders}
 use Rattle.keep_edit_runs.specs.declared.tail.Tail.{Tail}
 use Rattle.keep_edit_runs.proofs.AheadSteps.{each_ahead}
-use Rattle.keep_edit_runs.proofs.LiftsOthers.{lifts_again, lifts_ahead, lifts_following, lifts_in_place}
+use Rattle.keep_edit_runs.proofs.InPlaceSteps.{each_before}
+use Rattle.keep_edit_runs.proofs.LiftsOthers.{lifts_again, lifts_ahead, lifts_before, lifts_following, lifts_in_place}
 use Rattle.keep_edit_runs.proofs.LiftsPlain.{lifts_behind, lifts_taken}
+use Rattle.keep_edit_runs.proofs.RunSteps.{in_middle}
 use Rattle.keep_edit_runs.proofs.SetAgainSteps.{each_replaced}
 use Rattle.keep_edit_runs.proofs.TailBelow.{puts_below}
 use Rattle.keep_edit_runs.proofs.TailEnds.{appends_one}
@@ -100,12 +102,6 @@ clear_with bytes old new c each h plain_new not = record {
   clear = list_any_none (takes_up_to (length bytes)) new
       (each (λ d. takes_up_to (length bytes) d ≡ false) (each_not (takes_up_to (length bytes)) old h.clear) not);
 }
-
--- what is known of all of a list is known of one of them
-in_middle : (P : TextChange → Type 0) (before after : List TextChange) (c : TextChange) → All P (before ++ c ∷ after)
-    → P c
-in_middle P [] after c all = All-head P c after all
-in_middle P (b ∷ before) after c all = in_middle P before after c (All-tail P b (before ++ c ∷ after) all)
 
 -- a header is known as before, where lines behind headers are counted
 known_too : (old new : AddedLines) → new.headers ≡ old.headers → (f : law.Edit) → IsHeaderKnown old f
@@ -165,7 +161,10 @@ module _ (edits : List Edit) (first number : ℕ) (now : ProfiledText) (old new 
         in_order clear plain_new not (inr (sure, inl ahead)) =
             clear_with now.text old.so_far.changes new.so_far.changes c
             (λ P all its. each_ahead P old.so_far.changes new.so_far.changes c ahead.put all its) clear plain_new not
-        in_order clear plain_new not (inr (sure, inr follows)) =
+        in_order clear plain_new not (inr (sure, inr (inr before))) =
+            clear_with now.text old.so_far.changes new.so_far.changes c
+            (λ P all its. each_before P old.so_far.changes new.so_far.changes c before.put all its) clear plain_new not
+        in_order clear plain_new not (inr (sure, inr (inl follows))) =
             let d : TextChange = change_of follows.line in
             subst (IsEndClear now.text) (sym follows.changes_are)
             (clear_with now.text old.so_far.changes (with_change old.so_far.changes d) d
@@ -190,8 +189,10 @@ module _ (edits : List Edit) (first number : ℕ) (now : ProfiledText) (old new 
             → Lifts edits first number now old x
         by b empty (inl behind) = lifts_behind edits first number now old new x adds behind
         by b empty (inr (sure, inl ahead)) = lifts_ahead edits first number now old new x (empty sure) adds ahead
-        by b empty (inr (sure, inr follows)) =
+        by b empty (inr (sure, inr (inl follows))) =
             lifts_following edits first number now old new x (empty sure) adds follows
+        by b empty (inr (sure, inr (inr before))) =
+            lifts_before edits first number now old new x (empty sure) adds before
 
     headers_stay : (f : law.Edit) → IsHeaderKnown old.lines f → IsHeaderKnown new.lines f
     headers_stay = by adds.added.0 adds.added.1.1
@@ -201,7 +202,8 @@ module _ (edits : List Edit) (first number : ℕ) (now : ProfiledText) (old new 
             → (f : law.Edit) → IsHeaderKnown old.lines f → IsHeaderKnown new.lines f
         by b (inl behind) = behind.kept.headers
         by b (inr (sure, inl ahead)) = ahead.kept.headers
-        by b (inr (sure, inr follows)) =
+        by b (inr (sure, inr (inr before))) = before.kept.headers
+        by b (inr (sure, inr (inl follows))) =
             known_too old.lines new.lines (ap (λ (lines : AddedLines). lines.headers) follows.kept.rest)
 
     tables_stay : (q : List Part) → HasTableOf old.lines.headers q → HasTableOf new.lines.headers q
@@ -212,7 +214,8 @@ module _ (edits : List Edit) (first number : ℕ) (now : ProfiledText) (old new 
             → (q : List Part) → HasTableOf old.lines.headers q → HasTableOf new.lines.headers q
         by b (inl behind) = behind.kept.tables
         by b (inr (sure, inl ahead)) = ahead.kept.tables
-        by b (inr (sure, inr follows)) = λ q has.
+        by b (inr (sure, inr (inr before))) = before.kept.tables
+        by b (inr (sure, inr (inl follows))) = λ q has.
             subst (λ (lines : AddedLines). HasTableOf lines.headers q) (sym follows.kept.rest) has
 
     no_header_more : new.lines.appended ≡ 0
@@ -228,7 +231,8 @@ module _ (edits : List Edit) (first number : ℕ) (now : ProfiledText) (old new 
             → new.lines.appended ≡ 0
         by b (inl behind) = counted behind.kept.counts
         by b (inr (sure, inl ahead)) = counted ahead.kept.counts
-        by b (inr (sure, inr follows)) =
+        by b (inr (sure, inr (inr before))) = counted before.kept.counts
+        by b (inr (sure, inr (inl follows))) =
             ap (λ (lines : AddedLines). lines.appended) follows.kept.rest ∙ so_far.no_headers
 
     pub goes_by_change : AreMadeIn edits first (suc number) now new

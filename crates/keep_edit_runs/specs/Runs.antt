@@ -17,6 +17,7 @@ use Rattle.keep_edit_spec.specs.EntryEdits.{MakesSet}
 use Rattle.keep_edit_spec.specs.InsertKinds.{Added, IsAfterLine, IsHeaderAt, kind_of}
 use Rattle.keep_edit_spec.specs.Laws.{IsEditable}
 use Rattle.keep_edit_spec.specs.LinesAhead.{comes_before}
+use Rattle.keep_edit_spec.specs.LinesInPlace.{IsPutBefore}
 use Rattle.keep_edit_spec.specs.Look.{holder, keys_in}
 use Rattle.keep_edit_spec.specs.RemovedHeaders.{IsHeaderRun, RemovesHeader, first_path}
 use Rattle.keep_edit_spec.specs.RenameLists.{AllowsKey, IsRenameIn}
@@ -28,7 +29,7 @@ use Rattle.keep_edit_spec.specs.Runs.{IsNoSecond, IsPlain, LetsCome, LetsTable, 
 use Rattle.keep_edit_spec.specs.SetValues.{SetsValue}
 use Rattle.keep_edit_spec.specs.TextChanges.{IsBeside, TextChange, change_at, text_with, with_change}
 use Rattle.keep_edit_spec.specs.declared.line_kind.LineKind.{LineKind}
-use Rattle.keep_edit_spec.specs.declared.line_kind.LineKind.TheVariants.{LastInBody, WithHeader}
+use Rattle.keep_edit_spec.specs.declared.line_kind.LineKind.TheVariants.{LastInBody, OfDotted, WithHeader}
 use Rattle.keep_edit_plan.specs.Headers.{key_texts}
 use Rattle.keep_edit_plan.specs.TextEdits.{HasChange, IsPutAhead, MakesChangeHere, change_of}
 use Rattle.keep_edit_runs.specs.AddedLines.{IsCountBehind, IsCounted, IsCountedMore, IsHeaderKnown, IsKnownAt}
@@ -241,14 +242,26 @@ pub record IsAddedFollowing (now : ProfiledText) (x : Edit) (old : AddedLines) (
   pub beside : All (λ d. IsBeside d (change_of line)) changes
   pub changes_are : with_it ≡ with_change changes (change_of line)
 
--- It is added in one of these three ways; behind all others, if elements went.
+-- An edit with this outline, this change and a line of a table that dotted keys make is added to edits with these
+-- changes and lines, right before the change that takes bytes from its place on.
+pub record IsAddedRightBefore (old : AddedLines) (changes : List TextChange) (x : Outline) (c : TextChange)
+    (line : Option LineKind) (new : AddedLines) (with_it : List TextChange) : Type 0 where
+  pub kept : IsLineKept old changes x c.at line new
+  pub line_is : line ≡ Some OfDotted
+  pub first : List Part
+  pub is : outlined x ≡ law.insert first no_value
+  pub put : IsPutBefore changes c with_it
+  pub plain : IsPlain c.new
+
+-- It is added in one of these four ways; behind all others, if elements went.
 abbrev pub IsAddedInOrder : ProfiledText → Edit → AddedLines → List TextChange → Outline → TextChange
     → Option LineKind → Bool → AddedLines → List TextChange → Type 0
 IsAddedInOrder now x old changes o c line none_gone new with_it =
     IsAddedBehind now.text old changes o c line new with_it
     ⊎ ((none_gone ≡ true)
     × (IsAddedAhead now.text old changes o c line new with_it
-    ⊎ IsAddedFollowing now x old changes o c.at new with_it))
+    ⊎ (IsAddedFollowing now x old changes o c.at new with_it
+    ⊎ IsAddedRightBefore old changes o c line new with_it)))
 
 -- what is left of keys after so many, and after those of the steps of a path
 abbrev pub rest_from : List (String Global) → ℕ → List Part

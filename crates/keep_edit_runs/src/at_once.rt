@@ -1,11 +1,15 @@
 //! Edits of a list that are made at once, as far as they are gone through.
-ghost use Rattle.std.specs.Prelude.{◌≡◌, ◌++◌, ◌∷◌, [], All, IfSome, IsTrue, None, false, string_bytes, true};
+ghost use Rattle.std.specs.Prelude.{◌≡◌, ◌++◌, ◌∷◌, [], All, IfSome, IsTrue, List, None, Some, false, string_bytes};
+ghost use Rattle.std.specs.Prelude.{true};
 ghost use Rattle.std.specs.Bool.{Decides};
+ghost use Rattle.keep_edit_spec.specs.Edits.{insert};
+ghost use Rattle.keep_edit_spec.specs.LinesInPlace.{IsPutBefore};
 ghost use Rattle.keep_edit_spec.specs.Runs.{IsPlain};
 ghost use Rattle.keep_edit_spec.specs.TextChanges.{IsBeside, with_change};
+ghost use Rattle.keep_edit_spec.specs.declared.line_kind.LineKind.TheVariants.{OfDotted};
 ghost use Rattle.keep_edit_plan.specs.TextEdits.{HasChange, HasInstead, IsOrdered, IsPutAhead, IsReplaced, change_of};
-ghost use Rattle.keep_path.specs.Path.{beside};
-ghost use Rattle.keep_edit_runs.specs.Runs.{IsRenamedBy, IsSetBy};
+ghost use Rattle.keep_path.specs.Path.{Part, beside};
+ghost use Rattle.keep_edit_runs.specs.Runs.{IsRenamedBy, IsSetBy, no_value, outlined};
 
 use crate::alike::{is_new_path, is_same};
 use crate::outline::{Outline, Steps};
@@ -208,6 +212,17 @@ impl<'a> AtOnce<'a> {
         noted && self.outlines.push(outline).is_ok()
     }
 
+    /// Adds what an edit does that adds a line with these bytes, which has this number in the list. Returns whether it
+    /// was added: it is not if it writes a carriage return, nor where memory is refused.
+    fn add_line_outline(&mut self, number: usize, outline: Outline<'a>, line: &str) -> bool
+        ensures plain { IsTrue result → IsPlain line.now }
+        ensures outlines { IsTrue result → self.new.outlines.items ≡ self.old.outlines.items ++ outline.entry ∷ [] }
+        ensures changes { self.new.changes ≡ self.old.changes }
+        ensures are_plain { self.new.are_plain ≡ self.old.are_plain }
+    {
+        is_plain(line) && self.add_outline(number, outline)
+    }
+
     /// Adds a change of an edit that has no outline. Returns whether it was added: one that overlaps another is not,
     /// nor is any where memory is refused. Then no change was added.
     pub fn add_change(&mut self, change: TextEdit) -> bool
@@ -258,9 +273,37 @@ impl<'a> AtOnce<'a> {
         ensures are_plain { self.new.are_plain ≡ self.old.are_plain }
         ensures refused { result ≡ false → self.new.changes ≡ self.old.changes }
     {
-        if !is_plain(change.new.as_str()) || !self.add_outline(number, outline) {
+        self.add_line_outline(number, outline, change.new.as_str())
+            && self.changes.add_ahead(change, count).unwrap_or(false)
+    }
+
+    /// Adds an edit that adds a line, which has this number in the list, with its change right before the one that
+    /// takes bytes from its place on. Returns whether it was added: it is not where none does, nor if it writes a
+    /// carriage return, nor where memory is refused. Then no change was added.
+    pub fn add_before(&mut self, number: usize, outline: Outline<'a>, change: TextEdit) -> bool
+        ensures changes { IsTrue result → IsPutBefore self.old.changes (change_of change) self.new.changes }
+        ensures outlines { IsTrue result → self.new.outlines.items ≡ self.old.outlines.items ++ outline.entry ∷ [] }
+        ensures plain { IsTrue result → IsPlain (string_bytes change.new) }
+        ensures are_plain { self.new.are_plain ≡ self.old.are_plain }
+        ensures refused { result ≡ false → self.new.changes ≡ self.old.changes }
+    {
+        self.add_line_outline(number, outline, change.new.as_str())
+            && self.changes.add_before(change).unwrap_or(false)
+    }
+
+    /// Whether an edit adds a line to a table that dotted keys make, where a change takes bytes from its place on: the
+    /// line comes before that.
+    pub fn comes_before(&self, outline: &Outline, made: &RunEdit) -> bool
+        ensures line { IsTrue result → made.now.line ≡ Some OfDotted }
+        ensures insert { IsTrue result → (first : List Part) × (outlined outline.now ≡ insert first no_value) }
+    {
+        let (Outline::Insert(_), Some(LineKind::OfDotted)) = (outline, made.line) else {
             return false;
+        };
+        let start = made.change.place.start;
+        match self.changes.beginning_at(start) {
+            Some(next) => next.place.end > start,
+            None => false,
         }
-        self.changes.add_ahead(change, count).unwrap_or(false)
     }
 }

@@ -14,8 +14,9 @@ use keep_syntax::Span;
 
 impl Before<'_> {
     /// Adds an edit, which has this number in the list, in order with the lines so far: behind all others where its
-    /// change begins; or, if no element went, before those that have to come behind it there, or its line alone behind
-    /// that of a header of its table. Returns whether it was added; if not, no change was.
+    /// change begins; or, if no element went, before those that have to come behind it there, or what another takes
+    /// from there on, or its line alone behind that of a header of its table. Returns whether it was added; if not, no
+    /// change was.
     pub(crate) fn add_in_order<'a>(
         &self,
         so_far: &mut AtOnce<'a>,
@@ -43,6 +44,11 @@ impl Before<'_> {
         }
         let is_at_end = place.start == self.text.len();
         match lines.count_behind(&made, is_at_end) {
+            Some(0) if so_far.comes_before(&outline, &made) => {
+                is_none_gone
+                    && lines.keep_line(so_far, &outline, &made)
+                    && so_far.add_before(number, outline, made.change)
+            }
             Some(0) => {
                 lines.keep_line(so_far, &outline, &made) && so_far.add(number, outline, made.change)
             }

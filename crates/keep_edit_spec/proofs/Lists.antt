@@ -13,6 +13,7 @@ pub mod SetPlaces
 pub mod StillSets
 pub mod PartPlaces
 pub mod RenamePlaces
+pub mod RenameStarts
 pub mod RenameAllowed
 pub mod StillRenames
 pub mod SomeBytes
@@ -175,6 +176,7 @@ pub mod DottedAfterRename
 pub mod DottedAfterRemove
 pub mod DottedAfterClear
 pub mod DottedAfterTaken
+pub mod AddsBefore
 pub mod DottedAfterHeader
 pub mod LedAlike
 pub mod DottedBeside
@@ -191,6 +193,7 @@ pub mod GatheredEdits
 pub mod EditsAhead
 pub mod LinesAhead
 pub mod LinesInPlace
+pub mod LinesBefore
 pub mod AheadChanges
 pub mod BehindCounts
 pub mod LinesBehind

@@ -85,6 +85,7 @@ pub use Rattle.keep_edit_spec.proofs.Touched.FitLaws.{touched_lines_are_lines}
 pub use Rattle.keep_edit_spec.proofs.Touched.TouchedCuts.{IsCut, touched_in_new_cut}
 pub use Rattle.keep_edit_spec.proofs.Lists.TextChanges.{all_with, follow_with, length_with, one_of_all, rest_of_all}
 pub use Rattle.keep_edit_spec.proofs.Lists.LinesAhead.{run_goes_on_ahead}
+pub use Rattle.keep_edit_spec.proofs.Lists.LinesBefore.{run_goes_on_before}
 pub use Rattle.keep_edit_spec.proofs.Lists.LinesInPlace.{run_goes_on_in_place}
 pub use Rattle.keep_edit_spec.proofs.Lists.BehindHeaders.{run_goes_on_behind}
 pub use Rattle.keep_edit_spec.proofs.Lists.MadeChanges.{change_lawful}

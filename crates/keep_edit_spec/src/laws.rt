@@ -167,15 +167,20 @@ pub fn runs_are_known()
 /// insert comes into a table whose header one of them brought, and adds its line alone behind that. If one of them
 /// sets a value, the run goes on by a set of that value, too: the later set takes the place of the earlier one. So it
 /// goes on where a key that one of them renames is renamed again, if the others leave the first key's rename alone; and
-/// where the value of a line that one of them adds is set: the line is added with the later value. And it goes on by an
-/// insert at the end of a body whose last line one of them takes, as if the insert had come before that.
+/// where the value of a line that one of them adds is set: the line is added with the later value.
 pub fn runs_go_on_again()
     ensures known { lists.RunIsKnown }
     ensures behind { lists.RunGoesOnBehind }
     ensures run { lists.RunGoesOnAgain }
     ensures renamed { renames.RunGoesOnRenamed }
     ensures inserted { inserts.RunGoesOnInserted }
+{}
+
+/// Such a list goes on by an insert at the end of a body whose last line one of its edits takes, and by one into a
+/// table of dotted keys right before bytes that one takes: as if the insert had come before that edit.
+pub fn lines_come_before()
     ensures place { in_place.RunGoesOnInPlace }
+    ensures taken { in_place.RunGoesOnBefore }
 {}
 
 /// A line that comes to a byte at which earlier edits of such a list brought what has to come behind it comes before

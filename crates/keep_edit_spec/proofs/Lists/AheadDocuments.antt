@@ -8,7 +8,7 @@
 -- each comes by as many bytes further on as the line has (`further_on`). So both texts are the same, and a text is
 -- that of one document (`same_made`).
 --
--- Theorems: `documents_ahead`; `adds_bytes`: new lines have bytes.
+-- Theorems: `documents_ahead`; `adds_bytes`: new lines have bytes; `text_made`: the text with a change.
 use Rattle.std.proofs.Common.{◌≡◌, ◌≢◌, ◌<◌, ◌≤◌, ◌+◌, ℕ, true, false, List, [], ◌∷◌, ◌++◌, All, None, length, refl}
 use Rattle.std.proofs.Common.{sym, ap, subst, subst₂, ◌∙◌, arith, inl, inr, length-append, ◌&&◌}
 use Rattle.std.specs.Prelude.{Any, ◌==◌}
@@ -61,7 +61,7 @@ use Rattle.keep_edit_spec.proofs.Lists.StillMakes.{still_makes}
 use Rattle.keep_edit_spec.proofs.Lists.TextChanges.{moved_with}
 
 -- an edit that makes its change puts it into the text
-text_made : (profile : Profile) (limit : ℕ) (s : Document) (e : Edit) (c : TextChange) → IsEditable profile limit s
+pub text_made : (profile : Profile) (limit : ℕ) (s : Document) (e : Edit) (c : TextChange) → IsEditable profile limit s
     → MakesChange profile limit s e c → text (edited_document s e) ≡ put (text s) (place_of_change c)
 text_made profile limit s e c fine h = change_put s e ∙ change_puts profile limit s e c fine h
 

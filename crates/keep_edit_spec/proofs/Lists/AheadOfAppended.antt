@@ -8,8 +8,7 @@
 -- same, too, since the text has one (HeaderLines).
 --
 -- Theorems: `adds_ahead_of_table`, `adds_ahead_of_element`.
-use Rattle.std.proofs.Common.{◌≡◌, ℕ, suc, true, List, [], refl, sym, ap, subst, ◌∙◌, arith, Option}
-use Rattle.std.proofs.lemmas.Bool.{lt-ltb}
+use Rattle.std.proofs.Common.{◌≡◌, ℕ, true, List, [], refl, sym, ap, subst, ◌∙◌, Option}
 use Rattle.keep_types.specs.declared.leaf.Profile.{Profile}
 use Rattle.keep_syntax.specs.Tree.{Content, Document, Value, element, header, text}
 use Rattle.keep_path.specs.Path.{Part}
@@ -23,7 +22,7 @@ use Rattle.keep_edit_spec.specs.Laws.{IsEditable}
 use Rattle.keep_edit_spec.specs.Lines.{is_header, newline_of}
 use Rattle.keep_edit_spec.specs.LinesAhead.{StillAddsAheadOfElement, StillAddsAheadOfTable}
 use Rattle.keep_edit_spec.specs.Runs.{IsSeenStill, PassesBy, PassesTable}
-use Rattle.keep_edit_spec.specs.TextChanges.{TextChange, change_at, moved_by}
+use Rattle.keep_edit_spec.specs.TextChanges.{TextChange}
 use Rattle.keep_edit_spec.specs.TextEnds.{ends_in_newline}
 use Rattle.keep_edit_spec.specs.declared.line_kind.LineKind.{LineKind}
 use Rattle.keep_edit_spec.specs.declared.line_kind.LineKind.TheVariants.{LastInBody, OfDotted, WithHeader}
@@ -34,13 +33,7 @@ use Rattle.keep_edit_spec.proofs.Lists.HeaderLines.{headed, newline_again}
 use Rattle.keep_edit_spec.proofs.Lists.InsertAfterHeader as line
 use Rattle.keep_edit_spec.proofs.Lists.LineKinds.{of_table, seen_still}
 use Rattle.keep_edit_spec.proofs.Lists.MadeStill.{brings_still}
-
--- A change right behind that byte leaves it where it is.
-abbrev behind : ℕ → TextChange
-behind at = change_at (suc at) 0 []
-
-unmoved : (at : ℕ) → moved_by (behind at) at ≡ at
-unmoved at = rw (lt-ltb at (suc at) (omega arith)) refl
+use Rattle.keep_edit_spec.proofs.Lists.TextChanges.{behind, unmoved}
 
 -- in that document, too, and seen there as before
 abbrev AddsThere : LineKind → Profile → ℕ → Document → List Part → Value → TextChange → Document → Type 0

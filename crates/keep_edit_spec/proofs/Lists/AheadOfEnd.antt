@@ -26,7 +26,6 @@ use Rattle.keep_edit_spec.specs.LinesAhead.{StillAddsAheadOfEnd}
 use Rattle.keep_edit_spec.specs.Look.{holder}
 use Rattle.keep_edit_spec.specs.TextChanges.{TextChange, moved_by}
 use Rattle.keep_edit_spec.specs.declared.line_kind.LineKind.TheVariants.{OfDotted}
-use Rattle.keep_edit_spec.proofs.Lists.AheadOfHeader.{behind, unmoved}
 use Rattle.keep_edit_spec.proofs.Lists.BodyEnds.{later_before, later_from}
 use Rattle.keep_edit_spec.proofs.Lists.DottedAfter.{bare_now}
 use Rattle.keep_edit_spec.proofs.Lists.DottedAfterLine.{last_now}
@@ -40,6 +39,7 @@ use Rattle.keep_edit_spec.proofs.Lists.OneLineMore.{reading_alike}
 use Rattle.keep_edit_spec.proofs.Lists.Places.{at_is, earlier, width}
 use Rattle.keep_edit_spec.proofs.Lists.PutsKeyval.{PutsKeyval, few_still, first_long, line_puts, lines_are}
 use Rattle.keep_edit_spec.proofs.Lists.SaidOnWay.{holder_stays, refusal_stays}
+use Rattle.keep_edit_spec.proofs.Lists.TextChanges.{behind, unmoved}
 
 module _ (profile : Profile) (limit : ℕ) (s : Document) (path : List Part) (value : Value) (c : TextChange)
     (other : List Part) (more : Value) (d : TextChange) (fine : IsEditable profile limit s)

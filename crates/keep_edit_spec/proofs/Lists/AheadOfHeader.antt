@@ -8,10 +8,9 @@
 -- which is the same (BroughtEnds). So the same line comes, where the first of the header's lines begins (AddsAgain,
 -- DottedAgain): as after a change behind it, which leaves it where it is.
 --
--- Theorems: `adds_ahead`; `unmoved`.
-use Rattle.std.proofs.Common.{◌≡◌, ◌≢◌, ℕ, suc, ◌≤◌, true, List, [], length, refl, sym, ap, subst, ◌∙◌, arith, Some}
+-- Theorem: `adds_ahead`.
+use Rattle.std.proofs.Common.{◌≡◌, ◌≢◌, ℕ, suc, ◌≤◌, true, List, length, refl, sym, ap, subst, ◌∙◌, arith, Some}
 use Rattle.std.proofs.Common.{inl, inr}
-use Rattle.std.proofs.lemmas.Bool.{lt-ltb}
 use Rattle.keep_types.specs.declared.leaf.Profile.{Profile}
 use Rattle.keep_syntax.specs.Tree.{Document, Value}
 use Rattle.keep_path.specs.Path.{Part}
@@ -24,7 +23,7 @@ use Rattle.keep_edit_spec.specs.Edits.{edited_document, end_of, insert}
 use Rattle.keep_edit_spec.specs.Laws.{IsEditable}
 use Rattle.keep_edit_spec.specs.LinesAhead.{StillAddsAhead}
 use Rattle.keep_edit_spec.specs.Look.{holder}
-use Rattle.keep_edit_spec.specs.TextChanges.{TextChange, change_at, moved_by}
+use Rattle.keep_edit_spec.specs.TextChanges.{TextChange, moved_by}
 use Rattle.keep_edit_spec.specs.declared.line_kind.LineKind.TheVariants.{LastInBody, OfDotted, WithHeader}
 use Rattle.keep_edit_spec.proofs.Lists.AddsAgain.{adds_there}
 use Rattle.keep_edit_spec.proofs.Lists.BroughtAllowed.{holder_clear, holder_stays, refusal_stays}
@@ -38,13 +37,7 @@ use Rattle.keep_edit_spec.proofs.Lists.LineAfterBrought.{dotted_differs, line_di
 use Rattle.keep_edit_spec.proofs.Lists.LineKinds.{seen_still}
 use Rattle.keep_edit_spec.proofs.Lists.NewPaths.{InsertsKeys, dotted_keys, line_keys}
 use Rattle.keep_edit_spec.proofs.Lists.Places.{at_is}
-
--- a change that leaves what comes to that byte where it is
-abbrev pub behind : ℕ → TextChange
-behind at = change_at (suc at) 0 []
-
-pub unmoved : (at : ℕ) → moved_by (behind at) at ≡ at
-unmoved at = rw (lt-ltb at (suc at) (omega arith)) refl
+use Rattle.keep_edit_spec.proofs.Lists.TextChanges.{behind, unmoved}
 
 module _ (profile : Profile) (limit : ℕ) (s : Document) (path : List Part) (value : Value) (c : TextChange)
     (other : List Part) (more : Value) (d : TextChange) (fine : IsEditable profile limit s)

@@ -4,9 +4,9 @@
 -- The last line that leads through the holder is not the one that is blank now, since that one does not end where the
 -- new line comes. So without it the last would be the same (OneLineLess), and so it is with a blank line there, which
 -- leads through no table and begins no body: at its number, and in its body. The line after it begins where it did, or
--- moved by the change (LineStarts). So the insert adds its own there (DottedAgain).
+-- moved by the change (LineStarts). So the insert adds its own there (DottedAgain), also right before the change.
 --
--- Theorem: `dotted_after_clear`.
+-- Theorems: `dotted_after_clear`; `dotted_before_clear`: right before what goes.
 use Rattle.std.proofs.Common.{◌≡◌, ◌≢◌, ℕ, suc, ◌+◌, true, List, ◌∷◌, ◌++◌, length, refl, sym, ap, subst, ◌∙◌, arith}
 use Rattle.std.proofs.Common.{Option, Some, None}
 use Rattle.std.specs.Option.{option_map}
@@ -15,6 +15,7 @@ use Rattle.keep_syntax.specs.Tree.{Value, Line, Document}
 use Rattle.keep_path.specs.Path.{Part, strip}
 use Rattle.keep_meaning.specs.Marks.{Reading, start}
 use Rattle.keep_meaning.specs.Meaning.{after_line, lines, mentions_in, reading_after_lines}
+use Rattle.keep_edit_spec.specs.AddedLines.{first_new}
 use Rattle.keep_edit_spec.specs.Changed.{Changed}
 use Rattle.keep_edit_spec.specs.ClearedLines.{ClearsLine, line_start}
 use Rattle.keep_edit_spec.specs.DottedLines.{AddsDotted, StillAdds}
@@ -22,25 +23,28 @@ use Rattle.keep_edit_spec.specs.Edits.{changed_or_same, edited_document, end_of,
 use Rattle.keep_edit_spec.specs.Laws.{IsEditable}
 use Rattle.keep_edit_spec.specs.Lines.{begins, last_line, leads_dotted, newline_of, reading_at}
 use Rattle.keep_edit_spec.specs.Look.{holder}
+use Rattle.keep_edit_spec.specs.Runs.{AreApart}
 use Rattle.keep_edit_spec.specs.TextChanges.{IsBeside, TextChange, moved, moved_by}
+use Rattle.keep_edit_spec.proofs.Common.Cuts.{IsCut}
 use Rattle.keep_edit_spec.proofs.Lists.DottedAfter.{bare_by}
 use Rattle.keep_edit_spec.proofs.Lists.DottedAgain.{IsLastThere, dotted_cut}
-use Rattle.keep_edit_spec.proofs.Lists.DottedKinds.{DottedAfterClear}
+use Rattle.keep_edit_spec.proofs.Lists.DottedKinds.{DottedAfterClear, DottedBeforeClear}
 use Rattle.keep_edit_spec.proofs.Lists.DottedLine.{at_is}
 use Rattle.keep_edit_spec.proofs.Lists.LineCleared as done
-use Rattle.keep_edit_spec.proofs.Lists.LineStarts.{line_moves}
+use Rattle.keep_edit_spec.proofs.Lists.LineStarts.{line_moves, line_stays}
 use Rattle.keep_edit_spec.proofs.Lists.NewHolder.{new_clear}
 use Rattle.keep_edit_spec.proofs.Lists.OneLineLess.{IsLastLess, last_less, none_less, reading_less}
 use Rattle.keep_edit_spec.proofs.Lists.OneLineMore.{none_still}
 use Rattle.keep_edit_spec.proofs.Lists.OwnLine.{before_length, cut_now}
 use Rattle.keep_edit_spec.proofs.Lists.Places.{later_line}
 use Rattle.keep_edit_spec.proofs.Lists.RemovedOwn.{last_without}
+use Rattle.keep_edit_spec.proofs.Lists.TextChanges.{behind, unmoved}
 
 module _ (profile : Profile) (limit : ℕ) (s : Document) (path : List Part) (l : TextChange)
     (other : List Part) (more : Value) (m : TextChange) (fine : IsEditable profile limit s)
     (h : ClearsLine profile limit s path l) (k : AddsDotted profile limit s other more m)
-    (side : IsBeside l m) (past : l.at + l.size ≢ m.at) where
-  abbrev x : Changed Document
+    (past : l.at + l.size ≢ m.at) where
+  abbrev pub x : Changed Document
   x = done.x profile limit s path l fine h
 
   to_is : x.to ≡ done.now profile limit s path l fine h
@@ -112,7 +116,7 @@ module _ (profile : Profile) (limit : ℕ) (s : Document) (path : List Part) (l 
       (none_less start before here after keeps (begins b)
       (ap (last_line (begins b) start) (sym lines_were) ∙ none)))
 
-  there : IsLastThere s other k.number x.to k.number
+  pub there : IsLastThere s other k.number x.to k.number
   there = record {
     bare = bare_now;
     last = last_now;
@@ -122,8 +126,19 @@ module _ (profile : Profile) (limit : ℕ) (s : Document) (path : List Part) (l 
 
   -- ---- where the new line comes
 
-  at_now : line_start x.to (suc k.number) ≡ moved_by l m.at
-  at_now =
+  cut : IsCut path (mentions_in s) (mentions_in x.to)
+  cut =
+      cut_now profile limit s path h.number fine h.own h.closed x.to
+      (ap mentions_in to_is ∙ done.said_now profile limit s path l fine h)
+
+  -- as this change moves it
+  pub adds_by : (c : TextChange) → line_start x.to (suc k.number) ≡ moved_by c m.at → strip path other ≡ None
+      → newline_of x.to ≡ newline_of s → StillAdds true profile limit s x.to other more (moved c m)
+  adds_by c at_now clear same =
+      dotted_cut profile limit s x.to other more c m k k.number there at_now same path cut clear
+
+  at_now : IsBeside l m → line_start x.to (suc k.number) ≡ moved_by l m.at
+  at_now side =
       omega (
         arith,
         line_moves s x (done.thin profile limit s path l fine h) m (done.lines_begin profile limit s path l fine h)
@@ -132,18 +147,34 @@ module _ (profile : Profile) (limit : ℕ) (s : Document) (path : List Part) (l 
         done.moves profile limit s path l fine h m.at,
       )
 
-  adds_now : strip path other ≡ None → newline_of x.to ≡ newline_of s
-      → StillAdds true profile limit s x.to other more (moved l m)
-  adds_now clear same =
-      dotted_cut profile limit s x.to other more l m k k.number there at_now same path
-      (cut_now profile limit s path h.number fine h.own h.closed x.to
-      (ap mentions_in to_is ∙ done.said_now profile limit s path l fine h))
-      clear
-
-pub dotted_after_clear : DottedAfterClear
-dotted_after_clear profile limit s path l other more m fine h k apart side same past =
+pub dotted_by_clear : (profile : Profile) (limit : ℕ) (s : Document) (path : List Part) (l : TextChange)
+    (other : List Part) (more : Value) (m : TextChange) (fine : IsEditable profile limit s)
+    (h : ClearsLine profile limit s path l) (k : AddsDotted profile limit s other more m)
+    → AreApart path (first_new s other) → newline_of (edited_document s (remove path)) ≡ newline_of s
+    → l.at + l.size ≢ m.at → (c : TextChange)
+    → line_start (done.x profile limit s path l fine h).to (suc k.number) ≡ moved_by c m.at
+    → StillAdds true profile limit s (edited_document s (remove path)) other more (moved c m)
+dotted_by_clear profile limit s path l other more m fine h k apart same past c at_now =
     let to : (done.x profile limit s path l fine h).to ≡ edited_document s (remove path) =
     ap (λ (o : Option (Changed Document)). (changed_or_same s o).to) (sym (done.made profile limit s path l fine h)) in
     let clear : strip path other ≡ None = new_clear s other k.text k.more k.new path apart in
-    subst (λ (t : Document). StillAdds true profile limit s t other more (moved l m)) to
-    (adds_now profile limit s path l other more m fine h k side past clear (ap newline_of to ∙ same))
+    subst (λ (t : Document). StillAdds true profile limit s t other more (moved c m)) to
+    (adds_by profile limit s path l other more m fine h k past c at_now clear (ap newline_of to ∙ same))
+
+pub dotted_after_clear : DottedAfterClear
+dotted_after_clear profile limit s path l other more m fine h k apart side same past =
+    dotted_by_clear profile limit s path l other more m fine h k apart same past l
+    (at_now profile limit s path l other more m fine h k past side)
+
+pub dotted_before_clear : DottedBeforeClear
+dotted_before_clear profile limit s path l other more m fine h k apart starts same =
+    let past : l.at + l.size ≢ m.at =
+    λ e. omega (arith, e, starts, h.some, h.is.start, h.is.end) in
+    subst (λ (i : ℕ). StillAdds true profile limit s (edited_document s (remove path)) other more (record m { at = i }))
+    (unmoved m.at)
+    (dotted_by_clear profile limit s path l other more m fine h k apart same past (behind m.at)
+    (line_stays s (done.x profile limit s path l fine h) (done.thin profile limit s path l fine h)
+    (done.lines_begin profile limit s path l fine h) (done.there profile limit s path l fine h)
+    (done.some profile limit s path l fine h) (suc k.number)
+    (sym h.is.start ∙ starts ∙ at_is profile limit s other more m k)
+    ∙ sym (at_is profile limit s other more m k) ∙ sym (unmoved m.at)))

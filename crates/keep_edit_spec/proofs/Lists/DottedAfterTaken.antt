@@ -5,10 +5,11 @@
 -- changed path (`leads_below`). So the last line that leads through the holder is the same one, in the same body
 -- (TakenFound), and no header begins a body of the holder (TakenEnds). What the insert adds is beside what goes, so the
 -- line is not the one right before the header that goes, and the next begins where it did, or earlier by the bytes that
--- go (`at_now`). So the insert adds its own there (DottedAgain).
+-- go (`at_now`). Where it comes right before what goes, it is that line, and the next begins where the header did
+-- (`at_there`). So the insert adds its own there (DottedAgain).
 --
--- Theorems: `dotted_after_taken`; `leads_keyval`, `leads_body`, `leads_below`: the test of lines that lead through a
--- path.
+-- Theorems: `dotted_after_taken`, `dotted_before_taken`; `leads_keyval`, `leads_body`, `leads_below`: the test of lines
+-- that lead through a path.
 use Rattle.std.proofs.Common.{◌≡◌, ◌≢◌, ℕ, suc, ◌+◌, ◌≤◌, Bool, true, false, List, [], ◌∷◌, ◌++◌, length, map, refl}
 use Rattle.std.proofs.Common.{sym, ap, subst, ◌∙◌, append_assoc, arith, Some, None, inl, inr}
 use Rattle.keep_types.specs.declared.leaf.Profile.{Profile}
@@ -29,14 +30,16 @@ use Rattle.keep_edit_spec.proofs.Common.Runs.{strip-append, strip-sound}
 use Rattle.keep_edit_spec.proofs.Insert.InsertDotted.{IsDotted, dotted_content}
 use Rattle.keep_edit_spec.proofs.Lists.DottedAgain.{IsLastThere, dotted_said}
 use Rattle.keep_edit_spec.proofs.Lists.DottedLine.{at_is}
+use Rattle.keep_edit_spec.proofs.Lists.InsertInPlace.{same_number}
 use Rattle.keep_edit_spec.proofs.Lists.NewHolder.{new_clear}
 use Rattle.keep_edit_spec.proofs.Lists.SaidBeside.{said_now}
 use Rattle.keep_edit_spec.proofs.Lists.SetAllowed.{prefix_clear}
 use Rattle.keep_edit_spec.proofs.Lists.TakenEnds.{none_now}
 use Rattle.keep_edit_spec.proofs.Lists.TakenFound.{IsFoundStill, AsksBodies, IsOfKeyvals, PassesNoneBelow, found_now}
 use Rattle.keep_edit_spec.proofs.Lists.TakenGone as taken
-use Rattle.keep_edit_spec.proofs.Lists.TakenKinds.{DottedAfterTaken}
+use Rattle.keep_edit_spec.proofs.Lists.TakenKinds.{DottedAfterTaken, DottedBeforeTaken}
 use Rattle.keep_edit_spec.proofs.Lists.TakenSearch.{is_keyval}
+use Rattle.keep_edit_spec.proofs.Lists.TextChanges.{behind, unmoved}
 
 -- ---- lines that lead through a path
 
@@ -86,7 +89,7 @@ module _ (b : List Part) where
 module _ (profile : Profile) (limit : ℕ) (s : Document) (path : List Part) (c : TextChange)
     (other : List Part) (more : Value) (d : TextChange) (fine : IsEditable profile limit s)
     (h : RemovesHeader profile limit s path c) (k : AddsDotted profile limit s other more d)
-    (clear : strip (changed_path path) other ≡ None) (beside : IsBeside c d) where
+    (clear : strip (changed_path path) other ≡ None) where
   abbrev now : Document
   now = taken.now profile limit s path c fine h
 
@@ -134,28 +137,54 @@ module _ (profile : Profile) (limit : ℕ) (s : Document) (path : List Part) (c 
   d_at : d.at ≡ line_start s (suc k.number)
   d_at = at_is profile limit s other more d k
 
-  -- what is added is beside what goes
-  next_apart : suc k.number ≢ n
-  next_apart e =
-      taken.begins_elsewhere profile limit s path c fine h d beside
-      (taken.start_is profile limit s path c fine h ∙ ap (line_start s) (sym e) ∙ sym d_at)
-
-  at_now : line_start now (suc j) ≡ moved_by c d.at
-  at_now = elim found.place [
-    | inl to ↦
-        let apart : suc k.number ≢ n = next_apart in
-        sym (taken.at_before profile limit s path c fine h (suc j) d.at (omega (arith, to.0, to.1, apart))
-        (d_at ∙ ap (λ (i : ℕ). line_start s (suc i)) to.1))
-    | inr from ↦
-        let next : suc k.number ≡ suc j + gone = omega (arith, from.1) in
-        sym (taken.at_from profile limit s path c fine h (suc j) d.at (omega (arith, from.0))
-        (d_at ∙ ap (line_start s) next))
-  ]
-
-  adds_now : newline_of now ≡ newline_of s → StillAdds true profile limit s now other more (moved c d)
-  adds_now same =
-      dotted_said profile limit s now other more c d k j there at_now same (changed_path path)
+  -- as this change moves it
+  adds_by : (e : TextChange) → line_start now (suc j) ≡ moved_by e d.at → newline_of now ≡ newline_of s
+      → StillAdds true profile limit s now other more (moved e d)
+  adds_by e at same =
+      dotted_said profile limit s now other more e d k j there at same (changed_path path)
       (said_now profile limit s path c fine h) clear
+
+  -- what is added is beside what goes
+  module _ (beside : IsBeside c d) where
+    next_apart : suc k.number ≢ n
+    next_apart e =
+        taken.begins_elsewhere profile limit s path c fine h d beside
+        (taken.start_is profile limit s path c fine h ∙ ap (line_start s) (sym e) ∙ sym d_at)
+
+    at_now : line_start now (suc j) ≡ moved_by c d.at
+    at_now = elim found.place [
+      | inl to ↦
+          sym (taken.at_before profile limit s path c fine h (suc j) d.at (omega (arith, to.0, to.1, next_apart))
+          (d_at ∙ ap (λ (i : ℕ). line_start s (suc i)) to.1))
+      | inr from ↦
+          let next : suc k.number ≡ suc j + gone = omega (arith, from.1) in
+          sym (taken.at_from profile limit s path c fine h (suc j) d.at (omega (arith, from.0))
+          (d_at ∙ ap (line_start s) next))
+    ]
+
+    adds_now : newline_of now ≡ newline_of s → StillAdds true profile limit s now other more (moved c d)
+    adds_now = adds_by c at_now
+
+  -- or right before it
+  module _ (starts : c.at ≡ d.at) where
+    next : suc k.number ≡ n
+    next =
+        same_number profile limit s fine (suc k.number) n k.closed
+        (omega (arith, taken.few profile limit s path c fine h))
+        (sym d_at ∙ sym starts ∙ taken.start_is profile limit s path c fine h)
+
+    same : k.number ≡ j
+    same = elim found.place [ inl to ↦ to.1 | inr from ↦ absurd (omega (arith, from.0, from.1, next)) ]
+
+    at_there : line_start now (suc j) ≡ moved_by (behind d.at) d.at
+    at_there =
+        taken.start_before profile limit s path c fine h (suc j) (omega (arith, same, next))
+        ∙ ap (λ (i : ℕ). line_start s (suc i)) (sym same) ∙ sym d_at ∙ sym (unmoved d.at)
+
+    adds_there : newline_of now ≡ newline_of s → StillAdds true profile limit s now other more d
+    adds_there newline =
+        subst (λ (i : ℕ). StillAdds true profile limit s now other more (record d { at = i })) (unmoved d.at)
+        (adds_by (behind d.at) at_there newline)
 
 pub dotted_after_taken : DottedAfterTaken
 dotted_after_taken profile limit s path c other more d fine h k apart beside same past =
@@ -164,3 +193,11 @@ dotted_after_taken profile limit s path c other more d fine h k apart beside sam
     new_clear s other k.text k.more k.new (changed_path path) apart in
     subst (λ (z : Document). StillAdds true profile limit s z other more (moved c d)) (sym is)
     (adds_now profile limit s path c other more d fine h k clear beside (ap newline_of (sym is) ∙ same))
+
+pub dotted_before_taken : DottedBeforeTaken
+dotted_before_taken profile limit s path c other more d fine h k apart starts same =
+    let is = taken.is_now profile limit s path c fine h in
+    let clear : strip (changed_path path) other ≡ None =
+    new_clear s other k.text k.more k.new (changed_path path) apart in
+    subst (λ (z : Document). StillAdds true profile limit s z other more d) (sym is)
+    (adds_there profile limit s path c other more d fine h k clear starts (ap newline_of (sym is) ∙ same))

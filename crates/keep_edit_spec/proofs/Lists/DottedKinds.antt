@@ -1,5 +1,6 @@
 -- What is shown of an insert that adds a line to a table which dotted keys make, after an edit of another kind: it adds
--- the same one, after the same line, if that edit made its change elsewhere and not right before it.
+-- the same one, after the same line, if that edit made its change elsewhere and not right before it; and right before
+-- the bytes that an edit of what is there takes from that place on.
 use Rattle.std.specs.Prelude.{◌≡◌, ◌≢◌, ℕ, ◌+◌, true, List}
 use Rattle.keep_types.specs.declared.leaf.Profile.{Profile}
 use Rattle.keep_syntax.specs.Tree.{Document, Value}
@@ -70,3 +71,41 @@ DottedAfterElement =
     → PassesBy keys (first_new s other) → c.at ≢ d.at
     → newline_of (edited_document s (append_element keys)) ≡ newline_of s
     → StillAdds true profile limit s (edited_document s (append_element keys)) other more (moved c d)
+
+-- ---- right before what goes
+
+abbrev pub DottedBeforeSet : Type 0
+DottedBeforeSet =
+    (profile : Profile) (limit : ℕ) (s : Document) (path : List Part) (value : Value) (c : TextChange)
+    (other : List Part) (more : Value) (d : TextChange)
+    → IsEditable profile limit s → SetsValue profile limit s path value c → AddsDotted profile limit s other more d
+    → AreApart path (first_new s other) → c.at ≡ d.at
+    → newline_of (edited_document s (set path value)) ≡ newline_of s
+    → StillAdds true profile limit s (edited_document s (set path value)) other more d
+
+abbrev pub DottedBeforeRename : Type 0
+DottedBeforeRename =
+    (profile : Profile) (limit : ℕ) (s : Document) (path : List Part) (name : List ℕ) (c : TextChange)
+    (other : List Part) (more : Value) (d : TextChange)
+    → IsEditable profile limit s → RenamesKey profile limit s path name c → AddsDotted profile limit s other more d
+    → AreApart path (first_new s other) → AreApart (beside path name) (first_new s other) → c.at ≡ d.at
+    → newline_of (edited_document s (rename path name)) ≡ newline_of s
+    → StillAdds true profile limit s (edited_document s (rename path name)) other more d
+
+abbrev pub DottedBeforeRemove : Type 0
+DottedBeforeRemove =
+    (profile : Profile) (limit : ℕ) (s : Document) (path : List Part) (c : TextChange)
+    (other : List Part) (more : Value) (d : TextChange)
+    → IsEditable profile limit s → RemovesLine profile limit s path c → AddsDotted profile limit s other more d
+    → AreApart path (first_new s other) → c.at ≡ d.at
+    → newline_of (edited_document s (remove path)) ≡ newline_of s
+    → StillAdds true profile limit s (edited_document s (remove path)) other more d
+
+abbrev pub DottedBeforeClear : Type 0
+DottedBeforeClear =
+    (profile : Profile) (limit : ℕ) (s : Document) (path : List Part) (c : TextChange)
+    (other : List Part) (more : Value) (d : TextChange)
+    → IsEditable profile limit s → ClearsLine profile limit s path c → AddsDotted profile limit s other more d
+    → AreApart path (first_new s other) → c.at ≡ d.at
+    → newline_of (edited_document s (remove path)) ≡ newline_of s
+    → StillAdds true profile limit s (edited_document s (remove path)) other more d

@@ -5,7 +5,8 @@
 -- cut, or in a later one. A line that begins beside the change, where a change of its own begins or ends, begins where
 -- that does once it is moved (`line_moves`).
 --
--- Theorems: `set_lines_begin`, `rename_lines_begin`: after a set, and after a rename; `line_moves`.
+-- Theorems: `set_lines_begin`, `rename_lines_begin`: after a set, and after a rename; `line_moves`; `line_stays`: where
+-- the change begins.
 use Rattle.std.proofs.Common.{◌≡◌, ℕ, zero, suc, ◌+◌, ◌<◌, ◌≤◌, List, [], ◌∷◌, ◌++◌, length, take, refl, ap}
 use Rattle.std.proofs.Common.{length-append, arith, Option, Some, None, inl, inr}
 use Rattle.std.specs.Prelude.{◌⊎◌}
@@ -160,3 +161,11 @@ line_moves s x c d begin there some side n k few is = by (begin.moves n) side
         rw (le-ltb d.at c.at (omega (arith, past))) (omega (arith, past)) in
         omega (arith, g.1, there.size, there.new, is, same)
     by (inr g) (inr far) = absurd (omega (arith, g.0, there.at, there.size, far.1, is, few, some))
+
+-- Where a line begins as the change itself does, it begins so after it, too.
+pub line_stays : (s : Document) (x : Changed Document) (c : TextChange) → LinesBegin s x → IsChangeAt c x
+    → 0 < c.size → (n : ℕ) → c.at ≡ line_start s n → line_start x.to n ≡ line_start s n
+line_stays s x c begin there some n is = elim (begin.moves n) [
+  | inl up_to ↦ up_to.1
+  | inr past ↦ absurd (omega (arith, past.0, there.at, there.size, some, is))
+]

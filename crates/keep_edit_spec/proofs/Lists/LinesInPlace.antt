@@ -19,7 +19,7 @@ use Rattle.keep_path.specs.Path.{Part}
 use Rattle.keep_edit_spec.specs.Edits.{Edit, append_element, append_table, edited_document, insert, remove, rename, set}
 use Rattle.keep_edit_spec.specs.InsertKinds.{Added, AddsAs, IsAfterLine, added_as, is_last_in_body, kind_of}
 use Rattle.keep_edit_spec.specs.Laws.{IsEditable}
-use Rattle.keep_edit_spec.specs.LinesInPlace.{CanComeInPlace, FreesPlace, IsRunInPlace, RunGoesOnInPlace}
+use Rattle.keep_edit_spec.specs.LinesInPlace.{CanComeInPlace, FreesPlace, IsRunBefore, RunGoesOnInPlace}
 use Rattle.keep_edit_spec.specs.RunLists.{AreAtOnce, Follows, IsOneOf, MadeEdit, MakesInPlace, changes_of}
 use Rattle.keep_edit_spec.specs.RunLists.{document_after, lines_of, made, seen_of}
 use Rattle.keep_edit_spec.specs.Runs.{ArePlain, ComesInPlace, IsPlain, IsRun, IsSeenStill, KeepsPlace, LeavesAlone}
@@ -43,13 +43,13 @@ use Rattle.keep_edit_spec.proofs.Lists.TextsAfter.{IsTextAfter, of_run}
 -- ---- the remove
 
 -- what a remove leaves alone leaves it alone
-left_back : (gone : List Part) (f : Edit) → LeavesAlone (remove gone) f → LeavesAlone f (remove gone)
-left_back gone (insert path value) h = (h.1, h.0)
-left_back gone (remove path) h = tt
-left_back gone (set path value) h = (h.1, h.0)
-left_back gone (rename path name) h = ((h.0.1, h.0.0), h.1)
-left_back gone (append_table keys) h = h
-left_back gone (append_element keys) h = h
+pub remove_back : (gone : List Part) (f : Edit) → LeavesAlone (remove gone) f → LeavesAlone f (remove gone)
+remove_back gone (insert path value) h = (h.1, h.0)
+remove_back gone (remove path) h = tt
+remove_back gone (set path value) h = (h.1, h.0)
+remove_back gone (rename path name) h = ((h.0.1, h.0.0), h.1)
+remove_back gone (append_table keys) h = h
+remove_back gone (append_element keys) h = h
 
 -- and an insert leaves alone what leaves it alone
 alone_back : (path : List Part) (value : Value) (gone : List Part) → LeavesAlone (remove gone) (insert path value)
@@ -80,7 +80,7 @@ is_remove profile limit s lines (append_element keys) c fine some none (inl make
 is_remove profile limit s lines (append_element keys) c fine some none (inr never) = absurd never
 
 -- what one of the edits makes after those before it
-makes_own : (profile : Profile) (limit : ℕ) (s : Document) (m : MadeEdit) (later earlier : List MadeEdit)
+pub makes_own : (profile : Profile) (limit : ℕ) (s : Document) (m : MadeEdit) (later earlier : List MadeEdit)
     → AreAtOnce profile limit s (later ++ m ∷ earlier)
     → MakesInPlace profile limit s (seen_of s earlier) (changes_of earlier) (lines_of s earlier) m.edit m.change
 makes_own profile limit s m [] earlier h = h.0
@@ -107,18 +107,18 @@ each_one (m ∷ ms) =
     )) ms (each_one ms))
 
 -- one of the edits makes the change
-record HasMade (ms : List MadeEdit) (c : TextChange) : Type 0 where
-  m : MadeEdit
-  rest : List MadeEdit
-  one : IsOneOf m ms rest
-  is : m.change ≡ c
+pub record HasMade (ms : List MadeEdit) (c : TextChange) : Type 0 where
+  pub m : MadeEdit
+  pub rest : List MadeEdit
+  pub one : IsOneOf m ms rest
+  pub is : m.change ≡ c
 
 in_middle : (P : TextChange → Type 0) (before after : List TextChange) (c : TextChange) → All P (before ++ c ∷ after)
     → P c
 in_middle P [] after c all = All-head P c after all
 in_middle P (x ∷ before) after c all = in_middle P before after c (All-tail P x (before ++ c ∷ after) all)
 
-has_made : (s : Document) (ms : List MadeEdit) (before after : List TextChange) (c : TextChange)
+pub has_made : (s : Document) (ms : List MadeEdit) (before after : List TextChange) (c : TextChange)
     → changes_of ms ≡ before ++ c ∷ after → HasMade ms c
 has_made s ms before after c is =
     let Found : TextChange → Type 0 = λ (x : TextChange). x ≡ c → HasMade ms c in
@@ -128,7 +128,7 @@ has_made s ms before after c is =
     (All-weaker (λ m. (rest : List MadeEdit) × IsOneOf m ms rest) (λ m. Found m.change)
     (λ m (rest, one) same. record { m = m; rest = rest; one = one; is = same }) ms (each_one ms)))) refl
 
-its_kind : (profile : Profile) (limit : ℕ) (s : Document) (edits : List Edit) (changes : List TextChange)
+pub its_kind : (profile : Profile) (limit : ℕ) (s : Document) (edits : List Edit) (changes : List TextChange)
     (lines : List Added) (e : Edit) (c : TextChange) → MakesInPlace profile limit s edits changes lines e c
     → MakesChange profile limit s e c ⊎ Follows profile limit s lines e c
 its_kind profile limit s edits changes lines e c (inl h) = inl h.0
@@ -172,7 +172,7 @@ module _ (profile : Profile) (limit : ℕ) (s : Document) (ms rest : List MadeEd
   k =
       last_of profile limit s e c (λ makes. (removes_there profile limit s gone c fine makes).1)
       (λ lines never. never) (λ edits cs lines. tt) ms rest one
-      (all_hold (λ g. LeavesAlone e g → LeavesAlone g e) (left_back gone) (seen_of s rest)) h
+      (all_hold (λ g. LeavesAlone e g → LeavesAlone g e) (remove_back gone) (seen_of s rest)) h
 
   abbrev now : Document
   now = document_after s rest
@@ -334,11 +334,15 @@ module _ (profile : Profile) (limit : ℕ) (s : Document) (ms rest : List MadeEd
       one_document profile (edited_document (document_after s ms) f) (document_after s both) first.editable.valid
       last.editable.valid (first.text ∙ ap (text_with 0 (text s)) (sym same_changes) ∙ sym last.text)
 
-  goes_on : IsRunInPlace profile limit s ms path value c d
+  goes_on : IsRunBefore profile limit s ms path value LastInBody d (with_change (changes_of ms) d)
   goes_on = record {
-    gone = gone;
+    last = made e c;
     others = rest;
     one = one;
+    no_line = λ lines. refl;
+    no_header = refl;
+    there = moved_past (changes_of ms) d;
+    new_is = refl;
     makes = makes_after;
     seen_still = subst (λ (t : Document). IsSeenStill s t f) (sym now_is)
         (seen_on s now (edited_document now e) f there.1 after.1);
@@ -346,7 +350,7 @@ module _ (profile : Profile) (limit : ℕ) (s : Document) (ms rest : List MadeEd
         (LastInBody, makes_after);
     same = same_made;
     still = still_at_once;
-    changes = same_changes;
+    changes_are = same_changes;
   }
 
 -- ---- the law

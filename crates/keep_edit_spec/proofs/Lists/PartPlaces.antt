@@ -7,7 +7,7 @@
 -- for what comes after it the width of the changed part is known from the cut of its text (`cut_long`).
 --
 -- Theorems: `part_stays`: of the key part with a number; `parts_stay`: of all, in a document.
-use Rattle.std.proofs.Common.{◌≡◌, ℕ, zero, suc, ◌+◌, ◌-◌, ◌≤◌, List, [], ◌∷◌, ◌++◌, length, slice_get, refl, ap}
+use Rattle.std.proofs.Common.{◌≡◌, ℕ, zero, suc, ◌+◌, ◌-◌, ◌<◌, ◌≤◌, List, [], ◌∷◌, ◌++◌, length, slice_get, refl, ap}
 use Rattle.std.proofs.Common.{subst, ◌∙◌, length-append, arith, Option, Some, None}
 use Rattle.std.specs.Prelude.{⊤, codes, position}
 use Rattle.std.specs.List.{flat_map}
@@ -97,6 +97,15 @@ furthers_long f fs =
 name_long : (n : Name) → width (name_leaves n) ≡ width (key_leaves n.key)
     + width (n.before ++ (token leaf.Equals (0x3D ∷ []) ++ n.after))
 name_long n = width-append (key_leaves n.key) (n.before ++ (token leaf.Equals (0x3D ∷ []) ++ n.after))
+
+pub name_some : (n : Name) → 0 < width (name_leaves n)
+name_some n =
+    omega (
+      arith,
+      name_long n,
+      width-append n.before (token leaf.Equals (0x3D ∷ []) ++ n.after),
+      width-append (token leaf.Equals (0x3D ∷ [])) n.after,
+    )
 
 value_long : (body : Body) (es : Entries)
     → width (opening body ++ (entries_leaves es ++ closing body))

@@ -127,14 +127,14 @@ all_hold P holds (e ∷ es) = All-cons P e es (holds e) (all_hold P holds es)
 -- ---- what leaves a set alone
 
 -- It is left alone by the set.
-alone_back : (path : List Part) (value : Value) (f : Edit) → LeavesAlone (set path value) f
+pub set_back : (path : List Part) (value : Value) (f : Edit) → LeavesAlone (set path value) f
     → LeavesAlone f (set path value)
-alone_back path value (insert other more) h = (h.1, h.0)
-alone_back path value (remove other) h = (h.1, h.0)
-alone_back path value (set other more) h = tt
-alone_back path value (rename other name) h = ((h.0.1, h.0.0), h.1)
-alone_back path value (append_table keys) h = h
-alone_back path value (append_element keys) h = h
+set_back path value (insert other more) h = (h.1, h.0)
+set_back path value (remove other) h = (h.1, h.0)
+set_back path value (set other more) h = tt
+set_back path value (rename other name) h = ((h.0.1, h.0.0), h.1)
+set_back path value (append_table keys) h = h
+set_back path value (append_element keys) h = h
 
 -- And it leaves alone a set to any other value.
 alone_again : (path : List Part) (value more : Value) (f : Edit) → LeavesAlone f (set path value)
@@ -398,7 +398,7 @@ module _ (profile : Profile) (limit : ℕ) (s : Document) (path : List Part) (va
   set_last : (ms rest : List MadeEdit) → IsOneOf (made e c) ms rest → AreAtOnce profile limit s ms → SetLast ms rest
   set_last ms rest is =
       last_of profile limit s e c some_bytes (λ lines never. never) any_place ms rest is
-      (all_hold (λ f. LeavesAlone e f → LeavesAlone f e) (alone_back path value) (seen_of s rest))
+      (all_hold (λ f. LeavesAlone e f → LeavesAlone f e) (set_back path value) (seen_of s rest))
 
   module _ (ms rest : List MadeEdit) (fine : IsEditable profile limit s) (k : SetLast ms rest) (more : Value)
       (d : TextChange) (makes : SetsValue profile limit s path more d) (at : c.at ≡ d.at) (size : c.size ≡ d.size)

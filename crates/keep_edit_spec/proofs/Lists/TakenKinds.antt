@@ -156,6 +156,15 @@ DottedAfterTaken =
     → newline_of (edited_document s (remove path)) ≡ newline_of s → c.at + c.size ≢ d.at
     → StillAdds true profile limit s (edited_document s (remove path)) other more (moved c d)
 
+abbrev pub DottedBeforeTaken : Type 0
+DottedBeforeTaken =
+    (profile : Profile) (limit : ℕ) (s : Document) (path : List Part) (c : TextChange)
+    (other : List Part) (more : Value) (d : TextChange)
+    → IsEditable profile limit s → RemovesHeader profile limit s path c → AddsDotted profile limit s other more d
+    → AreApart (changed_path path) (first_new s other) → c.at ≡ d.at
+    → newline_of (edited_document s (remove path)) ≡ newline_of s
+    → StillAdds true profile limit s (edited_document s (remove path)) other more d
+
 abbrev pub BroughtAfterTaken : Type 0
 BroughtAfterTaken =
     (profile : Profile) (limit : ℕ) (s : Document) (path : List Part) (c : TextChange)

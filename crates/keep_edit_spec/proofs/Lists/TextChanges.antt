@@ -9,7 +9,7 @@
 --
 -- Theorems: `follow_with`, `text_with_one`, `put_in_front`, `moved_with`, `moved_next`, `beside_past`, `end_apart`,
 -- `end_apart_let`, `begins_apart`, `begins_at_one`, `all_with`, `one_of_all`, `rest_of_all`, `none_with`,
--- `length_with`; `gone_room`, `past_later`.
+-- `length_with`; `gone_room`, `past_later`; `unmoved`: a change right behind a byte.
 use Rattle.std.proofs.Common.{◌≡◌, ◌≢◌, ℕ, ◌+◌, ◌-◌, ◌<◌, ◌≤◌, Bool, true, false, cond, List, [], ◌∷◌, ◌++◌, length}
 use Rattle.std.proofs.Common.{take, drop, get_or, suc, All, refl, sym, ap, ap₂, ◌∙◌, append_assoc, arith, inl, inr}
 use Rattle.std.proofs.Common.{length-append, length-drop}
@@ -24,6 +24,15 @@ use Rattle.keep_edit_spec.specs.Changed.{Place, put}
 use Rattle.keep_edit_spec.specs.Runs.{LetsCome, takes_up_to}
 use Rattle.keep_edit_spec.specs.TextChanges.{Follow, IsBeside, TextChange, come_to, gone_to, moved, moved_by_all}
 use Rattle.keep_edit_spec.specs.TextChanges.{moved_by, moved_past, change_at, place_of_change, text_with, with_change}
+
+-- ---- one change
+
+-- A change right behind that byte leaves it where it is.
+abbrev pub behind : ℕ → TextChange
+behind at = change_at (suc at) 0 []
+
+pub unmoved : (at : ℕ) → moved_by (behind at) at ≡ at
+unmoved at = rw (lt-ltb at (suc at) (omega arith)) refl
 
 -- ---- the elements
 
@@ -564,36 +573,36 @@ seam w l r n is long = (
   ap₂ (λ (m : ℕ) (t : List ℕ). drop m t) long is ∙ drop-append_seam l r,
 )
 
--- more comes at a byte, and then something new in front of it; or the new first, and the more behind it
-come_in_front : (bytes new more : List ℕ) (at : ℕ) → at ≤ length bytes
-    → put (put bytes (put_at at 0 more)) (put_at at 0 new)
-    ≡ put (put bytes (put_at at 0 new)) (put_at (at + length new) 0 more)
-come_in_front bytes new more at few =
+-- bytes give place to others, and then something new comes in front; or the new first, and the others behind it
+come_in_front : (bytes new more : List ℕ) (at size : ℕ) → at ≤ length bytes
+    → put (put bytes (put_at at size more)) (put_at at 0 new)
+    ≡ put (put bytes (put_at at 0 new)) (put_at (at + length new) size more)
+come_in_front bytes new more at size few =
     let a : List ℕ = take at bytes in
-    let r : List ℕ = drop (at + 0) bytes in
+    let b : List ℕ = drop (at + 0) bytes in
+    let r : List ℕ = drop (at + size) bytes in
+    let w : List ℕ = a ++ (new ++ b) in
     let long : length a ≡ at = omega (arith, length-take at bytes, few) in
     let front = seam (a ++ (more ++ r)) a (more ++ r) at refl (sym long) in
     let ends : at + length new ≡ length (a ++ new) = omega (arith, long, length-append a new) in
-    let back = seam (a ++ (new ++ r)) (a ++ new) r (at + length new) (sym (append_assoc a new r)) ends in
+    let back = seam w (a ++ new) b (at + length new) (sym (append_assoc a new b)) ends in
+    let rest : drop (at + length new + size) w ≡ r =
+    sym (drop-drop size (at + length new) w) ∙ ap (drop size) back.1 ∙ drop-drop size (at + 0) bytes
+    ∙ ap (λ (n : ℕ). drop n bytes) (omega arith) in
     sym (put_between (a ++ (more ++ r)) a new (more ++ r) at 0 front.0
     (ap (λ (n : ℕ). drop n (a ++ (more ++ r))) (omega arith) ∙ front.1))
     ∙ sym (append_assoc a new (more ++ r))
-    ∙ put_between (a ++ (new ++ r)) (a ++ new) more r (at + length new) 0 back.0
-    (ap (λ (n : ℕ). drop n (a ++ (new ++ r))) (omega arith) ∙ back.1)
+    ∙ put_between w (a ++ new) more r (at + length new) size back.0 rest
 
--- Of two that take nothing at one byte, the later one comes in front, as if it had been first.
-pub put_in_front : (bytes : List ℕ) (c d : TextChange) → d.at ≡ c.at → c.size ≡ 0 → d.size ≡ 0 → c.at ≤ length bytes
+-- Of two changes that begin at one byte, the later one comes in front, if it takes nothing, as if it had been first.
+pub put_in_front : (bytes : List ℕ) (c d : TextChange) → d.at ≡ c.at → c.size ≡ 0 → c.at ≤ length bytes
     → put (put bytes (place_of_change d)) (place_of_change c)
     ≡ put (put bytes (place_of_change c)) (place_of_change (moved c d))
-put_in_front bytes c d same none no_size few =
-    ap₂ (λ (p q : Place). put (put bytes p) q) (place d c.at same no_size) (place c c.at refl none)
-    ∙ come_in_front bytes c.new d.new c.at few
-    ∙ sym (ap₂ (λ (p q : Place). put (put bytes p) q) (place c c.at refl none)
-    (place (moved c d) (c.at + length c.new) past no_size))
+put_in_front bytes c d same none few =
+    let own : place_of_change c ≡ put_at c.at 0 c.new = ap (λ (n : ℕ). put_at c.at n c.new) none in
+    ap₂ (λ (p q : Place). put (put bytes p) q) (ap (λ (n : ℕ). put_at n d.size d.new) same) own
+    ∙ come_in_front bytes c.new d.new c.at d.size few
+    ∙ sym (ap₂ (λ (p q : Place). put (put bytes p) q) own (ap (λ (n : ℕ). put_at n d.size d.new) past))
   where
-    place : (x : TextChange) (at : ℕ) → x.at ≡ at → x.size ≡ 0 → place_of_change x ≡ put_at at 0 x.new
-    place x at is zero_size =
-        ap₂ (λ (n m : ℕ). record { start = n; end = m; new = x.new }) is (omega (arith, is, zero_size))
-
     past : moved_by c d.at ≡ c.at + length c.new
     past = rw (le-ltb d.at c.at (omega (arith, same))) (omega (arith, same, none))

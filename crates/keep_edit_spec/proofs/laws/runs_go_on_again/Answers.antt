@@ -1,6 +1,5 @@
 use Rattle.keep_edit_spec.proofs.Lists.BehindHeaders.{run_goes_on_behind}
 use Rattle.keep_edit_spec.proofs.Lists.InsertLists.{run_goes_on_inserted}
-use Rattle.keep_edit_spec.proofs.Lists.LinesInPlace.{run_goes_on_in_place}
 use Rattle.keep_edit_spec.proofs.Lists.RenameLists.{run_goes_on_renamed}
 use Rattle.keep_edit_spec.proofs.Lists.RunLists.{run_goes_on_again, run_is_known}
 use Rattle.keep_edit_spec.proofs.laws.runs_go_on_again.Goals as goal
@@ -19,6 +18,3 @@ returns-clause-renamed c = run_goes_on_renamed
 
 pub returns-clause-inserted : goal.returns-clause-inserted
 returns-clause-inserted c = run_goes_on_inserted
-
-pub returns-clause-place : goal.returns-clause-place
-returns-clause-place c = run_goes_on_in_place

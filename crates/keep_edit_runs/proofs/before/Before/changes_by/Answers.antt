@@ -10,6 +10,7 @@ use Rattle.keep_edit_runs.specs.declared.outline.Outline.{Outline}
 use Rattle.keep_edit_runs.proofs.AgainSteps.{made_once_more}
 use Rattle.keep_edit_runs.proofs.AheadSteps.{more_ahead}
 use Rattle.keep_edit_runs.proofs.FollowSteps.{more_following}
+use Rattle.keep_edit_runs.proofs.InPlaceSteps.{more_before}
 use Rattle.keep_edit_runs.proofs.KindLaws.{placed_of_kind}
 use Rattle.keep_edit_runs.proofs.RunSteps.{AreMadeTo, all_made, all_within, more_changes, no_changes}
 use Rattle.keep_edit_runs.proofs.SeenLaws.{more_seen}
@@ -161,9 +162,12 @@ loop-number-preserved c =
           (sym behind.changes_are)
           (more_changes edits first number now outlines changes adds next x x o change made.line so_far low
           (sym c.index-edits-number.is) makes alone behind.beside placed behind.kept behind.ends)
-      | inr (sure, inr follows) ↦
+      | inr (sure, inr (inl follows)) ↦
           more_following edits first number now outlines changes new adds next x x o change made.line so_far low
           (sym c.index-edits-number.is) makes alone placed follows
+      | inr (sure, inr (inr before)) ↦
+          more_before edits first number now outlines changes new adds next x x o change made.line so_far low
+          (sym c.index-edits-number.is) makes alone placed before
       | inr (sure, inl ahead) ↦
           more_ahead edits first number now outlines changes new adds next x x o change made.line so_far low
           (sym c.index-edits-number.is) makes alone placed ahead
