@@ -72,7 +72,13 @@ impl Index {
         requires { (d : Document) × WasRead text.now syntax.now d }
         ensures { IsBuilt text.now syntax.now result }
     {
-        let root = Tree::new(alloc, text, Holds::Keys)?;
+        // The seed is for keys, and a text without statements has none.
+        let hashed = if syntax.statement_count() == 0 {
+            ""
+        } else {
+            text
+        };
+        let root = Tree::new(alloc, hashed, Holds::Keys)?;
         Index::read(root, text, syntax)
     }
 
