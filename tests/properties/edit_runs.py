@@ -11,9 +11,10 @@ here, if all are to be of that kind.
 Most lists are of edits of one kind, a fifth of them of edits of all kinds in turn, among them removes of tables and of elements, and
 inserts into tables that dotted keys make. Some are of lines that come to one byte in an order that jumps, some of headers and of keys that
 come below them at the end of the text, some of new tables and elements, each with keys of its own, some of lines that come in the place
-of others, some of new tables that dotted keys make, each with keys in a row. A fifth of the lines that are changed have a comment. Values are set and keys renamed again, values are set that were
-inserted, and edits of entries come back to a value, which goes on in the row. Among the edits are some that end it: one that is refused,
-any other of a path that was there before, one that is in another's, one that adds a line at the place of a line of another table.
+of others or right before them, some of new tables that dotted keys make, each with keys in a row. A fifth of the lines that are
+changed have a comment. Values are set and keys renamed again, values are set that were inserted, and edits of entries come back to a
+value, which goes on in the row. Among the edits are some that end it: one that is refused, any other of a path that was there before,
+one that is in another's, one that adds a line at the place of a line of another table.
 """
 import sys
 from pathlib import Path
@@ -49,7 +50,7 @@ class Run:
         self.entries = [tuple(it.rsplit(b"\t", 1)) for it in self.ran([b"list"], self.text).stdout.split(b"\n")[:-1]]
         kinds = (self.inserts, self.items, self.removes, self.sections, self.sets, self.renames, self.tables, self.elements)
         kinds += (self.gone_elements, self.gone_below, self.dotted, self.brought, self.in_any_order, self.below, self.filled)
-        kinds += (self.in_place, self.parts, self.more_keys) + 3 * (self.all_kinds,)
+        kinds += (self.in_place, self.parts, self.more_keys, self.before_taken) + 3 * (self.all_kinds,)
         self.edits = (getattr(self, kind) if kind else self.random.choice(kinds))()
 
     def ran(self, words, given):
@@ -262,6 +263,52 @@ class Run:
                 op, path = random.choice((b"remove", b"remove", b"set", b"rename")), left[table].pop()
                 value = value_of(random) if op == b"set" else None
                 edits.append(edit_of(op, path, value, b"new_%d" % number if op == b"rename" else None))
+        return edits
+
+    def with_followed(self):
+        """New tables that dotted keys make, each followed by a line of its holder or by the header of a table: each table with the path
+        of what follows, and whether that is a table with a header."""
+        random, pairs, top, text = self.random, [], b"", b""
+        tell = lambda: random.choice((b"", b"", b"", b"  # some"))
+        under = lambda holder, key: holder + b"." + key if holder else key
+        for number in range(self.many):
+            holder = random.choice((b"", b"f_%d" % number))
+            body = random.choice((b"", b"", b"\n")) + b"[%s]\n" % holder if holder else b""
+            for part in range(random.choice((1, 1, 2))):
+                table = b"d_%d_%d" % (number, part) + random.choice((b"", b"", b"", b".in"))
+                key = random.choice((b"p_%d_%d", b'"p_%d_%d"')) % (number, part)
+                pairs.append((under(holder, table), under(holder, key), False))
+                body += b"%s.k = %s%s\n" % (table, value_of(random), tell()) + random.choice((b"", b"", b"", b"\n", b"# of the next\n"))
+                body += b"%s = %s%s\n" % (key, value_of(random), tell())
+            if holder:
+                pairs.append((under(holder, b"last"), b"g_%d" % number, True))
+                body += b"last.k = %s\n[g_%d]\nk = %s\n" % (value_of(random), number, value_of(random))
+            top, text = (top, text + body) if holder else (top + body, text)
+        text = top + self.text + (b"" if self.text.endswith(b"\n") or not self.text else b"\n") + text
+        if self.ran([b"check"], text).returncode:
+            return []
+        self.text = text
+        return pairs
+
+    def before_taken(self):
+        """Removes, sets and renames of lines behind tables of dotted keys, and of headers there in half of the lists, and new keys of
+        these tables. So many of the keys come right before what the list has taken or renamed."""
+        random, given, edits, gone = self.random, [], [], []
+        pairs = self.with_followed()
+        if not pairs:
+            return self.inserts()
+        with_headers, several = random.random() < 0.5, random.choice((0, 0, 0.1))
+        left = random.sample([it for it in pairs if with_headers or not it[2]], len(pairs) // 2)
+        for number in range(self.many):
+            if left and random.random() < 0.5:
+                table, path, is_headed = left.pop()
+                op = b"remove" if is_headed else random.choice((b"remove", b"remove", b"set", b"rename"))
+                value = value_of(random) if op == b"set" else None
+                edits.append(edit_of(op, path, value, b"new_%d" % number if op == b"rename" else None))
+                gone.append(table)
+            else:
+                table = random.choice(gone) if gone and random.random() < 0.7 else random.choice(pairs)[0]
+                edits.append(self.insert_or_set(given, random.choice((0, 0, 0.1)), table, number, several))
         return edits
 
     def some_values(self):
