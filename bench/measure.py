@@ -149,12 +149,19 @@ def of_kind(kind, size):
     return [of_list(shape, size, kind, count) for count in COUNTS]
 
 
+def with_carriage_returns(size):
+    """A list at random of the mix, each newline of which has a carriage return."""
+    words, text = of_list("mix", size, "random", 1000)
+    return words, text.replace(b"\n", b"\r\n")
+
+
 def at_random():
-    """The rows of lists at random: of some shapes, and two lists more of the mix."""
+    """The rows of lists at random: of some shapes, two lists more of the mix, and one where newlines have carriage returns."""
     lists = [(SHAPES[shape], shape, 1) for shape in ("lock", "flat", "elements", "subtables", "dotted")]
     lists += [("mix, list %d" % seed, "mix", seed) for seed in (2, 3)]
     for name, shape, seed in lists:
         yield name, [of_list(shape, size, "random", 1000, seed) for size in SIZES.values()]
+    yield "mix, with carriage returns", [with_carriage_returns(size) for size in SIZES.values()]
 
 
 def in_pairs():
