@@ -52,9 +52,17 @@ class Run:
         kinds += (self.gone_elements, self.gone_below, self.dotted, self.brought, self.in_any_order, self.below, self.filled)
         kinds += (self.in_place, self.parts, self.more_keys, self.before_taken) + 3 * (self.all_kinds,)
         self.edits = (getattr(self, kind) if kind else self.random.choice(kinds))()
+        if self.random.random() < 0.1:
+            self.add_returns(-1)
 
     def ran(self, words, given):
         return answer(self.program, words, given)
+
+    def add_returns(self, count):
+        """Gives so many of the newlines a carriage return, or all, if the document is one with these."""
+        text = self.text.replace(b"\r\n", b"\n").replace(b"\n", b"\r\n", count)
+        if not self.ran([b"check"], text).returncode:
+            self.text = text
 
     def of_kind(self, *kinds):
         return [path for path, kind in self.entries if kind in kinds]
@@ -641,10 +649,8 @@ class Run:
         left += below if random.random() < 0.5 else []
         random.shuffle(paths)
         new = lambda path, number: b".".join([*path.split(b".")[:-1], random.choice(KEYS) + b"_more_%d" % number])
-        if random.random() < 0.2:
-            self.text = self.text.replace(b"\n", b"\r\n", random.choice((1, 3, -1)))
-            if self.ran([b"check"], self.text).returncode:
-                self.text = self.text.replace(b"\r\n", b"\n")
+        if random.random() < 0.3:
+            self.add_returns(random.choice((1, 3, -1)))
         edits, are_set, renamed = [], [], []
         for number, path in enumerate(paths):
             kind = random.choice((b"insert", b"insert", b"remove", b"remove", b"set", b"rename", b"table", b"element"))

@@ -13,6 +13,7 @@ pub mod EditedLaws
 pub mod InsideLaws
 pub mod RenameLaws
 pub mod NewlineLaws
+mod FirstLineLaws
 pub mod RemoveNode
 pub mod RemoveSteps
 pub mod RemoveCut

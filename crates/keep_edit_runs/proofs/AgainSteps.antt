@@ -2,7 +2,7 @@
 --
 -- Theorems: `made_once_more`; `each_put`: what holds of each change holds with its change in the place of one;
 -- `done_once_more`: the edit is not refused after the edits.
-use Rattle.std.proofs.Common.{◌≡◌, ◌<◌, ◌++◌, ℕ, suc, List, length, get_or, string_bytes, sym}
+use Rattle.std.proofs.Common.{◌≡◌, ◌<◌, ◌++◌, ℕ, suc, List, length, get_or, sym}
 use Rattle.std.proofs.Common.{subst, All, IsUtf8, inl, inr, true}
 use Rattle.std.specs.Prelude.{◌⊎◌}
 use Rattle.std.proofs.lemmas.List.{append-nil}
@@ -10,7 +10,6 @@ use Rattle.std.proofs.lemmas.List.Elements.{All-weaker}
 use Rattle.std.proofs.lemmas.Str.{IsUtf8-string_bytes}
 use Rattle.keep_syntax.specs.Tree.{Document}
 use Rattle.keep_edit_spec.specs.Runs as runs
-use Rattle.keep_edit_spec.specs.Runs.{IsPlain}
 use Rattle.keep_edit_spec.specs.TextChanges.{TextChange}
 use Rattle.keep_edit_plan.proofs.Shared.{change_in}
 use Rattle.keep_edit_plan.specs.TextEdits.{IsChangeIn, change_of}
@@ -18,6 +17,7 @@ use Rattle.keep_edit_plan.specs.declared.edit.Edit.{Edit}
 use Rattle.keep_edit_plan.specs.declared.text_edit.TextEdit.{TextEdit}
 use Rattle.keep_edit_runs.specs.Again.{AllowAgain, IsAgainHere, IsPutAgain, LetsAgain, edit_of, outlines_of}
 use Rattle.keep_edit_plan.specs.Reading.{IsTextOfTree, ProfiledText}
+use Rattle.keep_edit_runs.specs.Newlines.{LeavesHere}
 use Rattle.keep_edit_runs.specs.Runs.{Allows, IsRunTo, outlined}
 use Rattle.keep_edit_runs.specs.declared.added_lines.AddedLines.{AddedLines}
 use Rattle.keep_edit_runs.specs.declared.again.Again.{Again}
@@ -38,17 +38,17 @@ each_put P (again.Line number was t) old new is all its =
     each_instead P old new (change_of was) (change_of t) is all its
 
 -- what is known of all edits before, and not of one alone
-alike : (P : Outline → Type 0) (outlines : List Outline) (t : TextEdit)
-    → IsPlain (string_bytes t.new) ⊎ ((other : Outline) → P other → runs.is_insert (outlined other) ≡ true)
-    → All P outlines → IsAlike outlines t
-alike P outlines t (inl plain) all = inl plain
-alike P outlines t (inr inserts) all =
+alike : (now : ProfiledText) (P : Outline → Type 0) (outlines : List Outline) (t : TextEdit)
+    → LeavesHere now (change_of t) ⊎ ((other : Outline) → P other → runs.is_insert (outlined other) ≡ true)
+    → All P outlines → IsAlike now outlines t
+alike now P outlines t (inl leaves) all = inl leaves
+alike now P outlines t (inr inserts) all =
     inr (All-weaker P (λ y. runs.is_insert (outlined y) ≡ true) inserts outlines all)
 
 pub made_once_more : (edits : List Edit) (first end : ℕ) (now : ProfiledText) (outlines : List Outline)
     (changes new : List TextChange) (adds : AddedLines) (d x : Edit) (a : Again) (P : Outline → Type 0)
     → AreMadeTo edits first end now outlines changes adds → end < length edits → get_or edits end d ≡ x
-    → IsAgainHere now x outlines changes a → AllowAgain P a → LetsAgain adds a → All P outlines
+    → IsAgainHere now x outlines changes a → AllowAgain (LeavesHere now) P a → LetsAgain adds a → All P outlines
     → IsPutAgain a changes new
     → AreMadeTo edits first (suc end) now (outlines ++ outlines_of a) new adds
 made_once_more edits first end now outlines changes new adds d x (again.Value t) P so_far lt here is allow lets seen
@@ -63,7 +63,7 @@ made_once_more edits first end now outlines changes new adds d x (again.Line num
     lets seen put =
     subst (λ (os : List Outline). AreMadeTo edits first (suc end) now os new adds) (sym (append-nil outlines))
     (inserted_again edits first end now outlines changes new adds d x was t so_far lt here is
-    (alike P outlines t allow seen) lets put)
+    (alike now P outlines t allow seen) lets put)
 
 -- ---- in the document after the edits
 
@@ -72,7 +72,8 @@ module _ (s : Document) (edits : List Edit) (n : ℕ) (old now : ProfiledText) (
     (h : IsRunTo s edits n old now before outlines changes adds) (utf8 : All (λ c. IsUtf8 c.new) changes)
     (within : All (IsChangeIn now.text) changes) (d x : Edit) (lt : n < length edits) (here : get_or edits n d ≡ x)
     (P : Outline → Type 0) (seen : All P outlines) where
-  pub done_once_more : (a : Again) → IsAgainHere now x outlines changes a → AllowAgain P a → LetsAgain adds a
+  pub done_once_more : (a : Again) → IsAgainHere now x outlines changes a → AllowAgain (LeavesHere now) P a
+      → LetsAgain adds a
       → IsPutAgain a changes new → IsDoneThere now.profile h.made.tree x
   done_once_more (again.Value t) is allow lets put =
       set_there s edits n old now before outlines changes new adds read h d x lt here t is put
@@ -85,7 +86,7 @@ module _ (s : Document) (edits : List Edit) (n : ℕ) (old now : ProfiledText) (
       (each_replaced (IsChangeIn now.text) changes new (change_of t) put within (change_in now.text t is.within))
   done_once_more (again.Line number was t) is allow lets put =
       line_there s edits n old now before outlines changes new adds read h d x lt here was t is
-      (alike P outlines t allow seen) lets put
+      (alike now P outlines t allow seen) lets put
       (each_instead (λ b. IsUtf8 b.new) changes new (change_of was) (change_of t) put utf8
       (IsUtf8-string_bytes t.new))
       (each_instead (IsChangeIn now.text) changes new (change_of was) (change_of t) put within

@@ -7,7 +7,7 @@
 --
 -- Theorems: `more_ahead`; `each_ahead`: what holds of each change holds with one more before others; `made_there`: the
 -- insert makes such a change in the document after the edits.
-use Rattle.std.proofs.Common.{◌≡◌, ◌≢◌, ◌<◌, ◌+◌, ◌∷◌, ◌++◌, [], ℕ, suc, Bool, List, take, length, get_or, refl, sym}
+use Rattle.std.proofs.Common.{[], ◌≡◌, ◌≢◌, ◌<◌, ◌+◌, ◌∷◌, ◌++◌, ℕ, suc, Bool, List, take, length, get_or, refl, sym}
 use Rattle.std.proofs.Common.{ap, subst, ◌∙◌, All, IsUtf8, inl, inr, None, Option, Some, eqb-true, false, true, zero}
 use Rattle.std.proofs.Common.{arith}
 use Rattle.std.specs.Prelude.{◌⊎◌, ◌==◌, Any, IsTrue, if◌then◌else◌}
@@ -34,7 +34,8 @@ use Rattle.keep_edit_spec.specs.Refusals.{refusal}
 use Rattle.keep_edit_spec.specs.RenameLists.{AllowsKey, IsRenameIn}
 use Rattle.keep_edit_spec.specs.RunLists.{IsSetIn, MadeEdit, changes_of, document_after, lines_of, made, seen_of}
 use Rattle.keep_edit_spec.specs.Runs as runs
-use Rattle.keep_edit_spec.specs.Runs.{ArePlain, IsPlain, IsRun, LetsCome, LetsTable, MakesChange, takes_up_to}
+use Rattle.keep_edit_spec.specs.FirstNewline.{LeavesNewline}
+use Rattle.keep_edit_spec.specs.Runs.{IsRun, LeaveNewline, LetsCome, LetsTable, MakesChange, takes_up_to}
 use Rattle.keep_edit_spec.specs.TextChanges.{Follow, IsBeside, TextChange, text_with}
 use Rattle.keep_edit_spec.proofs.Shared.{change_put, counts_behind, insert_lawful, kind_is, run_goes_on_ahead}
 use Rattle.keep_edit_spec.proofs.Shared.{run_is_known}
@@ -45,6 +46,7 @@ use Rattle.keep_edit_plan.specs.declared.text_edit.TextEdit.{TextEdit}
 use Rattle.keep_edit_runs.specs.AddedLines.{IsCountBehind, IsCounted, IsHeaderKnown, IsKnownAt, PassesHeaderAt}
 use Rattle.keep_edit_runs.specs.AddedLines.{brought_at, line_of, lines_by, lines_known_behind}
 use Rattle.keep_edit_runs.specs.Lists.{AreMade, IsEdit}
+use Rattle.keep_edit_runs.specs.Newlines.{LeavesHere}
 use Rattle.keep_edit_plan.specs.Reading.{IsTextOfTree, ProfiledText, limit}
 use Rattle.keep_edit_runs.specs.Runs.{IsAddedAhead, IsKeptAhead, IsRenamedBy, IsRunTo, IsSetBy, LeavesAlone}
 use Rattle.keep_edit_runs.specs.Runs.{MakesInRun, MakesInRunHere, changed_text, no_value, outlined, plain}
@@ -57,6 +59,7 @@ use Rattle.keep_edit_runs.proofs.AheadLists.{seen_counted_ahead, set_ahead}
 use Rattle.keep_edit_runs.proofs.HeaderLaws.{table_passed}
 use Rattle.keep_edit_runs.proofs.LineLaws.{lets_known, lets_no_header, with_header}
 use Rattle.keep_edit_runs.proofs.MadeMore.{more_made}
+use Rattle.keep_edit_runs.proofs.NewlineSteps.{leave_here}
 use Rattle.keep_edit_runs.proofs.RunSteps.{AreMadeTo, IsPlaced, each_uncounted, one_or_more, parts, plain_allows}
 use Rattle.keep_edit_runs.proofs.RunSteps.{plain_alone, plain_header, plain_insert, plain_known, run_so_far, text_utf8}
 use Rattle.keep_edit_runs.proofs.RunSteps.{tree_of_run}
@@ -110,8 +113,8 @@ module _ (s : Document) (edits : List Edit) (n : ℕ) (old now : ProfiledText) (
     (lt : n < length edits) (here : get_or edits n d ≡ x) (o : Outline) (e a : law.Edit) (given : IsEdit x e)
     (plain_is : plain a ≡ outlined o) (c : TextChange) (line : Option LineKind)
     (makes : MakesInRun now.profile before e a c line) (others_alone : All (λ y. LeavesAlone y o) outlines)
-    (placed : IsPlaced outlines now.text changes o c.at)
-    (it : IsAddedAhead now.text adds changes o c line next_adds new)
+    (placed : IsPlaced outlines now changes o c.at)
+    (it : IsAddedAhead now adds changes o c line next_adds new)
     (utf8 : All (λ b. IsUtf8 b.new) new) (within : All (IsChangeIn now.text) new) where
   abbrev kept : IsKeptAhead adds changes o c.at line (c.at == length now.text) next_adds
   kept = it.kept
@@ -220,13 +223,12 @@ module _ (s : Document) (edits : List Edit) (n : ℕ) (old now : ProfiledText) (
   }
     where
       alike : All (λ y. runs.is_insert (outlined y) ≡ true) outlines
-          ⊎ (ArePlain now.text changes × All (LetsCome now.text changes c.at) changes)
-          → All (λ f. IsTrue (runs.is_insert f)) es ⊎ (ArePlain (text before) (changes_of h.ms) × IsPlain c.new)
+          ⊎ (All (LeavesHere now) changes × All (LetsCome now.text changes c.at) changes)
+          → All (λ f. IsTrue (runs.is_insert f)) es ⊎ (LeaveNewline before (changes_of h.ms) × LeavesNewline before c)
       alike (inl all) = inl (h.inserts all)
-      alike (inr (plain_all, come)) = inr (
-        subst (λ (bytes : List ℕ). ArePlain bytes (changes_of h.ms)) read.reads.spelled
-            (subst (ArePlain now.text) (sym h.changes_are) plain_all),
-        it.plain,
+      alike (inr (leave, come)) = inr (
+        leave_here now before read (changes_of h.ms) (subst (All (LeavesHere now)) (sym h.changes_are) leave),
+        it.leaves before read,
       )
 
   r : IsRunAhead now.profile limit before h.ms path value kept.kind c
@@ -445,8 +447,8 @@ pub more_ahead : (edits : List Edit) (first end : ℕ) (now : ProfiledText) (out
     (line : Option LineKind)
     → AreMadeTo edits first end now outlines changes adds → end < length edits → get_or edits end d ≡ x
     → MakesInRunHere now x (outlined o) t line → All (λ y. LeavesAlone y o) outlines
-    → IsPlaced outlines now.text changes o (change_of t).at
-    → IsAddedAhead now.text adds changes o (change_of t) line next new
+    → IsPlaced outlines now changes o (change_of t).at
+    → IsAddedAhead now adds changes o (change_of t) line next new
     → AreMadeTo edits first (suc end) now (outlines ++ o ∷ []) new next
 more_ahead edits first end now outlines changes new adds next d x o t line so_far lt here makes alone placed it =
     let c : TextChange = change_of t in

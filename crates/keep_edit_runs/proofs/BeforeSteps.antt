@@ -29,7 +29,7 @@ use Rattle.keep_edit_spec.specs.Refusals.{refusal}
 use Rattle.keep_edit_spec.specs.RenameLists.{AllowsKey, IsRenameIn}
 use Rattle.keep_edit_spec.specs.RunLists.{IsSetIn, MadeEdit, changes_of, document_after, lines_of, made, seen_of}
 use Rattle.keep_edit_spec.specs.Runs as runs
-use Rattle.keep_edit_spec.specs.Runs.{ArePlain, IsBeforeHeaders, IsRun, LetsTable, MakesChange}
+use Rattle.keep_edit_spec.specs.Runs.{IsBeforeHeaders, IsRun, LetsTable, MakesChange}
 use Rattle.keep_edit_spec.specs.TextChanges.{Follow, TextChange, text_with}
 use Rattle.keep_edit_spec.proofs.Shared.{change_put, each_of_others, insert_lawful, kind_is, lines_apart}
 use Rattle.keep_edit_spec.proofs.Shared.{run_is_known}

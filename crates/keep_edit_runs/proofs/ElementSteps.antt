@@ -8,7 +8,7 @@
 -- Theorems: `left_alone`, `is_elsewhere`, `keeps_place`: how one edit more comes among those of a run;
 -- `none_gone`: where none is gone; `more_among`, `placed_too`: with one edit more; `less_among`: with one element less;
 -- `among_made`, `among_within`: so all are made.
-use Rattle.std.proofs.Common.{◌≡◌, ◌≢◌, ◌<◌, ◌∷◌, ◌++◌, [], ℕ, suc, List, length, take, get_or, refl, sym, ap, subst}
+use Rattle.std.proofs.Common.{[], ◌≡◌, ◌≢◌, ◌<◌, ◌∷◌, ◌++◌, ℕ, suc, List, length, take, get_or, refl, sym, ap, subst}
 use Rattle.std.proofs.Common.{subst₂, ◌∙◌, arith, All, IsUtf8, inl, inr}
 use Rattle.std.specs.Prelude.{◌⊎◌, None, Option, Some, true}
 use Rattle.std.specs.List.{count_by}
@@ -28,7 +28,7 @@ use Rattle.keep_edit_spec.specs.Laws.{IsLawfulEdit}
 use Rattle.keep_edit_spec.specs.MoreKeys.{IsOpen}
 use Rattle.keep_edit_spec.specs.Refusals.{refusal}
 use Rattle.keep_edit_spec.specs.Runs as runs
-use Rattle.keep_edit_spec.specs.Runs.{ArePlain, IsBeforeHeaders, IsInOrder, IsPlainBefore, LetsCome}
+use Rattle.keep_edit_spec.specs.Runs.{IsBeforeHeaders, IsInOrder, LeaveNewline, LeaveNewlineBefore, LetsCome}
 use Rattle.keep_edit_spec.specs.Runs.{MakesChange, with_line}
 use Rattle.keep_edit_spec.specs.TextChanges.{IsBeside, TextChange, with_change}
 use Rattle.keep_edit_spec.specs.declared.line_kind.LineKind.{LineKind}
@@ -48,6 +48,7 @@ use Rattle.keep_edit_runs.specs.declared.gone_between.GoneBetween.{GoneBetween}
 use Rattle.keep_edit_runs.specs.declared.outline.Outline.{Outline}
 use Rattle.keep_edit_spec.proofs.Shared.{element_run_goes_on, element_run_goes_on_by_entry, run_is_open}
 use Rattle.keep_edit_runs.proofs.ElementsGone.{in_none, none_gone_to, of_one, one_element_less, plain_elsewhere}
+use Rattle.keep_edit_runs.proofs.NewlineSteps.{leave_here}
 use Rattle.keep_edit_runs.proofs.RunSteps.{AreMadeTo, IsPlaced, before_headers, change_made, counted_more, headers_with}
 use Rattle.keep_edit_runs.proofs.RunSteps.{known_with, more_changes, one_if, order, parts, passes, plain_alone}
 use Rattle.keep_edit_runs.proofs.RunSteps.{plain_header, plain_insert, tree_made}
@@ -166,7 +167,7 @@ module _ (s : Document) (edits : List Edit) (n : ℕ) (old now : ProfiledText) (
     (arrays gone : List (List Part)) (read : IsTextOfTree now before)
     (h : IsElementRunTo s edits n old now before outlines changes adds arrays gone) (o : Outline) (e a : law.Edit)
     (plain_is : plain a ≡ outlined o) (c : TextChange) (line : Option LineKind)
-    (placed : IsPlacedAmong now.text changes o c.at) (kept : IsLineKept adds changes o c.at line next_adds)
+    (placed : IsPlacedAmong now changes o c.at) (kept : IsLineKept adds changes o c.at line next_adds)
     (ends : (kind : LineKind) → line ≡ Some kind → (c.at ≢ length now.text) ⊎ (adds.appended ≡ 0)) where
   in_order : (p : List Part) (v : Value) → a ≡ runs.seen before (law.insert p v) → line ≡ Some (kind_of before p)
       → IsInOrder h.es changes h.lines (added_as before p c)
@@ -179,22 +180,24 @@ module _ (s : Document) (edits : List Edit) (n : ℕ) (old now : ProfiledText) (
 
   -- a line comes so in this text
   abbrev Comes : List ℕ → Type 0
-  Comes bytes = ArePlain bytes changes × (All (LetsCome bytes changes c.at) changes × IsBeforeHeaders bytes h.es c.at)
+  Comes bytes = All (LetsCome bytes changes c.at) changes × IsBeforeHeaders bytes h.es c.at
 
   pub keeps_place : a ≡ runs.seen before e → IsOfKind before e line → KeepsPlaceAmong before h.es changes h.lines e c
   keeps_place is of =
       by e is of (ap runs.is_insert (sym plain_is) ∙ plain_insert a) (ap runs.is_header (sym plain_is) ∙ plain_header a)
     where
-      comes : (kind : LineKind) → line ≡ Some kind → runs.is_insert (outlined o) ≡ true → Comes (text before)
+      comes : (kind : LineKind) → line ≡ Some kind → runs.is_insert (outlined o) ≡ true
+          → LeaveNewline before changes × Comes (text before)
       comes kind is_line is_one =
-          let (plain_all, come) = placed.insert is_one in
+          let (leave, come) = placed.insert is_one in
           let ahead : IsBeforeHeaders now.text h.es c.at =
           before_headers now.text h.es c.at adds h.counted (ends kind is_line) in
-          subst Comes read.reads.spelled (plain_all, (come, ahead))
+          (leave_here now before read changes leave, subst Comes read.reads.spelled (come, ahead))
 
-      headed : runs.is_header (outlined o) ≡ true → IsPlainBefore (text before) changes c.at
+      headed : runs.is_header (outlined o) ≡ true → LeaveNewlineBefore before changes c.at
       headed head =
-          subst (λ (bytes : List ℕ). IsPlainBefore bytes changes c.at) read.reads.spelled (placed.header head)
+          let (leave, none) = placed.header head in
+          (leave_here now before read changes leave, none)
 
       by : (f : law.Edit) → a ≡ runs.seen before f → IsOfKind before f line
           → runs.is_insert (outlined o) ≡ runs.is_insert a → runs.is_header (outlined o) ≡ runs.is_header a
@@ -216,7 +219,7 @@ module _ (s : Document) (edits : List Edit) (n : ℕ) (old now : ProfiledText) (
     (here : get_or edits n d ≡ x) (o : Outline) (e a : law.Edit) (given : IsEdit x e) (plain_is : plain a ≡ outlined o)
     (c : TextChange) (line : Option LineKind) (makes : MakesInRun now.profile before e a c line)
     (others_alone : All (λ y. LeavesAlone y o) outlines) (away : All (λ array. IsElsewhere array (outlined o)) arrays)
-    (beside : All (λ b. IsBeside b c) changes) (placed : IsPlacedAmong now.text changes o c.at)
+    (beside : All (λ b. IsBeside b c) changes) (placed : IsPlacedAmong now changes o c.at)
     (kept : IsLineKept adds changes o c.at line next_adds)
     (ends : (kind : LineKind) → line ≡ Some kind → (c.at ≢ length now.text) ⊎ (adds.appended ≡ 0))
     (utf8 : All (λ b. IsUtf8 b.new) (with_change changes c))
@@ -310,9 +313,9 @@ module _ (s : Document) (edits : List Edit) (n : ℕ) (old now : ProfiledText) (
       (subst (λ (f : law.Edit). KeepsPlaceAmong before h.es changes h.lines f c) is (keeps same of)))
 
 -- as it is placed among others between which elements go, it is placed among those between which none does
-pub placed_too : (outlines : List Outline) (bytes : List ℕ) (changes : List TextChange) (x : Outline) (at : ℕ)
-    → IsPlacedAmong bytes changes x at → IsPlaced outlines bytes changes x at
-placed_too outlines bytes changes x at h =
+pub placed_too : (outlines : List Outline) (now : ProfiledText) (changes : List TextChange) (x : Outline) (at : ℕ)
+    → IsPlacedAmong now changes x at → IsPlaced outlines now changes x at
+placed_too outlines now changes x at h =
     record { insert = λ is. inr (h.insert is); header = λ is. inr (h.header is) }
 
 pub more_among : (edits : List Edit) (first end : ℕ) (now : ProfiledText) (outlines : List Outline)
@@ -321,7 +324,7 @@ pub more_among : (edits : List Edit) (first end : ℕ) (now : ProfiledText) (out
     → AreMadeAmong edits first end now outlines changes adds gone → end < length edits → get_or edits end d ≡ x
     → MakesInRunHere now x (outlined o) t line → All (λ y. LeavesAlone y o) outlines
     → All (λ array. IsElsewhere array (outlined o)) gone.arrays.items
-    → All (λ b. IsBeside b (change_of t)) changes → IsPlacedAmong now.text changes o (change_of t).at
+    → All (λ b. IsBeside b (change_of t)) changes → IsPlacedAmong now changes o (change_of t).at
     → IsLineKept adds changes o (change_of t).at line next
     → ((kind : LineKind) → line ≡ Some kind → ((change_of t).at ≢ length now.text) ⊎ (adds.appended ≡ 0))
     → AreMadeAmong edits first (suc end) now (outlines ++ o ∷ []) (with_change changes (change_of t)) next gone
@@ -339,7 +342,7 @@ more_among edits first end now outlines changes adds next gone d x o t line so_f
           let (same, all) = so_far.none empty in (
             same,
             more_changes edits first end now outlines changes adds next d x o t line all lt here makes alone beside
-                (placed_too outlines now.text changes o c.at placed) kept ends,
+                (placed_too outlines now changes o c.at placed) kept ends,
           );
       elsewhere = λ k array less.
           let array_there : List Part = get_or gone.arrays.items k array in

@@ -1,38 +1,21 @@
--- A text with changes, and its end: it has no carriage return where the text and the changes have none, and where no
--- change takes the text's last byte, that byte stays behind all that ended before it.
+-- A text with changes, and its end: where no change takes the text's last byte, that byte stays behind all that ended
+-- before it.
 --
 -- Each is by induction on the changes. The text from a byte on has bytes left behind the changes, as none of them takes
 -- the last one (`some_left`). So behind a change that is beside all of them and ends before that byte, some are left
 -- where they move it, too (`left_behind`).
 --
--- Theorems: `plain_text`, `before_last`; `takes_none`, `length_from`: of one change.
-use Rattle.std.proofs.Common.{◌≡◌, ◌≢◌, ℕ, ◌+◌, ◌<◌, ◌≤◌, All, List, [], ◌∷◌, ◌++◌, arith, drop, inl, inr, length}
+-- Theorems: `before_last`; `takes_none`, `length_from`: of one change.
+use Rattle.std.proofs.Common.{[], ◌≡◌, ℕ, ◌+◌, ◌<◌, ◌≤◌, All, List, ◌∷◌, ◌++◌, arith, drop, inl, inr, length}
 use Rattle.std.proofs.Common.{take}
 use Rattle.std.proofs.Common.{length-append, length-drop}
 use Rattle.std.specs.Prelude.{◌⊎◌, false, nat_lt, true}
 use Rattle.std.specs.List.{list_any}
 use Rattle.std.proofs.lemmas.Bool.{cases_lt, eq-eqb, le-ltb, lt-ltb, or_parts}
 use Rattle.std.proofs.lemmas.List.{length-take-le}
-use Rattle.std.proofs.lemmas.List.Elements.{All-append, All-drop, All-head, All-tail, All-take}
-use Rattle.keep_edit_spec.specs.Runs.{IsPlain, takes_up_to}
+use Rattle.std.proofs.lemmas.List.Elements.{All-head, All-tail}
+use Rattle.keep_edit_spec.specs.Runs.{takes_up_to}
 use Rattle.keep_edit_spec.specs.TextChanges.{Follow, IsBeside, TextChange, come_to, gone_to, moved_by_all, text_with}
-
--- ---- no carriage return
-
-plain_from : (from : ℕ) (bytes : List ℕ) (cs : List TextChange) → IsPlain bytes → All (λ c. IsPlain c.new) cs
-    → IsPlain (text_with from bytes cs)
-plain_from from bytes [] plain new = All-drop (λ (b : ℕ). b ≢ 0x0D) from bytes plain
-plain_from from bytes (c ∷ cs) plain new =
-    let P : ℕ → Type 0 = λ b. b ≢ 0x0D in
-    All-append P (drop from (take c.at bytes)) (c.new ++ text_with (c.at + c.size) bytes cs)
-    (All-drop P from (take c.at bytes) (All-take P c.at bytes plain))
-    (All-append P c.new (text_with (c.at + c.size) bytes cs)
-    (All-head (λ (d : TextChange). IsPlain d.new) c cs new)
-    (plain_from (c.at + c.size) bytes cs plain (All-tail (λ (d : TextChange). IsPlain d.new) c cs new)))
-
-pub plain_text : (bytes : List ℕ) (cs : List TextChange) → IsPlain bytes → All (λ c. IsPlain c.new) cs
-    → IsPlain (text_with 0 bytes cs)
-plain_text bytes cs = plain_from 0 bytes cs
 
 -- ---- the last byte
 

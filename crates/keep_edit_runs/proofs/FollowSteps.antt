@@ -5,7 +5,7 @@
 -- edits up to it are made. The table is that of the header, as others see the insert by its first new key.
 --
 -- Theorems: `more_following`; `made_there`: the insert adds its line in the document after the edits.
-use Rattle.std.proofs.Common.{◌≡◌, ◌<◌, ◌∷◌, ◌++◌, [], ℕ, suc, List, take, length, get_or, refl, sym}
+use Rattle.std.proofs.Common.{[], ◌≡◌, ◌<◌, ◌∷◌, ◌++◌, ℕ, suc, List, take, length, get_or, refl, sym}
 use Rattle.std.proofs.Common.{ap, subst, ◌∙◌, All, IsUtf8, inl, inr, None, Option, Some, false, map, true}
 use Rattle.std.proofs.Common.{arith, string_bytes}
 use Rattle.std.specs.Prelude.{◌⊎◌, ◌==◌, ◌&&◌, Any, Bool, IsTrue}
@@ -30,7 +30,7 @@ use Rattle.keep_edit_spec.specs.RenameLists.{AllowsKey, IsRenameIn}
 use Rattle.keep_edit_spec.specs.RunLists.{AreAtOnce, FollowsHeader, IsSetIn, KeepsBehind, MadeEdit, changes_of}
 use Rattle.keep_edit_spec.specs.RunLists.{document_after, lines_of, made, seen_of}
 use Rattle.keep_edit_spec.specs.Runs as runs
-use Rattle.keep_edit_spec.specs.Runs.{ArePlain, IsBeforeHeaders, IsRun, IsRunLonger, LetsCome, takes_up_to}
+use Rattle.keep_edit_spec.specs.Runs.{IsBeforeHeaders, IsRun, IsRunLonger, LeaveNewline, LetsCome, takes_up_to}
 use Rattle.keep_edit_spec.specs.TextChanges.{IsBeside, TextChange, moved_past, with_change}
 use Rattle.keep_edit_spec.specs.declared.line_kind.LineKind.{LineKind}
 use Rattle.keep_edit_spec.proofs.Shared.{all_with, follows_now, insert_lawful, kind_is, run_goes_on_behind}
@@ -44,6 +44,7 @@ use Rattle.keep_edit_plan.specs.declared.text_edit.TextEdit.{TextEdit}
 use Rattle.keep_edit_runs.specs.AddedLines.{HasTable, IsCounted, IsHeaderKnown, IsKnownAs, IsKnownAt, brought_at}
 use Rattle.keep_edit_runs.specs.Counts.{count_at}
 use Rattle.keep_edit_runs.specs.Lists.{AreMade, IsEdit}
+use Rattle.keep_edit_runs.specs.Newlines.{LeavesHere}
 use Rattle.keep_edit_runs.specs.Runs.{IsAddedFollowing, IsKeptBehind, IsRenamedBy, IsRunTo, IsSetBy, LeavesAlone}
 use Rattle.keep_edit_runs.specs.Runs.{MakesInRun, MakesInRunHere, changed_text, no_value, outlined, plain}
 use Rattle.keep_edit_runs.specs.SeenHeaders.{HasTableOf}
@@ -51,6 +52,7 @@ use Rattle.keep_edit_runs.specs.declared.added_lines.AddedLines.{AddedLines}
 use Rattle.keep_edit_runs.specs.declared.outline.Outline.{Outline}
 use Rattle.keep_edit_runs.proofs.AheadSteps.{IsInsertThere}
 use Rattle.keep_edit_runs.proofs.LineLaws.{with_header}
+use Rattle.keep_edit_runs.proofs.NewlineSteps.{leave_here}
 use Rattle.keep_edit_runs.proofs.RunSteps.{AreMadeTo, IsPlaced, any_later, before_headers, change_made, counted_more}
 use Rattle.keep_edit_runs.proofs.RunSteps.{one_if, one_or_more, parts, plain_allows, plain_alone, plain_header}
 use Rattle.keep_edit_runs.proofs.RunSteps.{plain_insert, plain_known, run_so_far, tree_of_run}
@@ -68,7 +70,7 @@ module _ (s : Document) (edits : List Edit) (n : ℕ) (old now : ProfiledText) (
     (lt : n < length edits) (here : get_or edits n d ≡ x) (o : Outline) (e a : law.Edit) (given : IsEdit x e)
     (plain_is : plain a ≡ outlined o) (c : TextChange) (line : Option LineKind)
     (makes : MakesInRun now.profile before e a c line) (others_alone : All (λ y. LeavesAlone y o) outlines)
-    (placed : IsPlaced outlines now.text changes o c.at) (it : IsAddedFollowing now x adds changes o c.at next_adds new)
+    (placed : IsPlaced outlines now changes o c.at) (it : IsAddedFollowing now x adds changes o c.at next_adds new)
     (utf8 : All (λ b. IsUtf8 b.new) new) (within : All (IsChangeIn now.text) new) where
   abbrev t : TextChange
   t = change_of it.line
@@ -188,13 +190,12 @@ module _ (s : Document) (edits : List Edit) (n : ℕ) (old now : ProfiledText) (
   )
     where
       alike : All (λ y. runs.is_insert (outlined y) ≡ true) outlines
-          ⊎ (ArePlain now.text changes × All (LetsCome now.text changes c.at) changes)
+          ⊎ (All (LeavesHere now) changes × All (LetsCome now.text changes c.at) changes)
           → All (λ f. IsTrue (runs.is_insert f)) es
-          ⊎ (ArePlain (text before) (changes_of h.ms) × IsBeforeHeaders (text before) es t.at)
+          ⊎ (LeaveNewline before (changes_of h.ms) × IsBeforeHeaders (text before) es t.at)
       alike (inl all) = inl (h.inserts all)
-      alike (inr (plain_all, come)) = inr (
-        subst (λ (bytes : List ℕ). ArePlain bytes (changes_of h.ms)) read.reads.spelled
-            (subst (ArePlain now.text) (sym h.changes_are) plain_all),
+      alike (inr (leave, come)) = inr (
+        leave_here now before read (changes_of h.ms) (subst (All (LeavesHere now)) (sym h.changes_are) leave),
         subst (λ (i : ℕ). IsBeforeHeaders (text before) es i) (sym at_is)
             (subst (λ (bytes : List ℕ). IsBeforeHeaders bytes es c.at) read.reads.spelled
             (before_headers now.text es c.at adds h.counts.appended it.ends)),
@@ -402,7 +403,7 @@ pub more_following : (edits : List Edit) (first end : ℕ) (now : ProfiledText) 
     (line : Option LineKind)
     → AreMadeTo edits first end now outlines changes adds → end < length edits → get_or edits end d ≡ x
     → MakesInRunHere now x (outlined o) t line → All (λ y. LeavesAlone y o) outlines
-    → IsPlaced outlines now.text changes o (change_of t).at
+    → IsPlaced outlines now changes o (change_of t).at
     → IsAddedFollowing now x adds changes o (change_of t).at next new
     → AreMadeTo edits first (suc end) now (outlines ++ o ∷ []) new next
 more_following edits first end now outlines changes new adds next d x o t line so_far lt here makes alone placed it =

@@ -6,7 +6,7 @@
 --
 -- Theorems: `more_in_place`, `more_before`; `line_in_place`, `line_before`: the insert adds its line in the document
 -- after the edits.
-use Rattle.std.proofs.Common.{◌≡◌, ◌<◌, ◌∷◌, ◌++◌, [], ℕ, suc, List, length, get_or, refl, sym}
+use Rattle.std.proofs.Common.{[], ◌≡◌, ◌<◌, ◌∷◌, ◌++◌, ℕ, suc, List, length, get_or, refl, sym}
 use Rattle.std.proofs.Common.{◌≢◌, ap, append_assoc, subst, subst₂, ◌∙◌, All, IsUtf8, arith, inl, inr, Option, Some}
 use Rattle.std.proofs.Common.{true}
 use Rattle.std.specs.Prelude.{◌⊎◌, IsTrue}
@@ -20,11 +20,10 @@ use Rattle.keep_edit_spec.specs.InsertKinds.{Added, IsAfterLine, added_as}
 use Rattle.keep_edit_spec.specs.declared.line_kind.LineKind.{LineKind}
 use Rattle.keep_edit_spec.specs.declared.line_kind.LineKind.TheVariants.{LastInBody, OfDotted}
 use Rattle.keep_edit_spec.specs.Edits as law
-use Rattle.keep_edit_spec.specs.Edits.{edited_document, place}
 use Rattle.keep_edit_spec.specs.LinesInPlace.{CanComeInPlace, FreesPlace, IsPutBefore, IsRunBefore}
 use Rattle.keep_edit_spec.specs.RunLists.{changes_of, lines_of, seen_of}
 use Rattle.keep_edit_spec.specs.Runs as runs
-use Rattle.keep_edit_spec.specs.Runs.{ArePlain, IsBeforeHeaders, KeepsPlace, LetsCome, LetsTable, takes_up_to}
+use Rattle.keep_edit_spec.specs.Runs.{IsBeforeHeaders, KeepsPlace, LeaveNewline, LetsCome, LetsTable, takes_up_to}
 use Rattle.keep_edit_spec.specs.TextChanges.{IsBeside, TextChange, with_change}
 use Rattle.keep_edit_spec.proofs.Shared.{all_with}
 use Rattle.keep_edit_spec.proofs.Shared.{run_goes_on_before, run_goes_on_in_place}
@@ -34,6 +33,7 @@ use Rattle.keep_edit_plan.specs.declared.edit.Edit.{Edit}
 use Rattle.keep_edit_plan.specs.declared.text_edit.TextEdit.{TextEdit}
 use Rattle.keep_edit_runs.specs.AddedLines.{IsHeaderKnown, IsKnownAt, line_of}
 use Rattle.keep_edit_runs.specs.Lists.{IsEdit}
+use Rattle.keep_edit_runs.specs.Newlines.{LeavesHere}
 use Rattle.keep_edit_plan.specs.Reading.{IsTextOfTree, ProfiledText, limit}
 use Rattle.keep_edit_runs.specs.Runs.{IsAddedBehind, IsAddedRightBefore, IsKnownThen, IsLineKept, IsRunTo}
 use Rattle.keep_edit_runs.specs.Runs.{LeavesAlone, MakesInRun, MakesInRunHere, no_value, outlined, plain}
@@ -42,6 +42,7 @@ use Rattle.keep_edit_runs.specs.declared.outline.Outline.{Outline}
 use Rattle.keep_edit_runs.proofs.AheadSteps.{IsInsertThere}
 use Rattle.keep_edit_runs.proofs.BeforeSteps as steps
 use Rattle.keep_edit_runs.proofs.BeforeSteps.{IsInsert, insert_is}
+use Rattle.keep_edit_runs.proofs.NewlineSteps.{leave_here}
 use Rattle.keep_edit_runs.proofs.RunSteps.{AreMadeTo, IsPlaced, before_headers, in_middle}
 
 -- ---- in the place of what one of them takes
@@ -52,7 +53,7 @@ module _ (s : Document) (edits : List Edit) (n : ℕ) (old now : ProfiledText) (
     (lt : n < length edits) (here : get_or edits n d ≡ x) (o : Outline) (e a : law.Edit) (given : IsEdit x e)
     (plain_is : plain a ≡ outlined o) (first : List Part) (is_insert : outlined o ≡ law.insert first no_value)
     (c : TextChange) (makes : MakesInRun now.profile before e a c (Some LastInBody))
-    (others_alone : All (λ y. LeavesAlone y o) outlines) (all_plain : ArePlain now.text changes)
+    (others_alone : All (λ y. LeavesAlone y o) outlines) (leave : All (LeavesHere now) changes)
     (freed : IsFreed now.text changes c.at)
     (it : IsAddedBehind now.text adds changes o c (Some LastInBody) next_adds new)
     (utf8 : All (λ b. IsUtf8 b.new) new) (within : All (IsChangeIn now.text) new) where
@@ -80,8 +81,8 @@ module _ (s : Document) (edits : List Edit) (n : ℕ) (old now : ProfiledText) (
     passed = All-weaker (IsHeaderKnown adds) (LetsTable line)
         (λ f known_f. subst (λ (l : Added). LetsTable l f) line_is (known.passed f known_f)) (seen_of before h.ms)
         h.headers_known;
-    plain = subst (λ (bytes : List ℕ). ArePlain bytes (changes_of h.ms)) read.reads.spelled
-        (subst (ArePlain now.text) (sym h.changes_are) all_plain);
+    newline = leave_here now before read (changes_of h.ms)
+        (subst (All (LeavesHere now)) (sym h.changes_are) leave);
     before = subst (λ (bytes : List ℕ). IsBeforeHeaders bytes (seen_of before h.ms) c.at) read.reads.spelled
         (before_headers now.text (seen_of before h.ms) c.at adds h.counts.appended (it.ends LastInBody refl));
   }
@@ -117,7 +118,7 @@ module _ (s : Document) (edits : List Edit) (n : ℕ) (old now : ProfiledText) (
     (lt : n < length edits) (here : get_or edits n d ≡ x) (o : Outline) (e a : law.Edit) (given : IsEdit x e)
     (plain_is : plain a ≡ outlined o) (first : List Part) (is_insert : outlined o ≡ law.insert first no_value)
     (c : TextChange) (makes : MakesInRun now.profile before e a c (Some OfDotted))
-    (others_alone : All (λ y. LeavesAlone y o) outlines) (placed : IsPlaced outlines now.text changes o c.at)
+    (others_alone : All (λ y. LeavesAlone y o) outlines) (placed : IsPlaced outlines now changes o c.at)
     (kept : IsLineKept adds changes o c.at (Some OfDotted) next_adds) (put : IsPutBefore changes c new)
     (utf8 : All (λ b. IsUtf8 b.new) new) (within : All (IsChangeIn now.text) new) where
   abbrev its_insert : IsInsert s edits n old now before outlines changes new adds next_adds read h d x lt here o e a
@@ -161,17 +162,18 @@ module _ (s : Document) (edits : List Edit) (n : ℕ) (old now : ProfiledText) (
   )
     where
       alike : All (λ y. runs.is_insert (outlined y) ≡ true) outlines
-          ⊎ (ArePlain now.text changes × All (LetsCome now.text changes c.at) changes)
+          ⊎ (All (LeavesHere now) changes × All (LetsCome now.text changes c.at) changes)
           → All (λ f. IsTrue (runs.is_insert f)) (seen_of before h.ms)
-          ⊎ (ArePlain (text before) (changes_of h.ms)
+          ⊎ (LeaveNewline before (changes_of h.ms)
           × (All (LetsCome (text before) (changes_of h.ms) c.at) (changes_of h.ms)
           × IsBeforeHeaders (text before) (seen_of before h.ms) c.at))
       alike (inl all) = inl (h.inserts all)
-      alike (inr (plain_all, come)) =
-          subst₂ (λ (bytes : List ℕ) (cs : List TextChange). All (λ f. IsTrue (runs.is_insert f)) (seen_of before h.ms)
-          ⊎ (ArePlain bytes cs × (All (LetsCome bytes cs c.at) cs
-          × IsBeforeHeaders bytes (seen_of before h.ms) c.at)))
-          read.reads.spelled (sym h.changes_are) (inr (plain_all, (come, inr not_at_end)))
+      alike (inr (leave, come)) = inr (
+        leave_here now before read (changes_of h.ms) (subst (All (LeavesHere now)) (sym h.changes_are) leave),
+        subst₂ (λ (bytes : List ℕ) (cs : List TextChange). All (LetsCome bytes cs c.at) cs
+            × IsBeforeHeaders bytes (seen_of before h.ms) c.at) read.reads.spelled (sym h.changes_are)
+            (come, inr not_at_end),
+      )
 
   its_run : IsRunBefore now.profile limit before h.ms its_insert.path its_insert.value OfDotted c new
   its_run =
@@ -211,10 +213,10 @@ pub more_in_place : (edits : List Edit) (first end : ℕ) (now : ProfiledText) (
     (t : TextEdit)
     → AreMadeTo edits first end now outlines changes adds → end < length edits → get_or edits end d ≡ x
     → MakesInRunHere now x (outlined o) t (Some LastInBody) → outlined o ≡ law.insert path no_value
-    → All (λ y. LeavesAlone y o) outlines → ArePlain now.text changes → IsFreed now.text changes (change_of t).at
+    → All (λ y. LeavesAlone y o) outlines → All (LeavesHere now) changes → IsFreed now.text changes (change_of t).at
     → IsAddedBehind now.text adds changes o (change_of t) (Some LastInBody) next new
     → AreMadeTo edits first (suc end) now (outlines ++ o ∷ []) new next
-more_in_place edits first end now outlines changes new adds next d x o path t so_far lt here makes is alone all_plain
+more_in_place edits first end now outlines changes new adds next d x o path t so_far lt here makes is alone leave
     freed it =
     let c : TextChange = change_of t in
     let utf8 =
@@ -226,7 +228,7 @@ more_in_place edits first end now outlines changes new adds next d x o path t so
     record {
       made = λ s old h. made_in_place s edits end old now h.tree outlines changes new adds next h.read
           (so_far.made s old h) d x lt here o makes.edit (makes.in_run h.tree) makes.is
-          (makes.outline_is h.tree h.read) path is c (makes.makes h.tree h.read) alone all_plain freed it utf8 within;
+          (makes.outline_is h.tree h.read) path is c (makes.makes h.tree h.read) alone leave freed it utf8 within;
       within = within;
       utf8 = utf8;
     }
@@ -236,8 +238,8 @@ pub more_before : (edits : List Edit) (first end : ℕ) (now : ProfiledText) (ou
     (kind : Option LineKind)
     → AreMadeTo edits first end now outlines changes adds → end < length edits → get_or edits end d ≡ x
     → MakesInRunHere now x (outlined o) t kind → All (λ y. LeavesAlone y o) outlines
-    → IsPlaced outlines now.text changes o (change_of t).at
-    → IsAddedRightBefore adds changes o (change_of t) kind next new
+    → IsPlaced outlines now changes o (change_of t).at
+    → IsAddedRightBefore now adds changes o (change_of t) kind next new
     → AreMadeTo edits first (suc end) now (outlines ++ o ∷ []) new next
 more_before edits first end now outlines changes new adds next d x o t kind so_far lt here makes alone placed it =
     let c : TextChange = change_of t in

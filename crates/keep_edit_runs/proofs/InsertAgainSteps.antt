@@ -8,7 +8,7 @@
 --
 -- Theorems: `each_instead`: what holds of each change holds with one where another was; `line_here`, `inserted_again`;
 -- `done_there`: the set is not refused after the edits.
-use Rattle.std.proofs.Common.{◌≡◌, ◌<◌, ◌∷◌, ◌++◌, [], ℕ, suc, List, take, length, get_or, string_bytes, refl, sym}
+use Rattle.std.proofs.Common.{[], ◌≡◌, ◌<◌, ◌∷◌, ◌++◌, ℕ, suc, List, take, length, get_or, refl, sym}
 use Rattle.std.proofs.Common.{ap, subst, ◌∙◌, All, IsUtf8, inl, inr, None, false, true}
 use Rattle.std.specs.Prelude.{◌⊎◌, Any, IsTrue}
 use Rattle.std.proofs.lemmas.List.Elements.{All-cons, All-head, All-tail}
@@ -29,7 +29,8 @@ use Rattle.keep_edit_spec.specs.Refusals.{refusal}
 use Rattle.keep_edit_spec.specs.RenameLists.{AllowsKey, IsRenameIn}
 use Rattle.keep_edit_spec.specs.RunLists.{IsSetIn, MadeEdit, changes_of, document_after, lines_of, made, seen_of}
 use Rattle.keep_edit_spec.specs.Runs as runs
-use Rattle.keep_edit_spec.specs.Runs.{IsPlain, IsRun, MakesChange}
+use Rattle.keep_edit_spec.specs.FirstNewline.{LeavesNewline}
+use Rattle.keep_edit_spec.specs.Runs.{IsRun, MakesChange}
 use Rattle.keep_edit_spec.specs.TextChanges.{Follow, TextChange, text_with}
 use Rattle.keep_edit_spec.proofs.Shared.{change_put, each_more, lines_more, run_goes_on_inserted, run_is_known}
 use Rattle.keep_edit_spec.proofs.Shared.{set_lawful}
@@ -42,6 +43,7 @@ use Rattle.keep_edit_runs.specs.Again.{InsertsAgainHere}
 use Rattle.keep_edit_plan.specs.Answers.{IsSpanOf}
 use Rattle.keep_edit_runs.specs.AddedLines.{IsHeaderKnown, IsKnownAt}
 use Rattle.keep_edit_runs.specs.Lists.{AreMade, IsEdit}
+use Rattle.keep_edit_runs.specs.Newlines.{LeavesHere}
 use Rattle.keep_edit_plan.specs.Reading.{IsAcceptedValue, IsTextOfTree, IsTextOfValue, ProfiledText, limit}
 use Rattle.keep_edit_runs.specs.Runs.{IsRunTo, changed_text, outlined}
 use Rattle.keep_edit_runs.specs.declared.added_lines.AddedLines.{AddedLines}
@@ -95,23 +97,24 @@ each_instead P old new c d r all its =
 
 -- ---- one more
 
--- the newlines of a line are alike, or all edits with these outlines add lines
-abbrev pub IsAlike : List Outline → TextEdit → Type 0
-IsAlike outlines t = IsPlain (string_bytes t.new) ⊎ All (λ y. runs.is_insert (outlined y) ≡ true) outlines
+-- a line leaves the first newline of the text's document, or all edits with these outlines add lines
+abbrev pub IsAlike : ProfiledText → List Outline → TextEdit → Type 0
+IsAlike now outlines t = LeavesHere now (change_of t) ⊎ All (λ y. runs.is_insert (outlined y) ≡ true) outlines
 
 module _ (s : Document) (edits : List Edit) (n : ℕ) (old now : ProfiledText) (before : Document)
     (outlines : List Outline) (changes new : List TextChange) (adds : AddedLines) (read : IsTextOfTree now before)
     (h : IsRunTo s edits n old now before outlines changes adds) (d x : Edit) (lt : n < length edits)
     (here : get_or edits n d ≡ x) (was t : TextEdit) (again : InsertsAgainHere now x was t)
-    (alike : IsAlike outlines t) (unfollowed : adds.has_follower ≡ false)
+    (alike : IsAlike now outlines t) (unfollowed : adds.has_follower ≡ false)
     (replaced : HasInstead changes (change_of was) (change_of t) new)
     (utf8 : All (λ b. IsUtf8 b.new) new) (within : All (IsChangeIn now.text) new) where
   abbrev e : law.Edit
   e = law.set again.path again.more
 
-  plain : IsAlike outlines t → IsPlain (change_of t).new ⊎ All (λ f. IsTrue (runs.is_insert f)) (seen_of before h.ms)
-  plain (inl line) = inl line
-  plain (inr all) = inr (h.inserts all)
+  leaves : IsAlike now outlines t
+      → LeavesNewline before (change_of t) ⊎ All (λ f. IsTrue (runs.is_insert f)) (seen_of before h.ms)
+  leaves (inl line) = inl (line before read)
+  leaves (inr all) = inr (h.inserts all)
 
   r : IsRunInsertedAgain now.profile limit before h.ms again.path again.more replaced.before (change_of was)
       (change_of t) replaced.after
@@ -119,7 +122,7 @@ module _ (s : Document) (edits : List Edit) (n : ℕ) (old now : ProfiledText) (
       run_goes_on_inserted now.profile limit before h.ms again.path again.value again.more again.kind replaced.before
       (change_of was) (change_of t) replaced.after (editable now before read) h.at_once
       (h.followed unfollowed) (again.added before read) (h.changes_are ∙ replaced.was) (again.adds before read)
-      (plain alike)
+      (leaves alike)
 
   abbrev ms : List MadeEdit
   ms = r.others
@@ -276,7 +279,7 @@ line_here now x path given value was t kind is added (v, given_is) adds (w, valu
 pub inserted_again : (edits : List Edit) (first end : ℕ) (now : ProfiledText) (outlines : List Outline)
     (changes new : List TextChange) (adds : AddedLines) (d x : Edit) (was t : TextEdit)
     → AreMadeTo edits first end now outlines changes adds → end < length edits → get_or edits end d ≡ x
-    → InsertsAgainHere now x was t → IsAlike outlines t → adds.has_follower ≡ false
+    → InsertsAgainHere now x was t → IsAlike now outlines t → adds.has_follower ≡ false
     → HasInstead changes (change_of was) (change_of t) new
     → AreMadeTo edits first (suc end) now outlines new adds
 inserted_again edits first end now outlines changes new adds d x was t so_far lt here again alike unfollowed replaced =

@@ -1,19 +1,15 @@
--- Where an edit that is made at once with others writes a line or a header: either they are all of its kind, or each
--- newline is alike and its place is kept, also where elements are removed between them.
+-- Edits of which the paths are added are all of the kind of the first one (`of_kind`). So where one of them writes a
+-- line or a header, all do.
 --
--- Paths are added only for edits of the kind of the first one (`of_kind`).
---
--- Theorems: `placed_of_kind`, `placed_plain`.
-use Rattle.std.proofs.Common.{◌≡◌, ℕ, Bool, true, false, List, All, refl, sym, ◌∙◌, inl}
+-- Theorem: `placed_of_kind`.
+use Rattle.std.proofs.Common.{◌≡◌, ℕ, true, List, All, refl, sym, ◌∙◌, inl}
 use Rattle.std.proofs.lemmas.List.Elements.{All-weaker}
-use Rattle.std.proofs.lemmas.Bool.{or_parts}
 use Rattle.keep_edit_spec.specs.Runs as runs
-use Rattle.keep_edit_spec.specs.Runs.{ArePlain}
 use Rattle.keep_edit_spec.specs.TextChanges.{TextChange}
 use Rattle.keep_edit_runs.specs.declared.outline.Outline.{Outline}
 use Rattle.keep_edit_runs.specs.declared.outline.Outline.TheVariants.{Element, Insert, Remove, Rename, Set, Table}
-use Rattle.keep_edit_runs.specs.KindsRun.{IsPlacedAmong}
-use Rattle.keep_edit_runs.specs.Runs.{IsPlaceKept, outlined, writes_anew}
+use Rattle.keep_edit_plan.specs.Reading.{ProfiledText}
+use Rattle.keep_edit_runs.specs.Runs.{outlined}
 use Rattle.keep_edit_runs.specs.Seen.{HasPathsOf, IsSeen}
 use Rattle.keep_edit_runs.specs.declared.seen.SeenKeys.{SeenKeys}
 use Rattle.keep_edit_runs.proofs.RunSteps.{IsPlaced}
@@ -67,22 +63,11 @@ same_kind seen x y h k =
     let other = of_kind seen seen.first y k in
     (other.0 ∙ sym one.0, other.1 ∙ sym one.1)
 
-pub placed_of_kind : (seen : SeenKeys) (outlines : List Outline) (bytes : List ℕ) (changes : List TextChange)
-    (x : Outline) (at : ℕ) → All (IsSeen seen) outlines → IsSeen seen x → IsPlaced outlines bytes changes x at
-placed_of_kind seen outlines bytes changes x at all h = record {
+pub placed_of_kind : (seen : SeenKeys) (outlines : List Outline) (now : ProfiledText) (changes : List TextChange)
+    (x : Outline) (at : ℕ) → All (IsSeen seen) outlines → IsSeen seen x → IsPlaced outlines now changes x at
+placed_of_kind seen outlines now changes x at all h = record {
   insert = λ is. inl (All-weaker (IsSeen seen) (λ y. runs.is_insert (outlined y) ≡ true)
       (λ y k. (same_kind seen x y h k).0 ∙ is) outlines all);
   header = λ is. inl (All-weaker (IsSeen seen) (λ y. runs.is_header (outlined y) ≡ true)
       (λ y k. (same_kind seen x y h k).1 ∙ is) outlines all);
 }
-
--- where it writes none, or all is plain and its place is kept
-pub placed_plain : (bytes : List ℕ) (changes : List TextChange) (x : Outline) (at : ℕ) (writes : Bool)
-    → writes ≡ writes_anew x → (writes ≡ true → ArePlain bytes changes × IsPlaceKept bytes changes x at)
-    → IsPlacedAmong bytes changes x at
-placed_plain bytes changes x at false is h =
-    let none = or_parts (runs.is_insert (outlined x)) (runs.is_header (outlined x)) (sym is) in
-    record { insert = λ yes. absurd cc; header = λ yes. absurd cc }
-placed_plain bytes changes x at true is h =
-    let (plain, kept) = h refl in
-    record { insert = λ yes. (plain, kept.line yes); header = λ yes. (plain, kept.header yes) }

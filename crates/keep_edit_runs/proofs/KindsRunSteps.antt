@@ -6,7 +6,7 @@
 -- AgainSteps tell that the edits up to it are made.
 --
 -- Theorems: `run_begins`: no edits; `adds_one`, `adds_in_place`, `puts_one`, `takes_one`: one more.
-use Rattle.std.proofs.Common.{◌≡◌, ◌<◌, [], ℕ, suc, All, List, length, get_or, inl, inr, refl, subst}
+use Rattle.std.proofs.Common.{[], ◌≡◌, ◌<◌, ℕ, suc, All, List, length, get_or, inl, inr, refl, subst}
 use Rattle.std.proofs.Common.{subst₂, sym}
 use Rattle.std.specs.Prelude.{Bool, true}
 use Rattle.keep_edit_spec.specs.TextChanges.{TextChange}
@@ -51,9 +51,9 @@ module _ (edits : List Edit) (first end : ℕ) (now : ProfiledText) (old new : K
   pub adds_one : AddsOne now old x new → AreBaseIn edits first (suc end) now new
   adds_one h = by h.added.0 h.added.1.0 h.added.1.1
     where
-      placed_here : IsPlaced old.so_far.outlines.items now.text old.so_far.changes h.outline (change_of h.change).at
+      placed_here : IsPlaced old.so_far.outlines.items now old.so_far.changes h.outline (change_of h.change).at
       placed_here =
-          placed_too old.so_far.outlines.items now.text old.so_far.changes h.outline (change_of h.change).at h.placed
+          placed_too old.so_far.outlines.items now old.so_far.changes h.outline (change_of h.change).at h.placed
 
       by : (alone : Bool) → (alone ≡ true → old.gone.arrays.items ≡ [])
           → IsAddedInOrder now x old.lines old.so_far.changes h.outline (change_of h.change) h.line alone new.lines
@@ -96,7 +96,7 @@ module _ (edits : List Edit) (first end : ℕ) (now : ProfiledText) (old new : K
       made_as edits first (suc end) now
       (none_gone edits first (suc end) now _ new.so_far.changes new.lines old.gone
       (more_in_place edits first end now old.so_far.outlines.items old.so_far.changes new.so_far.changes old.lines
-      new.lines d x h.outline h.first h.change none lt here h.makes h.is h.alone.edits h.plain h.freed h.added)
+      new.lines d x h.outline h.first h.change none lt here h.makes h.is h.alone.edits h.newline h.freed h.added)
       h.none no_elements)
       h.outlines refl refl h.gone
 

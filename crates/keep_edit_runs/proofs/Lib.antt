@@ -11,6 +11,8 @@ mod HeaderLaws
 mod KindLaws
 mod CountLaws
 mod LineLaws
+mod NewlineLaws
+mod NewlineSteps
 mod InRuns
 mod RunSteps
 mod SetAgainSteps
@@ -33,6 +35,7 @@ mod ElementSteps
 mod KindsRunSteps
 mod ValueAfterLaws
 mod OpenedLaws
+mod TailNewlines
 mod TailRuns
 mod EndPlaces
 mod LiftsPlain

@@ -9,7 +9,7 @@
 -- end, it is enough that the edit is not refused.
 --
 -- Theorems: `lifts_ahead`, `lifts_following`, `lifts_in_place`, `lifts_again`.
-use Rattle.std.proofs.Common.{◌≡◌, ◌≤◌, ◌<◌, ◌+◌, ◌∷◌, ◌++◌, [], ℕ, List, take, length, get_or, refl, sym}
+use Rattle.std.proofs.Common.{[], ◌≡◌, ◌≤◌, ◌<◌, ◌+◌, ◌∷◌, ◌++◌, ℕ, List, take, length, get_or, refl, sym}
 use Rattle.std.proofs.Common.{ap, subst, ◌∙◌, All, IsUtf8, inl, inr, None, Option, Some, arith, cond, false}
 use Rattle.std.proofs.Common.{length-append, length-drop, true}
 use Rattle.std.specs.Prelude.{◌⊎◌, Bool, nat_lt}
@@ -23,15 +23,17 @@ use Rattle.keep_syntax.specs.Tree.{Document, Value, text}
 use Rattle.keep_path.specs.Path.{Part, without_last}
 use Rattle.keep_edit_spec.specs.AddedLines.{first_new}
 use Rattle.keep_edit_spec.specs.Edits as law
-use Rattle.keep_edit_spec.specs.EndEdits.{AreAllPlain, AreAtEnd, BeginWithHeader, ComesBefore, EndEdit, IsInto}
+use Rattle.keep_edit_spec.specs.Edits.{edited_document}
+use Rattle.keep_edit_spec.specs.EndEdits.{AreAtEnd, BeginWithHeader, ComesBefore, EndEdit, EndsLeave, IsInto}
 use Rattle.keep_edit_spec.specs.EndEdits.{IsEntryMadeBefore, IsMadeBefore, LetsLine, document_with}
 use Rattle.keep_edit_spec.specs.EntryEdits.{MakesSet}
+use Rattle.keep_edit_spec.specs.FirstNewline.{HasFirst}
 use Rattle.keep_edit_spec.specs.HeadersBelow.{GoThrough}
 use Rattle.keep_edit_spec.specs.InsertKinds.{Added, added_as}
 use Rattle.keep_edit_spec.specs.Laws.{IsEditable, IsLawfulEdit}
 use Rattle.keep_edit_spec.specs.Refusals.{refusal}
 use Rattle.keep_edit_spec.specs.Runs as runs
-use Rattle.keep_edit_spec.specs.Runs.{IsPlain, LetsTable, MakesChange, PassesBy, PassesTable, takes_up_to}
+use Rattle.keep_edit_spec.specs.Runs.{LetsTable, MakesChange, PassesBy, PassesTable, takes_up_to}
 use Rattle.keep_edit_spec.specs.SetValues.{SetsValue}
 use Rattle.keep_edit_spec.specs.TextChanges.{Follow, IsBeside, TextChange, change_at, moved_by_all, text_with}
 use Rattle.keep_edit_spec.specs.TextChanges.{with_change}
@@ -47,6 +49,7 @@ use Rattle.keep_edit_runs.specs.Again.{IsAgainHere, IsPutAgain}
 use Rattle.keep_edit_runs.specs.AddedLines.{IsHeaderKnown, line_of}
 use Rattle.keep_edit_runs.specs.KindsRun.{AddsInPlace, AddsOne, LetsAgainBefore, PutsOne}
 use Rattle.keep_edit_runs.specs.Lists.{AreMade, IsEdit}
+use Rattle.keep_edit_runs.specs.Newlines.{LeavesHere}
 use Rattle.keep_edit_runs.specs.Runs.{IsAddedAhead, IsAddedFollowing, IsAddedRightBefore, IsLineKept, IsRunTo}
 use Rattle.keep_edit_runs.specs.Runs.{MakesInRun}
 use Rattle.keep_edit_runs.specs.Runs.{IsSetBy, changed_text, no_value, outlined, plain}
@@ -62,7 +65,7 @@ use Rattle.keep_edit_runs.proofs.AgainSteps.{done_once_more}
 use Rattle.keep_edit_runs.proofs.AheadSteps.{IsInsertThere, each_ahead}
 use Rattle.keep_edit_runs.proofs.AheadSteps.{made_there as ahead_there}
 use Rattle.keep_edit_runs.proofs.ElementSteps.{placed_too}
-use Rattle.keep_edit_runs.proofs.EndPlaces.{before_last, length_from, plain_text, takes_none}
+use Rattle.keep_edit_runs.proofs.EndPlaces.{before_last, length_from, takes_none}
 use Rattle.keep_edit_runs.proofs.FollowSteps.{made_there as following_there}
 use Rattle.keep_edit_runs.proofs.InPlaceSteps.{each_before, line_before as before_there}
 use Rattle.keep_edit_runs.proofs.InPlaceSteps.{line_in_place as in_place_there}
@@ -70,6 +73,7 @@ use Rattle.keep_edit_runs.proofs.LiftsPlain.{begins_with_header, no_through, one
 use Rattle.keep_edit_runs.proofs.RunSteps.{AreMadeTo}
 use Rattle.keep_edit_runs.proofs.SetAgainSteps.{IsDoneThere, IsSetThere, each_replaced}
 use Rattle.keep_edit_runs.proofs.SetAgainSteps.{made_there as set_there}
+use Rattle.keep_edit_runs.proofs.TailNewlines.{IsFirstKnown}
 use Rattle.keep_edit_runs.proofs.TailRuns.{AreMadeIn, IsEndClear, IsLifted, IsTailTo, Lifts}
 
 -- ---- the edits at the end
@@ -422,18 +426,15 @@ module _ (edits : List Edit) (first end : ℕ) (now : ProfiledText) (old : Kinds
   begins : BeginWithHeader ts
   begins = begins_with_header old.tail.blocks.items ts whole.is
 
-  all_plain : IsEndClear now.text changes → (new : List ℕ) → IsPlain new → AreAllPlain d ts new
-  all_plain clear new plain_new = record {
-    text_is = subst IsPlain read.reads.spelled (plain_text now.text changes clear.text clear.new);
-    new_is = plain_new;
-    ends_are = whole.plain_all;
-  }
+  -- the first newline is known of the document with an edit, too
+  abbrev IsKnownWith : law.Edit → Type 0
+  IsKnownWith f = IsFirstKnown d ts (edited_document d f)
 
   -- ---- an insert
 
   module _ (f a : law.Edit) (kind : LineKind) (new : List ℕ)
       (i : IsInsertThere now.profile h.tree d f a kind new)
-      (alone : All (λ y. runs.LeavesAlone (outlined y) (plain a)) old.tail.outlines.items) (plain_new : IsPlain new)
+      (alone : All (λ y. runs.LeavesAlone (outlined y) (plain a)) old.tail.outlines.items)
       (lets : All (λ t. LetsLine (added_as d i.path i.change) t.seen) ts) where
     abbrev e : law.Edit
     e = law.insert i.path i.value
@@ -441,30 +442,28 @@ module _ (edits : List Edit) (first end : ℕ) (now : ProfiledText) (old : Kinds
     seen_is : a ≡ runs.seen d e
     seen_is = i.seen_is ∙ ap (λ (p : List Part). law.insert p i.value) (sym i.first)
 
-    before : IsEndClear now.text changes → ComesBefore d ts e i.change
-    before clear = record {
+    before : IsKnownWith e → (ts ≡ []) ⊎ ComesBefore d ts e i.change
+    before (inl none) = inl none
+    before (inr known) = inr (record {
       other = refl;
       alone = subst (λ (g : law.Edit). All (λ t. runs.LeavesAlone t.seen g) ts) seen_is (whole.alone a alone);
       lets = lets;
-      plain = subst (AreAllPlain d ts) (sym i.new_is) (all_plain clear new plain_new);
+      newline = known;
       clear = λ no. absurd cc;
       first = λ is. begins;
-    }
+    })
 
-    insert_lifts : IsLifted now.profile d ts f
-    insert_lifts =
+    insert_lifts : IsKnownWith f → IsLifted now.profile d ts f
+    insert_lifts known =
         subst (IsLifted now.profile d ts) (sym i.is)
         (lifted_insert now.profile d ts fine whole.ends i.path i.value i.change i.makes
-        (elim (so_far.clear (h.tree, h.read)) [
-          | inl nothing ↦ inl (no_ends nothing)
-          | inr clear ↦ inr (before clear)
-        ]))
+        (before (subst IsKnownWith i.is known)))
 
   -- ---- a set
 
   module _ (f : law.Edit) (path : List Part) (value : Value) (c : TextChange)
       (i : IsSetThere now.profile d changes f path value c) (set_in : IsSetBy outlines path)
-      (plain_new : IsPlain c.new) (clear : IsEndClear now.text changes) where
+      (clear : IsEndClear now changes) where
     abbrev there : TextChange
     there = change_at (moved_by_all i.rest c.at) (length i.was.new) c.new
 
@@ -494,28 +493,34 @@ module _ (edits : List Edit) (first end : ℕ) (now : ProfiledText) (old : Kinds
         (subst (λ (cs : List TextChange). there.at + there.size < length (text_with 0 now.text cs)) (sym i.changes_are)
         ended)
 
-    set_before : ComesBefore d ts (law.set path value) there
-    set_before = record {
+    set_before : (first : Option (List ℕ)) × (EndsLeave first d ts
+        × HasFirst first (edited_document d (law.set path value)))
+        → ComesBefore d ts (law.set path value) there
+    set_before known = record {
       other = refl;
       alone = alone;
       lets = λ k t few. tt;
-      plain = all_plain clear c.new plain_new;
+      newline = known;
       clear = λ no same. omega (arith, less, same);
       first = λ is. begins;
     }
 
-    set_lifts : IsLifted now.profile d ts f
-    set_lifts = elim i.makes [
+    set_lifts : (first : Option (List ℕ)) × (EndsLeave first d ts × HasFirst first (edited_document d f))
+        → IsLifted now.profile d ts f
+    set_lifts (line, (leave, still)) = elim i.makes [
       | inl is ↦
           subst (IsLifted now.profile d ts) (sym is)
-          (lifted_set now.profile d ts fine whole.ends path value there i.sets set_before)
-      | inr makes ↦ lifted_entry now.profile d ts fine whole.ends f path value there makes set_before
+          (lifted_set now.profile d ts fine whole.ends path value there i.sets
+          (set_before (line, (leave, subst (λ (g : law.Edit). HasFirst line (edited_document d g)) is still))))
+      | inr makes ↦
+          lifted_entry now.profile d ts fine whole.ends f path value there makes
+          (set_before (line, (leave, subst (HasFirst line) makes.same still)))
     ]
 
   -- ---- a line before others
 
   module _ (new : KindsRun) (k : AddsOne now old x new)
-      (it : IsAddedAhead now.text old.lines changes k.outline (change_of k.change) k.line new.lines
+      (it : IsAddedAhead now old.lines changes k.outline (change_of k.change) k.line new.lines
       new.so_far.changes) where
     abbrev c : TextChange
     c = change_of k.change
@@ -531,7 +536,7 @@ module _ (edits : List Edit) (first end : ℕ) (now : ProfiledText) (old : Kinds
         subst (λ (u : Document). IsInsertThere now.profile h.tree u k.makes.edit a it.kept.kind c.new) same_tree
         (ahead_there s all n older now h.tree outlines changes new.so_far.changes old.lines new.lines h.read run x x few
         here k.outline k.makes.edit a k.makes.is ahead_is c k.line (k.makes.makes h.tree h.read) k.alone.edits
-        (placed_too outlines now.text changes k.outline c.at k.placed) it
+        (placed_too outlines now changes k.outline c.at k.placed) it
         (each_ahead (λ b. IsUtf8 b.new) changes new.so_far.changes c it.put none.utf8
         (IsUtf8-string_bytes k.change.new))
         (each_ahead (IsChangeIn now.text) changes new.so_far.changes c it.put none.within
@@ -553,12 +558,13 @@ module _ (edits : List Edit) (first end : ℕ) (now : ProfiledText) (old : Kinds
         (λ t known. same_line (line_of it.kept.first c.at it.kept.kind) its (sym first_is) (sym ahead.kind_is) t.seen
         (it.kept.lets t.seen known)) ts whole.known)
 
-    ahead_lifts : (e : law.Edit) → IsEdit x e → IsLifted now.profile d ts e
+    ahead_lifts : (e : law.Edit) → IsEdit x e → IsKnownWith e → IsLifted now.profile d ts e
     ahead_lifts e given =
-        subst (IsLifted now.profile d ts) (one_given x k.makes.edit e k.makes.is given)
+        subst (λ (g : law.Edit). IsKnownWith g → IsLifted now.profile d ts g)
+        (one_given x k.makes.edit e k.makes.is given)
         (insert_lifts k.makes.edit a it.kept.kind c.new ahead
         (subst (λ (g : law.Edit). All (λ y. runs.LeavesAlone (outlined y) g) old.tail.outlines.items) (sym ahead_is)
-        k.alone.tail) it.plain ahead_lets)
+        k.alone.tail) ahead_lets)
 
   -- ---- a line in the place of what another takes
 
@@ -582,23 +588,24 @@ module _ (edits : List Edit) (first end : ℕ) (now : ProfiledText) (old : Kinds
         same_tree
         (in_place_there s all n older now h.tree outlines changes new.so_far.changes old.lines new.lines h.read run x x
         few here k.outline k.makes.edit placed_seen k.makes.is placed_is k.first k.is placed_change
-        (k.makes.makes h.tree h.read) k.alone.edits k.plain k.freed k.added
+        (k.makes.makes h.tree h.read) k.alone.edits k.newline k.freed k.added
         (all_new (λ b. IsUtf8 b.new) none.utf8 (IsUtf8-string_bytes k.change.new))
         (all_new (IsChangeIn now.text) none.within (change_in now.text k.change k.makes.within)))
 
-    in_place_lifts : (e : law.Edit) → IsEdit x e → IsLifted now.profile d ts e
+    in_place_lifts : (e : law.Edit) → IsEdit x e → IsKnownWith e → IsLifted now.profile d ts e
     in_place_lifts e given =
-        subst (IsLifted now.profile d ts) (one_given x k.makes.edit e k.makes.is given)
+        subst (λ (g : law.Edit). IsKnownWith g → IsLifted now.profile d ts g)
+        (one_given x k.makes.edit e k.makes.is given)
         (insert_lifts k.makes.edit placed_seen LastInBody placed_change.new placed
         (subst (λ (g : law.Edit). All (λ y. runs.LeavesAlone (outlined y) g) old.tail.outlines.items) (sym placed_is)
-        k.alone.tail) k.new_plain
+        k.alone.tail)
         (λ i t less. lets_last (added_as d placed.path placed.change) (no_header LastInBody placed.kind_is (λ same. cc))
         (get_or ts i t).seen))
 
   -- ---- a line right before what another takes
 
   module _ (new : KindsRun) (k : AddsOne now old x new)
-      (it : IsAddedRightBefore old.lines changes k.outline (change_of k.change) k.line new.lines new.so_far.changes)
+      (it : IsAddedRightBefore now old.lines changes k.outline (change_of k.change) k.line new.lines new.so_far.changes)
     where
       abbrev its_change : TextChange
       its_change = change_of k.change
@@ -617,7 +624,7 @@ module _ (edits : List Edit) (first end : ℕ) (now : ProfiledText) (old : Kinds
           few here k.outline k.makes.edit its_seen k.makes.is its_plain it.first it.is its_change
           (subst (MakesInRun now.profile h.tree k.makes.edit its_seen its_change) it.line_is
           (k.makes.makes h.tree h.read))
-          k.alone.edits (placed_too outlines now.text changes k.outline its_change.at k.placed)
+          k.alone.edits (placed_too outlines now changes k.outline its_change.at k.placed)
           (subst (λ (l : Option LineKind). IsLineKept old.lines changes k.outline its_change.at l new.lines) it.line_is
           it.kept) it.put
           (each_before (λ b. IsUtf8 b.new) changes new.so_far.changes its_change it.put none.utf8
@@ -625,12 +632,13 @@ module _ (edits : List Edit) (first end : ℕ) (now : ProfiledText) (old : Kinds
           (each_before (IsChangeIn now.text) changes new.so_far.changes its_change it.put none.within
           (change_in now.text k.change k.makes.within)))
 
-      before_lifts : (e : law.Edit) → IsEdit x e → IsLifted now.profile d ts e
+      before_lifts : (e : law.Edit) → IsEdit x e → IsKnownWith e → IsLifted now.profile d ts e
       before_lifts e given =
-          subst (IsLifted now.profile d ts) (one_given x k.makes.edit e k.makes.is given)
+          subst (λ (g : law.Edit). IsKnownWith g → IsLifted now.profile d ts g)
+          (one_given x k.makes.edit e k.makes.is given)
           (insert_lifts k.makes.edit its_seen OfDotted its_change.new before_it
           (subst (λ (g : law.Edit). All (λ y. runs.LeavesAlone (outlined y) g) old.tail.outlines.items) (sym its_plain)
-          k.alone.tail) it.plain
+          k.alone.tail)
           (λ i t less. lets_last (added_as d before_it.path before_it.change)
           (no_header OfDotted before_it.kind_is (λ same. cc)) (get_or ts i t).seen))
 
@@ -654,44 +662,46 @@ module _ (edits : List Edit) (first end : ℕ) (now : ProfiledText) (old : Kinds
         (following_there s all n older now h.tree outlines changes new.so_far.changes old.lines new.lines h.read run x x
         few here k.outline k.makes.edit seen_as k.makes.is following_is (change_of k.change) k.line
         (k.makes.makes h.tree h.read) k.alone.edits
-        (placed_too outlines now.text changes k.outline (change_of k.change).at k.placed) it
+        (placed_too outlines now changes k.outline (change_of k.change).at k.placed) it
         (subst (All (λ b. IsUtf8 b.new)) (sym it.changes_are)
         (all_with (λ b. IsUtf8 b.new) changes line none.utf8 (IsUtf8-string_bytes it.line.new)))
         (subst (All (IsChangeIn now.text)) (sym it.changes_are)
         (all_with (IsChangeIn now.text) changes line none.within (change_in now.text it.line it.alone.within))))
 
-    following_lifts : (e : law.Edit) → IsEdit x e → IsLifted now.profile d ts e
+    following_lifts : (e : law.Edit) → IsEdit x e → IsKnownWith e → IsLifted now.profile d ts e
     following_lifts e given =
-        subst (IsLifted now.profile d ts) (one_given x k.makes.edit e k.makes.is given)
+        subst (λ (g : law.Edit). IsKnownWith g → IsLifted now.profile d ts g)
+        (one_given x k.makes.edit e k.makes.is given)
         (insert_lifts k.makes.edit seen_as LastInBody line.new following
         (subst (λ (g : law.Edit). All (λ y. runs.LeavesAlone (outlined y) g) old.tail.outlines.items)
-        (sym following_is) k.alone.tail) it.plain
+        (sym following_is) k.alone.tail)
         (λ i t less. lets_last (added_as d following.path following.change)
         (no_header LastInBody following.kind_is (λ same. cc)) (get_or ts i t).seen))
 
   -- ---- what is done again
 
   again_lifts : (new : KindsRun) → PutsOne now old x new → All (IsSeen old.paths) outlines
-      → (e : law.Edit) → IsEdit x e → IsLifted now.profile d ts e
-  again_lifts new k seen e given = elim (so_far.clear (h.tree, h.read)) [
-    | inl nothing ↦ alone_lifts nothing
-    | inr clear ↦ by clear k.again k.is k.does.before k.does.put
+      → (e : law.Edit) → IsEdit x e → IsKnownWith e → IsLifted now.profile d ts e
+  again_lifts new k seen e given known = elim (so_far.clear (h.tree, h.read)) [
+    | inl nothing ↦ alone_lifts (no_ends nothing)
+    | inr clear ↦ by clear k.again k.is k.does.before k.does.put known
   ]
     where
-      alone_lifts : old.tail.blocks.items ≡ [] → IsLifted now.profile d ts e
+      alone_lifts : ts ≡ [] → IsLifted now.profile d ts e
       alone_lifts nothing =
           let (f, (is, (allowed, lawful))) =
           subst (λ (u : Document). IsDoneThere now.profile u x) same_tree
           (done_once_more s all n older now h.tree outlines changes new.so_far.changes old.lines h.read run none.utf8
           none.within x x few here (IsSeen old.paths) seen k.again k.is k.does.allowed k.does.lets k.does.put) in
           subst (IsLifted now.profile d ts) (one_given x f e is given)
-          (lifted_alone now.profile d ts fine whole.ends (no_ends nothing) f allowed lawful)
+          (lifted_alone now.profile d ts fine whole.ends nothing f allowed lawful)
 
-      by : IsEndClear now.text changes → (a : Again) → IsAgainHere now x outlines changes a
-          → LetsAgainBefore old.tail.blocks.items a → IsPutAgain a changes new.so_far.changes
-          → IsLifted now.profile d ts e
-      by clear (again.Value t) is (inl nothing) put = alone_lifts nothing
-      by clear (again.Value t) is (inr plain_new) put =
+      by : IsEndClear now changes → (a : Again) → IsAgainHere now x outlines changes a
+          → LetsAgainBefore (LeavesHere now) old.tail.blocks.items a → IsPutAgain a changes new.so_far.changes
+          → IsKnownWith e → IsLifted now.profile d ts e
+      by clear (again.Value t) is (inl nothing) put fresh = alone_lifts (no_ends nothing)
+      by clear (again.Value t) is (inr leaves) put (inl nothing) = alone_lifts nothing
+      by clear (again.Value t) is (inr leaves) put (inr fresh) =
           let c : TextChange = change_of t in
           let there : IsSetThere now.profile d changes is.edit is.path is.value c =
           subst (λ (u : Document). IsSetThere now.profile u changes is.edit is.path is.value c) same_tree
@@ -701,15 +711,22 @@ module _ (edits : List Edit) (first end : ℕ) (now : ProfiledText) (old : Kinds
           (each_replaced (IsChangeIn now.text) changes new.so_far.changes c put none.within
           (change_in now.text t is.within))) in
           subst (IsLifted now.profile d ts) (one_given x is.edit e is.is given)
-          (set_lifts is.edit is.path is.value c there is.already plain_new clear)
-      by clear (again.Key o t) is nothing put = alone_lifts nothing
-      by clear (again.Line number was t) is nothing put = alone_lifts nothing
+          (set_lifts is.edit is.path is.value c there is.already clear (
+            fresh.0,
+            (
+              fresh.1.0,
+              subst (λ (g : law.Edit). HasFirst fresh.0 (edited_document d g))
+                  (sym (one_given x is.edit e is.is given)) fresh.1.1,
+            ),
+          ))
+      by clear (again.Key o t) is nothing put fresh = alone_lifts (no_ends nothing)
+      by clear (again.Line number was t) is nothing put fresh = alone_lifts (no_ends nothing)
 
 -- ---- as the code goes
 
 pub lifts_ahead : (edits : List Edit) (first end : ℕ) (now : ProfiledText) (old new : KindsRun) (x : Edit)
     → old.gone.arrays.items ≡ [] → (k : AddsOne now old x new)
-    → IsAddedAhead now.text old.lines old.so_far.changes k.outline (change_of k.change) k.line new.lines
+    → IsAddedAhead now old.lines old.so_far.changes k.outline (change_of k.change) k.line new.lines
     new.so_far.changes
     → Lifts edits first end now old x
 lifts_ahead edits first end now old new x empty k it = λ so_far s older h e given.
@@ -724,7 +741,8 @@ lifts_following edits first end now old new x empty k it = λ so_far s older h e
 
 pub lifts_before : (edits : List Edit) (first end : ℕ) (now : ProfiledText) (old new : KindsRun) (x : Edit)
     → old.gone.arrays.items ≡ [] → (k : AddsOne now old x new)
-    → IsAddedRightBefore old.lines old.so_far.changes k.outline (change_of k.change) k.line new.lines new.so_far.changes
+    → IsAddedRightBefore now old.lines old.so_far.changes k.outline (change_of k.change) k.line new.lines
+    new.so_far.changes
     → Lifts edits first end now old x
 lifts_before edits first end now old new x empty k it = λ so_far s older h e given.
     before_lifts edits first end now old x empty so_far s older h new k it e given

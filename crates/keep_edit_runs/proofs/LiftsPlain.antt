@@ -5,15 +5,16 @@
 -- from which elements go). By the laws of edits at the end of a text it comes before them then (`ComesBefore`): they
 -- leave it alone, as they do by their outlines. Where it brings the header of a table, headers at the end pass by that
 -- table, as those that are known do, and the inserts at the end are into other tables, as headers go through theirs
--- (`ends_let`). Nothing has a carriage return, and the text's last byte stays behind the change (EndPlaces). If nothing
--- is at the end, the edit is not refused, and that is all (`lifted_alone`).
+-- (`ends_let`). The first newline is known with the edit as without it, and the text's last byte stays behind the
+-- change
+-- (EndPlaces). If nothing is at the end, the edit is not refused, and that is all (`lifted_alone`).
 --
 -- Theorems: `lifts_behind`: an edit that is added behind all others where its change begins; `lifts_taken`: one that
 -- removes an element; `one_given`: an edit that is given is one edit; `begins_with_header`: of what is at the end;
 -- `no_through`, `ends_let`: a line comes before it; `lifted_alone`, `lifted_change`, `lifted_set`, `lifted_without`: by
 -- the laws.
-use Rattle.std.proofs.Common.{◌≡◌, ◌≢◌, ◌∙◌, ℕ, ◌+◌, ◌<◌, ◌++◌, ◌∷◌, [], All, List, None, Option, Some, ap, arith}
-use Rattle.std.proofs.Common.{false, inl, inr, length, map, refl, string_bytes, subst, subst₂, sym, take, true}
+use Rattle.std.proofs.Common.{[], ◌≡◌, ◌≢◌, ◌∙◌, ℕ, ◌+◌, ◌++◌, ◌∷◌, All, List, None, Option, Some, ap, arith}
+use Rattle.std.proofs.Common.{false, inl, inr, length, map, refl, subst, subst₂, sym, take, true}
 use Rattle.std.specs.Prelude.{◌⊎◌, ◌≤◌}
 use Rattle.std.proofs.lemmas.List.Elements.{All-append, All-cons, All-head, All-nil, All-tail, All-weaker}
 use Rattle.keep_types.specs.declared.leaf.Profile.{Profile}
@@ -24,8 +25,9 @@ use Rattle.keep_path.specs.Path.{Part, index, key, strip, without_last}
 use Rattle.keep_path.proofs.Shared.{strip_append}
 use Rattle.keep_edit_spec.specs.AddedLines.{first_new}
 use Rattle.keep_edit_spec.specs.Edits as law
+use Rattle.keep_edit_spec.specs.Edits.{edited_document}
 use Rattle.keep_edit_spec.specs.ElementRuns.{IsElsewhere, KeepsPlaceAmong, changed_path}
-use Rattle.keep_edit_spec.specs.EndEdits.{AreAllPlain, AreAtEnd, BeginWithHeader, ComesBefore, EndEdit}
+use Rattle.keep_edit_spec.specs.EndEdits.{AreAtEnd, BeginWithHeader, ComesBefore, EndEdit}
 use Rattle.keep_edit_spec.specs.EndEdits.{IsEntryMadeBefore, IsInto, IsMadeBefore, IsRemovedBefore, LetsEdit, LetsLine}
 use Rattle.keep_edit_spec.specs.EndEdits.{document_with}
 use Rattle.keep_edit_spec.specs.EntryEdits.{AreOfSameEntry, InsertsEntry, MakesSet, RemovesEntry, RenamesEntry}
@@ -37,7 +39,7 @@ use Rattle.keep_edit_spec.specs.Look.{keys_in}
 use Rattle.keep_edit_spec.specs.Refusals.{refusal}
 use Rattle.keep_edit_spec.specs.RemovedHeaders.{RemovesHeader}
 use Rattle.keep_edit_spec.specs.Runs as runs
-use Rattle.keep_edit_spec.specs.Runs.{IsPlain, IsSeenStill, KeepsPlace, LetsTable, MakesChange, PassesBy}
+use Rattle.keep_edit_spec.specs.Runs.{IsSeenStill, KeepsPlace, LetsTable, MakesChange, PassesBy}
 use Rattle.keep_edit_spec.specs.SetValues.{SetsValue}
 use Rattle.keep_edit_spec.specs.TextChanges.{IsBeside, TextChange, moved_past, text_with}
 use Rattle.keep_edit_spec.specs.declared.line_kind.LineKind.{LineKind}
@@ -55,14 +57,16 @@ use Rattle.keep_edit_runs.specs.AddedLines.{IsHeaderKnown, line_of}
 use Rattle.keep_edit_runs.specs.GoneBetween.{IsElementRunTo}
 use Rattle.keep_edit_runs.specs.KindsRun.{AddsOne, LetsChange, TakesOne}
 use Rattle.keep_edit_runs.specs.Lists.{AreMade, IsEdit}
+use Rattle.keep_edit_runs.specs.Newlines.{LeavesHere}
 use Rattle.keep_edit_runs.specs.Runs.{IsAddedBehind, IsKnownThen, IsOfKind, MakesInRun, outlined, plain}
 use Rattle.keep_edit_runs.specs.Tail.{AreBelow, AreBlocks, IsBlock, keys_of}
 use Rattle.keep_edit_runs.specs.declared.added_lines.AddedLines.{AddedLines}
 use Rattle.keep_edit_runs.specs.declared.kinds_run.KindsRun.{KindsRun}
 use Rattle.keep_edit_runs.specs.declared.tail.Block.{Block}
 use Rattle.keep_edit_runs.proofs.ElementSteps.{is_elsewhere, keeps_place, left_alone}
-use Rattle.keep_edit_runs.proofs.EndPlaces.{before_last, plain_text}
+use Rattle.keep_edit_runs.proofs.EndPlaces.{before_last}
 use Rattle.keep_edit_runs.proofs.RunSteps.{plain_header, plain_insert}
+use Rattle.keep_edit_runs.proofs.TailNewlines.{IsFirstKnown}
 use Rattle.keep_edit_runs.proofs.TailRuns.{AreMadeIn, IsEndClear, IsLifted, IsTailTo, Lifts}
 
 -- ---- edits that are given
@@ -304,19 +308,25 @@ module _ (profile : Profile) (s : Document) (ts : List EndEdit) (fine : IsEditab
         same = made.same;
       }
 
-  -- the remove of an element
-  pub lifted_without : (path : List Part) (c : TextChange) → RemovesHeader profile limit s path c
-      → All (λ t. IsElsewhere (changed_path path) t.seen) ts
-      → (ts ≡ []) ⊎ (AreAllPlain s ts c.new × (c.at + c.size ≢ length (text s)))
+  -- the remove of an element, where nothing is at the end
+  without_alone : (path : List Part) (c : TextChange) → RemovesHeader profile limit s path c → ts ≡ []
       → IsLifted profile s ts (law.remove path)
-  lifted_without path c removes elsewhere (inl none) =
+  without_alone path c removes none =
       let allowed : refusal profile limit s (law.remove path) ≡ None =
       header_not_refused profile s path c fine removes in
       lifted_alone profile s ts (law.remove path) none allowed
       (remove_lawful profile limit s path fine allowed)
-  lifted_without path c removes elsewhere (inr (plain_all, clear)) =
+
+  -- or before what is there
+  pub lifted_without : (path : List Part) (c : TextChange) → RemovesHeader profile limit s path c
+      → All (λ t. IsElsewhere (changed_path path) t.seen) ts
+      → (ts ≡ []) ⊎ (c.at + c.size ≢ length (text s))
+      → IsFirstKnown s ts (edited_document s (law.remove path)) → IsLifted profile s ts (law.remove path)
+  lifted_without path c removes elsewhere (inl none) known = without_alone path c removes none
+  lifted_without path c removes elsewhere (inr clear) (inl none) = without_alone path c removes none
+  lifted_without path c removes elsewhere (inr clear) (inr (line, (leave, still))) =
       let made : IsRemovedBefore profile limit s ts path c =
-      end_comes_after_element profile limit s ts path c fine ends removes elsewhere plain_all clear in
+      end_comes_after_element profile limit s ts path c fine ends removes elsewhere line leave still clear in
       let allowed : refusal profile limit (document_with s ts) (law.remove path) ≡ None =
       header_not_refused profile (document_with s ts) path c after made.makes in
       record {
@@ -351,42 +361,35 @@ module _ (edits : List Edit) (first end : ℕ) (now : ProfiledText) (old : Kinds
   text_is : text tree ≡ text_with 0 now.text changes
   text_is = base.run.text ∙ ap (λ (bytes : List ℕ). text_with 0 bytes changes) (sym k.read.reads.spelled)
 
-  -- nothing is at the end, or nothing has a carriage return there, and a change ends before the last byte
-  record IsClearFor (e : law.Edit) (t : TextEdit) : Type 0 where
-    plain : AreAllPlain tree tail.ts (string_bytes t.new)
-    before : runs.is_insert e ≡ false
-        → (moved_past changes (change_of t)).at + (change_of t).size ≢ length (text tree)
+  -- nothing is at the end, or a change ends before the last byte, if it is no new line
+  abbrev IsClearFor : law.Edit → TextEdit → Type 0
+  IsClearFor e t =
+      runs.is_insert e ≡ false
+      → (moved_past changes (change_of t)).at + (change_of t).size ≢ length (text tree)
 
   clear_for : (e : law.Edit) (t : TextEdit) → IsSpanOf now.text t.place
-      → All (λ d. IsBeside d (change_of t)) changes → LetsChange old.tail.blocks.items (length now.text) e t
+      → All (λ d. IsBeside d (change_of t)) changes
+      → LetsChange (LeavesHere now) old.tail.blocks.items (length now.text) e t
       → (tail.ts ≡ []) ⊎ IsClearFor e t
   clear_for e t span beside lets = by lets (so_far.clear (k.tree, k.read))
     where
       none : old.tail.blocks.items ≡ [] → tail.ts ≡ []
       none is = subst (λ (bs : List Block). AreBlocks bs tail.ts) is tail.is
 
-      by : (old.tail.blocks.items ≡ []) ⊎ (IsPlain (string_bytes t.new)
-          × (runs.is_insert e ≡ false → t.place.end < length now.text))
-          → (old.tail.blocks.items ≡ []) ⊎ IsEndClear now.text changes → (tail.ts ≡ []) ⊎ IsClearFor e t
+      by : LetsChange (LeavesHere now) old.tail.blocks.items (length now.text) e t
+          → (old.tail.blocks.items ≡ []) ⊎ IsEndClear now changes → (tail.ts ≡ []) ⊎ IsClearFor e t
       by (inl is) clear = inl (none is)
       by (inr lets) (inl is) = inl (none is)
-      by (inr (plain_new, ahead)) (inr clear) = inr (record {
-        plain = record {
-          text_is = subst IsPlain (sym text_is) (plain_text now.text changes clear.text clear.new);
-          new_is = plain_new;
-          ends_are = tail.plain_all;
-        };
-        before = λ other same.
-            omega (
-              arith,
-              before_last now.text changes (change_of t) base.run.follow
-                  (All-weaker (IsChangeIn now.text) (λ d. d.at + d.size ≤ length now.text) (λ d h. h.ends.0) changes
-                  so_far.base.within)
-                  beside clear.clear (omega (arith, ahead other, span.ordered)),
-              same,
-              ap (λ (bytes : List ℕ). length bytes) text_is,
-            );
-      })
+      by (inr (leaves, ahead)) (inr clear) = inr (λ other same.
+          omega (
+            arith,
+            before_last now.text changes (change_of t) base.run.follow
+                (All-weaker (IsChangeIn now.text) (λ d. d.at + d.size ≤ length now.text) (λ d h. h.ends.0) changes
+                so_far.base.within)
+                beside clear.clear (omega (arith, ahead other, span.ordered)),
+            same,
+            ap (λ (bytes : List ℕ). length bytes) text_is,
+          ))
 
 -- ---- an edit that makes its own change
 
@@ -478,35 +481,39 @@ module _ (edits : List Edit) (first end : ℕ) (now : ProfiledText) (old new : K
   lets (law.append_element ks) is of still = λ n t less. tt
 
   comes_before : (e : law.Edit) → a ≡ runs.seen k.tree e → IsOfKind k.tree e h.line → IsSeenStill k.tree d e
+      → IsFirstKnown d at_end.ts (edited_document d e)
       → (at_end.ts ≡ []) ⊎ ComesBefore d at_end.ts e (moved_past cs c)
   comes_before e is of still = by clear
     where
       by : (at_end.ts ≡ []) ⊎ IsClearFor edits first end now old so_far s was k (outlined h.outline) h.change
+          → IsFirstKnown d at_end.ts (edited_document d e)
           → (at_end.ts ≡ []) ⊎ ComesBefore d at_end.ts e (moved_past cs c)
-      by (inl none) = inl none
-      by (inr fine) = inr (record {
+      by (inl none) known = inl none
+      by (inr ends) (inl none) = inl none
+      by (inr ends) (inr known) = inr (record {
         other = no_header e is;
         alone = subst (λ (g : law.Edit). All (λ t. runs.LeavesAlone t.seen g) at_end.ts)
             (is ∙ sym (same_seen k.tree d e still)) ends_alone;
         lets = lets e is of still;
-        plain = fine.plain;
-        clear = λ other. fine.before (no_insert e is other);
+        newline = known;
+        clear = λ other. ends (no_insert e is other);
         first = λ same. begins_with_header old.tail.blocks.items at_end.ts at_end.is;
       })
 
   by_itself : a ≡ runs.seen k.tree f → MakesChange now.profile limit k.tree f c → IsOfKind k.tree f h.line
-      → IsLifted now.profile d at_end.ts f
-  by_itself is makes of =
+      → IsFirstKnown d at_end.ts (edited_document d f) → IsLifted now.profile d at_end.ts f
+  by_itself is makes of known =
       let (makes_now, still) =
       run.run.later f c makes (subst (λ (g : law.Edit). All (λ y. runs.LeavesAlone y g) run.es) is others)
       (subst (λ (g : law.Edit). All (λ path. IsElsewhere (changed_path path) g) run.paths) is away) behind.beside
       (keeps is of) in
       lifted_change now.profile d at_end.ts run.run.editable at_end.ends f (moved_past cs c) makes_now
-      (comes_before f is of still)
+      (comes_before f is of still known)
 
   by_set : (holder : List Part) (value : Value) → a ≡ law.set holder value
-      → MakesSet now.profile limit k.tree f holder value c → IsLifted now.profile d at_end.ts f
-  by_set holder value is makes =
+      → MakesSet now.profile limit k.tree f holder value c → IsFirstKnown d at_end.ts (edited_document d f)
+      → IsLifted now.profile d at_end.ts f
+  by_set holder value is makes known =
       let sets_now : SetsValue now.profile limit d holder value (moved_past cs c) =
       (run.run.later (law.set holder value) c makes.sets
       (subst (λ (g : law.Edit). All (λ y. runs.LeavesAlone y g) run.es) is others)
@@ -520,15 +527,19 @@ module _ (edits : List Edit) (first end : ℕ) (now : ProfiledText) (old new : K
       run.run.editable makes sets_now (run.run.kept c behind.beside within)
       (of_itself now.profile k.tree f holder value c makes) in
       lifted_set now.profile d at_end.ts run.run.editable at_end.ends f holder value (moved_past cs c) makes_now
-      (comes_before (law.set holder value) is tt tt)
+      (comes_before (law.set holder value) is tt tt
+      (subst (IsFirstKnown d at_end.ts) makes_now.same known))
 
-  lifts_by : MakesInRun now.profile k.tree f a c h.line → IsLifted now.profile d at_end.ts f
+  lifts_by : MakesInRun now.profile k.tree f a c h.line → IsFirstKnown d at_end.ts (edited_document d f)
+      → IsLifted now.profile d at_end.ts f
   lifts_by (inl (is, makes, of)) = by_itself is makes of
   lifts_by (inr (holder, value, is, makes)) = by_set holder value is makes
 
-  lifted_behind : (e : law.Edit) → IsEdit x e → IsLifted now.profile d at_end.ts e
+  lifted_behind : (e : law.Edit) → IsEdit x e → IsFirstKnown d at_end.ts (edited_document d e)
+      → IsLifted now.profile d at_end.ts e
   lifted_behind e given =
-      subst (λ (g : law.Edit). IsLifted now.profile d at_end.ts g) (one_given x f e h.makes.is given)
+      subst (λ (g : law.Edit). IsFirstKnown d at_end.ts (edited_document d g) → IsLifted now.profile d at_end.ts g)
+      (one_given x f e h.makes.is given)
       (lifts_by (h.makes.makes k.tree k.read))
 
 -- An edit that is added behind all others where its change begins is made after what is at the end, too.
@@ -568,19 +579,18 @@ module _ (edits : List Edit) (first end : ℕ) (now : ProfiledText) (old new : K
       (sym (so_made.leads path)) (h.takes.removes.header.removes k.tree k.read))
       (so_made.elsewhere (changed_path path) h.takes.removes.elsewhere) h.takes.beside
 
-  stays_clear : (ends_so.ts ≡ []) ⊎ (AreAllPlain so_made.made.tree ends_so.ts taken.new
-      × (taken.at + taken.size ≢ length (text so_made.made.tree)))
+  stays_clear : (ends_so.ts ≡ []) ⊎ (taken.at + taken.size ≢ length (text so_made.made.tree))
   stays_clear =
       by (clear_for edits first end now old so_far s was k (law.remove path) h.takes.change
       h.takes.removes.header.within h.takes.beside h.lets)
     where
       by : (ends_so.ts ≡ []) ⊎ IsClearFor edits first end now old so_far s was k (law.remove path) h.takes.change
-          → (ends_so.ts ≡ []) ⊎ (AreAllPlain so_made.made.tree ends_so.ts taken.new
-          × (taken.at + taken.size ≢ length (text so_made.made.tree)))
+          → (ends_so.ts ≡ []) ⊎ (taken.at + taken.size ≢ length (text so_made.made.tree))
       by (inl none) = inl none
-      by (inr fine) = inr (fine.plain, fine.before refl)
+      by (inr ends) = inr (ends refl)
 
-  lifted_taken : IsLifted now.profile so_made.made.tree ends_so.ts (law.remove path)
+  lifted_taken : IsFirstKnown so_made.made.tree ends_so.ts (edited_document so_made.made.tree (law.remove path))
+      → IsLifted now.profile so_made.made.tree ends_so.ts (law.remove path)
   lifted_taken =
       lifted_without now.profile so_made.made.tree ends_so.ts so_made.run.editable ends_so.ends path taken removes_now
       (ends_so.elsewhere (changed_path path) h.at_end) stays_clear
@@ -590,6 +600,8 @@ pub lifts_taken : (edits : List Edit) (first end : ℕ) (now : ProfiledText) (ol
     → TakesOne now old x new → Lifts edits first end now old x
 lifts_taken edits first end now old new x h so_far s was k e given =
     subst
-    (λ (g : law.Edit). IsLifted now.profile (so_far.base.made s was k).made.tree (so_far.whole s was k).ts g)
+    (λ (g : law.Edit). IsFirstKnown (so_far.base.made s was k).made.tree (so_far.whole s was k).ts
+    (edited_document (so_far.base.made s was k).made.tree g)
+    → IsLifted now.profile (so_far.base.made s was k).made.tree (so_far.whole s was k).ts g)
     (one_given x (law.remove h.takes.removes.header.path) e h.takes.removes.header.is given)
     (lifted_taken edits first end now old new x h so_far s was k)

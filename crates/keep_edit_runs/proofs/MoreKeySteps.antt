@@ -7,7 +7,7 @@
 --
 -- Theorems: `split_at`, `next_below`: paths; `added_as`: an edit that is added behind all others; `keyed_begins`: no
 -- edits; `behind_more`, `inside_more`: one more; `keyed_made`: so all are made.
-use Rattle.std.proofs.Common.{◌≡◌, ◌∙◌, ◌∷◌, ◌++◌, ◌<◌, ◌+◌, [], ℕ, zero, suc, All, Bool, IsUtf8, List, None, Option}
+use Rattle.std.proofs.Common.{◌≡◌, ◌∙◌, ◌∷◌, ◌++◌, ◌<◌, ◌+◌, [], ℕ, zero, suc, All, IsUtf8, List, None, Option}
 use Rattle.std.proofs.Common.{Some, ap, arith, drop, false, get_or, inl, inr, length, refl, slice_get, subst, subst₂}
 use Rattle.std.proofs.Common.{sym}
 use Rattle.std.proofs.Common.{take, true}
@@ -28,7 +28,7 @@ use Rattle.keep_edit_spec.specs.InsertKinds.{kind_of}
 use Rattle.keep_edit_spec.specs.Look.{holder}
 use Rattle.keep_edit_spec.specs.MoreKeys.{GoOnApart, IsOpen, IsRunInside, inner_line, key_below}
 use Rattle.keep_edit_spec.specs.Runs as runs
-use Rattle.keep_edit_spec.specs.Runs.{IsPlain, MakesChange}
+use Rattle.keep_edit_spec.specs.Runs.{MakesChange}
 use Rattle.keep_edit_spec.specs.TextChanges.{IsBeside, TextChange, with_change}
 use Rattle.keep_edit_spec.specs.declared.line_kind.LineKind.{LineKind}
 use Rattle.keep_edit_spec.specs.declared.line_kind.LineKind.TheVariants.{LastInBody}
@@ -88,7 +88,7 @@ next_below now t x h few =
 -- ---- an edit that is added behind all others, after its change was planned
 
 module _ (now : ProfiledText) (old then new : KindsRun) (opened : OpenValues) (planner : ProfiledText) (left : ℕ)
-    (text : Bool) (is : then ≡ planned old opened planner left text) (o : Outline) (t : TextEdit)
+    (is : then ≡ planned old opened planner left) (o : Outline) (t : TextEdit)
     (line : Option LineKind) (last : IsAddedLast now then o t line new) where
   pub behind_as : IsAddedBehind now.text old.lines old.so_far.changes o (change_of t) line new.lines new.so_far.changes
   behind_as =
@@ -113,7 +113,7 @@ module _ (now : ProfiledText) (old then new : KindsRun) (opened : OpenValues) (p
       outlines = last.outlines;
       seen = last.seen;
       others = last.others;
-      plain = last.plain;
+      newline = last.newline;
       rest = last.rest;
     }),
     record {

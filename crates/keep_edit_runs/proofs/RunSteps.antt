@@ -11,7 +11,7 @@
 -- `known_with`, `headers_with`, `headed_with`, `counted_with`: a line or a header comes in order, and is known;
 -- `counted_more`: one element more of a list is counted; `before_headers`: a line comes before headers that are
 -- appended; `made_of_others`: of one of the edits; `unadded`, `added`: what is added to a list.
-use Rattle.std.proofs.Common.{◌≡◌, ◌≢◌, ◌<◌, ◌≤◌, ◌+◌, ◌∷◌, ◌++◌, [], ℕ, zero, suc, List, length, take, drop}
+use Rattle.std.proofs.Common.{[], ◌≡◌, ◌≢◌, ◌<◌, ◌≤◌, ◌+◌, ◌∷◌, ◌++◌, ℕ, zero, suc, List, length, take, drop}
 use Rattle.std.proofs.Common.{get_or, refl, sym, ap, subst, subst₂, ◌∙◌, arith, All, IsUtf8, IsCharBoundary, inl, inr}
 use Rattle.std.proofs.Common.{cond}
 use Rattle.std.specs.Prelude.{◌⊎◌, Any, Bool, Err, IfOk, IsTrue, None, Ok, OnErr, Option, Result, Some, false}
@@ -43,8 +43,8 @@ use Rattle.keep_edit_spec.specs.Runs as runs
 use Rattle.keep_edit_spec.specs.RunLists.{AreAtOnce, IsOneOf, IsSetIn, MadeEdit, changes_of, document_after}
 use Rattle.keep_edit_spec.specs.RunLists.{lines_of}
 use Rattle.keep_edit_spec.specs.RunLists.{seen_of}
-use Rattle.keep_edit_spec.specs.Runs.{ArePlain, IsBeforeHeaders, IsInOrder, IsPlainBefore, IsRun, IsRunLonger}
-use Rattle.keep_edit_spec.specs.Runs.{KeepsPlace, LetsCome, LetsTable, MakesChange, with_line}
+use Rattle.keep_edit_spec.specs.Runs.{IsBeforeHeaders, IsInOrder, IsRun, IsRunLonger, KeepsPlace, LeaveNewline}
+use Rattle.keep_edit_spec.specs.Runs.{LeaveNewlineBefore, LetsCome, LetsTable, MakesChange, takes_up_to, with_line}
 use Rattle.keep_edit_spec.specs.TextChanges.{Follow, IsBeside, TextChange, moved_past, text_with, with_change}
 use Rattle.keep_edit_spec.specs.declared.line_kind.LineKind.{LineKind}
 use Rattle.keep_edit_spec.specs.declared.line_kind.LineKind.TheVariants.{WithHeader}
@@ -56,6 +56,7 @@ use Rattle.keep_edit_plan.specs.declared.edit.Edit.{Edit}
 use Rattle.keep_edit_plan.specs.declared.text_edit.TextEdit.{TextEdit}
 use Rattle.keep_edit_runs.specs.AddedLines.{IsCounted, IsHeaderKnown, IsKnownAt, brought_at, lines_by}
 use Rattle.keep_edit_runs.specs.Lists.{IsEdit, AreMade}
+use Rattle.keep_edit_runs.specs.Newlines.{LeavesHere}
 use Rattle.keep_edit_plan.specs.Reading.{limit, IsTextOfTree, ProfiledText}
 use Rattle.keep_edit_runs.specs.Runs.{IsBroughtThen, IsKnownThen, IsLineKept, IsNoSecondOf, IsOfKind, IsRunTo}
 use Rattle.keep_edit_runs.specs.Runs.{LeavesAlone, MakeChanges, MakesInRun}
@@ -64,6 +65,7 @@ use Rattle.keep_edit_runs.specs.Runs.{plain}
 use Rattle.keep_edit_runs.specs.declared.added_lines.AddedLines.{AddedLines}
 use Rattle.keep_edit_runs.specs.declared.outline.Outline.{Outline}
 use Rattle.keep_edit_runs.proofs.MadeMore.{more_made, tree_after}
+use Rattle.keep_edit_runs.proofs.NewlineSteps.{leave_here}
 
 -- ---- edits without their values
 
@@ -151,15 +153,16 @@ plain_known added (law.append_element ks) h = h
 
 -- ---- new lines and headers
 
--- All edits before one that writes a line or a header do so, too; or each newline is alike, and none takes the byte
--- before its place, but for one in whose place a line comes.
-pub record IsPlaced (outlines : List Outline) (bytes : List ℕ) (changes : List TextChange) (x : Outline) (at : ℕ)
+-- All edits before one that writes a line or a header do so, too; or they leave the first newline, and none takes the
+-- byte before its place, but for one in whose place a line comes.
+pub record IsPlaced (outlines : List Outline) (now : ProfiledText) (changes : List TextChange) (x : Outline) (at : ℕ)
     : Type 0 where
   pub insert : runs.is_insert (outlined x) ≡ true
       → All (λ y. runs.is_insert (outlined y) ≡ true) outlines
-      ⊎ (ArePlain bytes changes × All (LetsCome bytes changes at) changes)
+      ⊎ (All (LeavesHere now) changes × All (LetsCome now.text changes at) changes)
   pub header : runs.is_header (outlined x) ≡ true
-      → All (λ y. runs.is_header (outlined y) ≡ true) outlines ⊎ IsPlainBefore bytes changes at
+      → All (λ y. runs.is_header (outlined y) ≡ true) outlines
+      ⊎ (All (LeavesHere now) changes × (list_any (takes_up_to at) changes ≡ false))
 
 -- what is known of all of a list is known of one of them
 pub in_middle : (P : TextChange → Type 0) (before after : List TextChange) (c : TextChange)
@@ -564,7 +567,7 @@ module _ (s : Document) (edits : List Edit) (n : ℕ) (old now : ProfiledText) (
     (lt : n < length edits) (here : get_or edits n d ≡ x) (o : Outline) (e a : law.Edit) (given : IsEdit x e)
     (plain_is : plain a ≡ outlined o) (c : TextChange) (line : Option LineKind)
     (makes : MakesInRun now.profile before e a c line) (others_alone : All (λ y. LeavesAlone y o) outlines)
-    (beside : All (λ b. IsBeside b c) changes) (placed : IsPlaced outlines now.text changes o c.at)
+    (beside : All (λ b. IsBeside b c) changes) (placed : IsPlaced outlines now changes o c.at)
     (kept : IsLineKept adds changes o c.at line next_adds)
     (ends : (kind : LineKind) → line ≡ Some kind → (c.at ≢ length now.text) ⊎ (adds.appended ≡ 0))
     (utf8 : All (λ b. IsUtf8 b.new) (with_change changes c))
@@ -586,9 +589,6 @@ module _ (s : Document) (edits : List Edit) (n : ℕ) (old now : ProfiledText) (
       h.alone a
       (subst (λ (g : law.Edit). All (λ y. runs.LeavesAlone (outlined y) g) outlines) (sym plain_is) others_alone)
 
-  plain_before : IsPlainBefore now.text changes c.at → IsPlainBefore (text before) changes c.at
-  plain_before = subst (λ (bytes : List ℕ). IsPlainBefore bytes changes c.at) read.reads.spelled
-
   in_order : (p : List Part) (v : Value) → a ≡ runs.seen before (law.insert p v) → line ≡ Some (kind_of before p)
       → IsInOrder es changes lines (added_as before p c)
   in_order = order before es changes lines adds next_adds o a plain_is c line kept h.headers_known h.lines
@@ -603,21 +603,22 @@ module _ (s : Document) (edits : List Edit) (n : ℕ) (old now : ProfiledText) (
       by e is of (ap runs.is_insert (sym plain_is) ∙ plain_insert a) (ap runs.is_header (sym plain_is) ∙ plain_header a)
     where
       all_inserts : IsBeforeHeaders now.text es c.at → (All (λ y. runs.is_insert (outlined y) ≡ true) outlines
-          ⊎ (ArePlain now.text changes × All (LetsCome now.text changes c.at) changes))
+          ⊎ (All (LeavesHere now) changes × All (LetsCome now.text changes c.at) changes))
           → All (λ f. IsTrue (runs.is_insert f)) es
-          ⊎ (ArePlain (text before) changes × (All (LetsCome (text before) changes c.at) changes
+          ⊎ (LeaveNewline before changes × (All (LetsCome (text before) changes c.at) changes
           × IsBeforeHeaders (text before) es c.at))
       all_inserts headers (inl all) = inl (h.inserts all)
-      all_inserts headers (inr (plain, come)) =
-          subst (λ (bytes : List ℕ). All (λ f. IsTrue (runs.is_insert f)) es
-          ⊎ (ArePlain bytes changes × (All (LetsCome bytes changes c.at) changes
-          × IsBeforeHeaders bytes es c.at)))
-          read.reads.spelled (inr (plain, (come, headers)))
+      all_inserts headers (inr (leave, come)) = inr (
+        leave_here now before read changes leave,
+        subst (λ (bytes : List ℕ). All (LetsCome bytes changes c.at) changes × IsBeforeHeaders bytes es c.at)
+            read.reads.spelled (come, headers),
+      )
 
-      all_headers : (All (λ y. runs.is_header (outlined y) ≡ true) outlines ⊎ IsPlainBefore now.text changes c.at)
-          → All (λ f. IsTrue (runs.is_header f)) es ⊎ IsPlainBefore (text before) changes c.at
+      all_headers : (All (λ y. runs.is_header (outlined y) ≡ true) outlines
+          ⊎ (All (LeavesHere now) changes × (list_any (takes_up_to c.at) changes ≡ false)))
+          → All (λ f. IsTrue (runs.is_header f)) es ⊎ LeaveNewlineBefore before changes c.at
       all_headers (inl all) = inl (h.headers all)
-      all_headers (inr plain) = inr (plain_before plain)
+      all_headers (inr (leave, none)) = inr (leave_here now before read changes leave, none)
 
       by : (f : law.Edit) → a ≡ runs.seen before f → IsOfKind before f line
           → runs.is_insert (outlined o) ≡ runs.is_insert a → runs.is_header (outlined o) ≡ runs.is_header a
@@ -761,7 +762,7 @@ pub more_changes : (edits : List Edit) (first end : ℕ) (now : ProfiledText) (o
     (line : Option LineKind)
     → AreMadeTo edits first end now outlines changes adds → end < length edits → get_or edits end d ≡ x
     → MakesInRunHere now x (outlined o) t line → All (λ y. LeavesAlone y o) outlines
-    → All (λ b. IsBeside b (change_of t)) changes → IsPlaced outlines now.text changes o (change_of t).at
+    → All (λ b. IsBeside b (change_of t)) changes → IsPlaced outlines now changes o (change_of t).at
     → IsLineKept adds changes o (change_of t).at line next
     → ((kind : LineKind) → line ≡ Some kind → ((change_of t).at ≢ length now.text) ⊎ (adds.appended ≡ 0))
     → AreMadeTo edits first (suc end) now (outlines ++ o ∷ []) (with_change changes (change_of t)) next

@@ -1,15 +1,14 @@
 -- A run of edits of several kinds, and the same run after an edit's change was planned: what was opened and planned,
--- how many pairs may still be compared, and what is known of the text is another (`planned`). All else is as it was, so
--- what one edit more does to the one it does to the other.
+-- and how many pairs may still be compared is another (`planned`). All else is as it was, so what one edit more does to
+-- the one it does to the other.
 --
 -- Theorems: `on_planned`: the run is still of that text; `alone_as`, `added_as`, `unchanged_as`: what an edit does to
 -- it; `run_before`, `run_in_place`, `run_at_end`: the run with one edit more, before what is at the end of the text, or
 -- there; `adds_one`, `appends_one`, `puts_below`, `adds_in_place`: what that edit does.
-use Rattle.std.proofs.Common.{◌≡◌, ◌∙◌, ◌∷◌, ◌++◌, [], ℕ, All, Bor, Global, List, Option, String, ap, false, inl, inr}
-use Rattle.std.proofs.Common.{refl, subst, subst₂, sym, true}
-use Rattle.std.specs.Prelude.{Bool}
+use Rattle.std.proofs.Common.{[], ◌≡◌, ◌∙◌, ◌∷◌, ◌++◌, ℕ, All, Bor, Global, List, Option, String, ap, false, inl, inr}
+use Rattle.std.proofs.Common.{refl, subst, subst₂, sym}
 use Rattle.std.proofs.lemmas.List.Elements.{All-cons, All-nil}
-use Rattle.keep_edit_spec.specs.Runs.{IsPlain, is_header}
+use Rattle.keep_edit_spec.specs.Runs.{is_header}
 use Rattle.keep_edit_spec.specs.declared.line_kind.LineKind.{LineKind}
 use Rattle.keep_edit_plan.specs.Reading.{ProfiledText}
 use Rattle.keep_edit_plan.specs.TextEdits.{change_of}
@@ -18,6 +17,7 @@ use Rattle.keep_edit_plan.specs.declared.text_edit.TextEdit.{TextEdit}
 use Rattle.keep_edit_runs.specs.KindsRun.{AddsAny, IsAddedBefore, IsAddedInPlace, IsAlone, IsAppended}
 use Rattle.keep_edit_runs.specs.KindsRun.{IsInsertedBelow, IsOfHeader}
 use Rattle.keep_edit_runs.specs.KindsRun.{IsPlacedAmong, IsRunOn, IsUnchanged, with_tail}
+use Rattle.keep_edit_runs.specs.Newlines.{LeavesEndHere}
 use Rattle.keep_edit_runs.specs.Runs.{IsAddedBehind, LeavesAlone, MakesInRunHere, outlined}
 use Rattle.keep_edit_runs.specs.SeenPaths.{IsArraySeen, IsSeen}
 use Rattle.keep_edit_runs.specs.Tail.{IsOutlineAdded}
@@ -36,23 +36,20 @@ use Rattle.keep_edit_runs.proofs.SeenPathLaws.{arrays_still}
 abbrev pub blocks_in : Tail → List Block
 blocks_in tail = tail.blocks.items
 
-abbrev pub planned : KindsRun → OpenValues → ProfiledText → ℕ → Bool → KindsRun
-planned run opened planner left plain =
-    record run { opened = opened; planner = planner; left = left; is_text_plain = plain }
+abbrev pub planned : KindsRun → OpenValues → ProfiledText → ℕ → KindsRun
+planned run opened planner left = record run { opened = opened; planner = planner; left = left }
 
-module _ (old then : KindsRun) (opened : OpenValues) (planner : ProfiledText) (left : ℕ) (plain : Bool)
-    (is : then ≡ planned old opened planner left plain) where
-  pub on_planned : (now : ProfiledText) → IsRunOn now old → planner ≡ now → (plain ≡ true → IsPlain now.text)
-      → IsRunOn now then
-  on_planned now run same text = subst (IsRunOn now) (sym is) (record {
+module _ (old then : KindsRun) (opened : OpenValues) (planner : ProfiledText) (left : ℕ)
+    (is : then ≡ planned old opened planner left) where
+  pub on_planned : (now : ProfiledText) → IsRunOn now old → planner ≡ now → IsRunOn now then
+  on_planned now run same = subst (IsRunOn now) (sym is) (record {
     seen = record {
       edits = run.seen.edits;
       arrays = run.seen.arrays;
       tail = run.seen.tail;
       elements = run.seen.elements;
     };
-    text = text;
-    plain = run.plain;
+    newline = run.newline;
     planner = same;
   })
 
@@ -68,7 +65,7 @@ module _ (old then : KindsRun) (opened : OpenValues) (planner : ProfiledText) (l
   pub added_as : (now : ProfiledText) (x : Edit) (new : KindsRun) → AddsAny now then x new → AddsAny now old x new
   added_as now x new = subst (λ (r : KindsRun). AddsAny now r x new → AddsAny now old x new) (sym is) by
     where
-      by : AddsAny now (planned old opened planner left plain) x new → AddsAny now old x new
+      by : AddsAny now (planned old opened planner left) x new → AddsAny now old x new
       by (inl h) = inl (record {
         outline = h.outline;
         other = h.other;
@@ -95,7 +92,7 @@ module _ (old then : KindsRun) (opened : OpenValues) (planner : ProfiledText) (l
             alone = h.alone;
             placed = h.placed;
             appended = record {
-              plain = put.plain;
+              leaves = put.leaves;
               lines = put.lines;
               added = put.added;
               outlines = put.outlines;
@@ -123,7 +120,7 @@ module _ (old then : KindsRun) (opened : OpenValues) (planner : ProfiledText) (l
               block = put.block;
               text = put.text;
               written = put.written;
-              plain = put.plain;
+              leaves = put.leaves;
               lines = put.lines;
               put = put.put;
               outlines = put.outlines;
@@ -140,8 +137,8 @@ module _ (old then : KindsRun) (opened : OpenValues) (planner : ProfiledText) (l
         makes = h.makes;
         alone = h.alone;
         lets = h.lets;
-        plain = h.plain;
-        new_plain = h.new_plain;
+        newline = h.newline;
+        leaves = h.leaves;
         freed = h.freed;
         none = h.none;
         added = h.added;
@@ -180,8 +177,7 @@ run_before now old x o t line new run alone added = record {
     elements = still_alone old new o run alone added.outlines (ap (λ (r : KindsRun). r.tail) added.rest)
         (ap (λ (r : KindsRun). r.gone) added.rest);
   };
-  text = λ yes. run.text (sym (ap (λ (r : KindsRun). r.is_text_plain) added.rest) ∙ yes);
-  plain = λ yes. let (before, more) = added.plain yes in more (run.plain before);
+  newline = λ yes. let (before, more) = added.newline yes in more (run.newline before);
   planner = ap (λ (r : KindsRun). r.planner) added.rest ∙ run.planner;
 }
 
@@ -201,8 +197,7 @@ run_in_place now old o t line new run alone added = record {
     elements = still_alone old new o run alone added.outlines (ap (λ (r : KindsRun). r.tail) added.rest)
         (ap (λ (r : KindsRun). r.gone) added.rest);
   };
-  text = λ yes. run.text (sym (ap (λ (r : KindsRun). r.is_text_plain) added.rest) ∙ yes);
-  plain = λ yes. let (before, more) = added.plain yes in more (run.plain before);
+  newline = λ yes. let (before, more) = added.newline yes in more (run.newline before);
   planner = ap (λ (r : KindsRun). r.planner) added.rest ∙ run.planner;
 }
 
@@ -220,15 +215,14 @@ run_at_end now old new o lines tail run alone is added = subst (IsRunOn now) (sy
         (alone_at_end old.so_far.outlines.items old.tail.outlines.items old.gone.arrays.items run.seen.elements o
         alone);
   };
-  text = run.text;
-  plain = run.plain;
+  newline = run.newline;
   planner = run.planner;
 })
 
 -- so it does if it was added before what is at the end, or put there
 module _ (now : ProfiledText) (old : KindsRun) (x : Edit) (o : Outline) (t : TextEdit) (line : Option LineKind)
     (new : KindsRun) (makes : MakesInRunHere now x (outlined o) t line) (alone : IsAlone old o)
-    (placed : IsPlacedAmong now.text old.so_far.changes o (change_of t).at) where
+    (placed : IsPlacedAmong now old.so_far.changes o (change_of t).at) where
   pub adds_one : is_header (outlined o) ≡ false → IsAddedBefore now old x o t line new → AddsAny now old x new
   adds_one other h = inl (record {
     outline = o;
@@ -245,7 +239,8 @@ module _ (now : ProfiledText) (old : KindsRun) (x : Edit) (o : Outline) (t : Tex
     tail = ap (λ (r : KindsRun). r.tail) h.rest;
   })
 
-  pub appends_one : (keys : Bor (List (String Global))) → IsOfHeader o keys → IsAppended old o keys t new
+  pub appends_one : (keys : Bor (List (String Global))) → IsOfHeader o keys
+      → IsAppended (LeavesEndHere now) old o keys t new
       → AddsAny now old x new
   appends_one keys header h = inr (inl (record {
     outline = o;
@@ -257,7 +252,7 @@ module _ (now : ProfiledText) (old : KindsRun) (x : Edit) (o : Outline) (t : Tex
     alone = alone;
     placed = placed;
     appended = record {
-      plain = h.plain;
+      leaves = h.leaves;
       lines = h.lines;
       added = h.added;
       outlines = h.outlines;
@@ -285,7 +280,7 @@ module _ (now : ProfiledText) (old : KindsRun) (x : Edit) (o : Outline) (t : Tex
       block = h.block;
       text = h.text;
       written = h.written;
-      plain = h.plain;
+      leaves = h.leaves;
       lines = h.lines;
       put = h.put;
       outlines = h.outlines;
@@ -307,8 +302,8 @@ adds_in_place now old x o t line new makes alone h = inr (inr (inr (record {
   makes = subst (MakesInRunHere now x (outlined o) t) h.last makes;
   alone = alone;
   lets = h.lets;
-  plain = h.all_plain;
-  new_plain = h.new_plain;
+  newline = h.leave;
+  leaves = h.leaves;
   freed = h.freed;
   none = h.none;
   added = subst

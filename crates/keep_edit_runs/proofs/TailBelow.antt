@@ -6,7 +6,7 @@
 -- line, or its line alone (`writes`). So it is at the end, too (`end_goes_on_below`), as one more of the block's edits.
 --
 -- Theorem: `puts_below`.
-use Rattle.std.proofs.Common.{◌≡◌, ◌≢◌, ◌<◌, ◌∷◌, ◌++◌, [], ℕ, suc, All, IsUtf8, List, length, take, get_or}
+use Rattle.std.proofs.Common.{[], ◌≡◌, ◌≢◌, ◌<◌, ◌∷◌, ◌++◌, ℕ, suc, All, IsUtf8, List, length, take, get_or}
 use Rattle.std.proofs.Common.{None, Some, Option, refl, sym, ap, ap₂, subst, subst₂, ◌∙◌, append_assoc, arith, inl, inr}
 use Rattle.std.proofs.Common.{length-append, map}
 use Rattle.std.specs.Prelude.{◌⊎◌, String, false, string_bytes, true}
@@ -18,7 +18,7 @@ use Rattle.std.proofs.lemmas.List.{append-nil}
 use Rattle.std.proofs.lemmas.List.Elements.{All-append, All-cons, All-head, All-nil, All-push, All-tail, All-weaker}
 use Rattle.std.proofs.lemmas.Str.{IsUtf8-string_bytes}
 use Rattle.keep_types.specs.declared.leaf.Profile.{Profile}
-use Rattle.keep_syntax.specs.Tree.{Document, Value, Written, text}
+use Rattle.keep_syntax.specs.Tree.{Document, Value, Written}
 use Rattle.keep_path.specs.Path.{Part, key, strip, without_last}
 use Rattle.keep_path.proofs.Shared.{strip_append}
 use Rattle.keep_meaning.specs.Meaning.{mentions_in}
@@ -27,23 +27,23 @@ use Rattle.keep_edit_spec.specs.BroughtHeaders.{BringsHeader, BringsLine}
 use Rattle.keep_edit_spec.specs.Edits as law
 use Rattle.keep_edit_spec.specs.Edits.{edited_document}
 use Rattle.keep_edit_spec.specs.ElementRuns.{IsElsewhere, KeepsPlaceAmong, changed_path}
-use Rattle.keep_edit_spec.specs.EndEdits.{AreAllPlain, AreAtEnd, BeginWithHeader, ComesBelow, EndEdit, GoesThrough}
+use Rattle.keep_edit_spec.specs.EndEdits.{AreAtEnd, BeginWithHeader, ComesBelow, EndEdit, EndsLeave, GoesThrough}
 use Rattle.keep_edit_spec.specs.EndEdits.{IsInto, IsMadeBelow, IsNotOf, document_with, written_below}
+use Rattle.keep_edit_spec.specs.FirstNewline.{LeavesFirstAtEnd}
 use Rattle.keep_edit_spec.specs.HeadersBelow.{GoThrough}
 use Rattle.keep_edit_spec.specs.InsertKinds.{Added, AddsAs, IsAfterAs, IsAfterLine, added_as, kind_of, table_of}
 use Rattle.keep_edit_spec.specs.Insertion.{keyed_text}
 use Rattle.keep_edit_spec.specs.Lines.{newline_of}
 use Rattle.keep_edit_spec.specs.Look.{holder, keys_in}
 use Rattle.keep_edit_spec.specs.Runs as runs
-use Rattle.keep_edit_spec.specs.Runs.{ArePlain, IsBeforeHeaders, IsInOrder, IsPlain, IsSeenStill, LetsCome, LetsTable}
+use Rattle.keep_edit_spec.specs.Runs.{IsBeforeHeaders, IsInOrder, IsSeenStill, LeaveNewline, LetsCome, LetsTable}
 use Rattle.keep_edit_spec.specs.Runs.{MakesChange, PassesBy}
 use Rattle.keep_edit_spec.specs.TextChanges.{TextChange, moved_past, text_with}
 use Rattle.keep_edit_spec.specs.declared.line_kind.LineKind.{LineKind}
 use Rattle.keep_edit_spec.specs.declared.line_kind.LineKind.TheVariants.{WithHeader}
 use Rattle.keep_edit_spec.proofs.Lists.KeysThrough.{keys_alone}
 use Rattle.keep_edit_spec.proofs.Lists.LineKinds.{keys_of_line, table_is}
-use Rattle.keep_edit_spec.proofs.Lists.PlainTexts.{plain_newline}
-use Rattle.keep_edit_spec.proofs.Shared.{end_comes_later, end_goes_on_below, ends_split, kind_is}
+use Rattle.keep_edit_spec.proofs.Shared.{end_comes_later, end_goes_on_below, ends_split, kind_is, newline_stays}
 use Rattle.keep_edit_plan.proofs.Shared.{editable}
 use Rattle.keep_edit_plan.specs.Headers.{key_texts}
 use Rattle.keep_edit_plan.specs.Reading.{IsTextOfTree, ProfiledText, limit}
@@ -55,6 +55,7 @@ use Rattle.keep_edit_runs.specs.AddedLines.{HasTable, IsKnownAs, IsKnownAt, brou
 use Rattle.keep_edit_runs.specs.GoneBetween.{HasArray, IsElementRunTo}
 use Rattle.keep_edit_runs.specs.KindsRun.{PutsBelow}
 use Rattle.keep_edit_runs.specs.Lists.{AreMade, IsEdit}
+use Rattle.keep_edit_runs.specs.Newlines.{LeavesEndHere, LeavesHere}
 use Rattle.keep_edit_runs.specs.Runs.{AddsLineAlone, IsOfKind, MakesInRun, no_value, outlined, plain}
 use Rattle.keep_edit_runs.specs.SeenHeaders.{HasMore, HasTableOf}
 use Rattle.keep_edit_runs.specs.Tail.{AreBelow, AreBlocks, IsBlock, IsBlockFor, IsPutBelow, keys_of}
@@ -66,9 +67,11 @@ use Rattle.keep_edit_runs.specs.declared.tail.Block.{Block}
 use Rattle.keep_edit_runs.proofs.BlockLaws.{all_of_first, all_of_last}
 use Rattle.keep_edit_runs.proofs.ElementsGone.{of_one, plain_elsewhere}
 use Rattle.keep_edit_runs.proofs.LineLaws.{with_header}
+use Rattle.keep_edit_runs.proofs.NewlineSteps.{leave_here}
 use Rattle.keep_edit_runs.proofs.RunSteps.{before_headers}
-use Rattle.keep_edit_runs.proofs.TailEnds.{IsKnownEnd, IsPutAmong, plain_from, same_base, same_tree, tail_more}
+use Rattle.keep_edit_runs.proofs.TailEnds.{IsKnownEnd, IsPutAmong, same_base, same_tree, tail_more}
 use Rattle.keep_edit_runs.proofs.TailEnds.{with_parts}
+use Rattle.keep_edit_runs.proofs.TailNewlines.{ends_leave}
 use Rattle.keep_edit_runs.proofs.TailRuns.{AreMadeIn, IsClear, IsEndClear, IsTailTo}
 
 -- ---- blocks, apart at one of them
@@ -495,15 +498,20 @@ module _ (edits : List Edit) (first end : ℕ) (now : ProfiledText) (run new : K
       passed = lets_all (added_as h.tree w.path c) b.es no_header;
     }
 
-    plain_here : ArePlain now.text changes × All (LetsCome now.text changes c.at) changes
-    plain_here = one.placed.insert (ap runs.is_insert one.inserted.is)
+    placed_here : All (LeavesHere now) changes × All (LetsCome now.text changes c.at) changes
+    placed_here = one.placed.insert (ap runs.is_insert one.inserted.is)
+
+    left_here : LeaveNewline h.tree changes
+    left_here = leave_here now h.tree h.read changes placed_here.0
 
     keeps : KeepsPlaceAmong h.tree b.es changes b.lines e c
     keeps = (
       in_order,
-      subst (λ (bytes : List ℕ). ArePlain bytes changes
-          × (All (LetsCome bytes changes c.at) changes × IsBeforeHeaders bytes b.es c.at))
-          h.read.reads.spelled (plain_here.0, (plain_here.1, inl no_header)),
+      (
+        left_here,
+        subst (λ (bytes : List ℕ). All (LetsCome bytes changes c.at) changes × IsBeforeHeaders bytes b.es c.at)
+            h.read.reads.spelled (placed_here.1, inl no_header),
+      ),
     )
 
     -- so it does to that after the edits elsewhere
@@ -650,17 +658,11 @@ module _ (edits : List Edit) (first end : ℕ) (now : ProfiledText) (run new : K
       first = begin_with found.after a.later a.rest;
     }
 
-    plain_tree : IsPlain (text tree)
-    plain_tree =
-        subst IsPlain (sym b.run.text)
-        (plain_from 0 (text h.tree) changes (subst IsPlain h.read.reads.spelled plain_here.0.0) plain_here.0.1)
-
-    all_plain : AreAllPlain tree (a.upper ++ a.h ∷ a.own ++ a.later) later.new
-    all_plain = record {
-      text_is = plain_tree;
-      new_is = one.inserted.plain.1;
-      ends_are = subst (All (λ (y : EndEdit). IsPlain y.new)) a.is t.plain_all;
-    }
+    known_first : (first : Option (List ℕ)) × (EndsLeave first tree (a.upper ++ a.h ∷ a.own ++ a.later)
+        × LeavesFirstAtEnd first later.new)
+    known_first =
+        ends_leave now h.tree h.read changes tree b.made.read placed_here.0 (a.upper ++ a.h ∷ a.own ++ a.later)
+        (subst (All (λ (y : EndEdit). LeavesEndHere now y.new)) a.is t.leave) later.new one.inserted.leaves.1
 
     abbrev new_bytes : List ℕ
     new_bytes = written_below tree w.value (brings_later.text ∷ brings_later.more) later.new a.own
@@ -672,15 +674,15 @@ module _ (edits : List Edit) (first end : ℕ) (now : ProfiledText) (run new : K
     put_below =
         end_goes_on_below end_comes_later now.profile limit tree a.upper a.h a.own a.later w.path w.value later
         b.run.editable ends brings_later
-        (subst (λ (q : List Part). ComesBelow tree a.upper a.h a.own a.later q e) (sym holder_later) comes) all_plain
+        (subst (λ (q : List Part). ComesBelow tree a.upper a.h a.own a.later q e) (sym holder_later) comes)
+        known_first.0 known_first.1.0 known_first.1.1
 
     -- ---- what it writes
 
     newline_same : newline_of h.tree ≡ newline_of tree
     newline_same =
-        plain_newline now.profile limit h.tree (editable now h.tree h.read)
-        (subst IsPlain h.read.reads.spelled plain_here.0.0)
-        ∙ sym (plain_newline now.profile limit tree b.run.editable plain_tree)
+        sym (newline_stays now.profile limit h.tree tree (editable now h.tree h.read) b.run.editable changes b.run.text
+        left_here)
 
     -- the line alone, by the document after the edits elsewhere
     line_here : (l : TextChange) → BringsLine now.profile limit h.tree w.path w.value l
@@ -734,12 +736,12 @@ module _ (edits : List Edit) (first end : ℕ) (now : ProfiledText) (run new : K
 
     -- ---- with it
 
-    known_end : IsKnownEnd outlines one.outline next_lines its_end
+    known_end : IsKnownEnd now outlines one.outline next_lines its_end
     known_end = record {
       seen_is = plain_later;
       anew = refl;
       alone = one.alone.edits;
-      plain_new = subst IsPlain (sym writes.0) one.inserted.plain.0;
+      leaves = subst (LeavesEndHere now) (sym writes.0) one.inserted.leaves.0;
       utf8 = subst IsUtf8 (sym writes.0) writes.1;
       known = tt;
       table = subst (λ (p : List Part). HasTableOf new.lines.headers (without_last p)) (sym first_later)
@@ -797,7 +799,7 @@ module _ (edits : List Edit) (first end : ℕ) (now : ProfiledText) (run new : K
 
   -- ---- in all
 
-  end_clear : IsClear now run → IsEndClear now.text changes
+  end_clear : IsClear now run → IsEndClear now changes
   end_clear (inr clear) = clear
   end_clear (inl none) =
       absurd (omega (

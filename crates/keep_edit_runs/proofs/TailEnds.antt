@@ -8,17 +8,17 @@
 -- their text, and after those at the end, too, as all leave it alone (`end_goes_on`).
 --
 -- Theorems: `same_base`, `same_tree`: more headers are known; `with_parts`: the parts of a run; `tail_more`: one more
--- among the edits at the end; `plain_from`: a text without a carriage return; `appends_one`: a header more.
-use Rattle.std.proofs.Common.{◌≡◌, ◌≢◌, ◌<◌, ◌+◌, ◌∷◌, ◌++◌, [], ℕ, suc, All, IsUtf8, List, length, take, drop, get_or}
+-- among the edits at the end; `appends_one`: a header more.
+use Rattle.std.proofs.Common.{[], ◌≡◌, ◌<◌, ◌∷◌, ◌++◌, ℕ, suc, All, IsUtf8, List, length, take, get_or}
 use Rattle.std.proofs.Common.{None, Some, refl, sym, ap, ap₂, subst, subst₂, ◌∙◌, append_assoc, arith, inl, inr}
 use Rattle.std.proofs.Common.{length-append, map}
-use Rattle.std.specs.Prelude.{◌⊎◌, String, false, string_bytes, true, ◌||◌}
+use Rattle.std.specs.Prelude.{◌⊎◌, Option, String, false, string_bytes, true, ◌||◌}
 use Rattle.std.specs.Borrow.{Bor}
 use Rattle.std.specs.Global.{Global}
 use Rattle.std.specs.List.{list_any}
 use Rattle.std.proofs.lemmas.List.{append-nil}
-use Rattle.std.proofs.lemmas.List.Elements.{All-append, All-cons, All-drop, All-head, All-nil, All-tail}
-use Rattle.std.proofs.lemmas.List.Elements.{All-take, All-weaker}
+use Rattle.std.proofs.lemmas.List.Elements.{All-cons, All-head, All-nil, All-tail}
+use Rattle.std.proofs.lemmas.List.Elements.{All-weaker}
 use Rattle.std.proofs.lemmas.Str.{IsUtf8-append, IsUtf8-nil, IsUtf8-string_bytes}
 use Rattle.keep_types.specs.declared.leaf.Profile.{Profile}
 use Rattle.keep_syntax.specs.Tree.{Content, Document, element, header, text}
@@ -29,14 +29,15 @@ use Rattle.keep_edit_spec.specs.Edits as law
 use Rattle.keep_edit_spec.specs.Edits.{append, changed_or_same, edited_document, key_with, place}
 use Rattle.keep_edit_spec.specs.ElementRuns.{IsElsewhere, KeepsPlaceAmong, changed_path}
 use Rattle.keep_edit_spec.specs.EndEdits.{AreAtEnd, EndEdit, IsAtEnd, IsNoSecondHeader, document_with}
-use Rattle.keep_edit_spec.specs.EndEdits.{end_change}
+use Rattle.keep_edit_spec.specs.EndEdits.{EndsLeave, end_change}
+use Rattle.keep_edit_spec.specs.FirstNewline.{LeavesFirstAtEnd}
 use Rattle.keep_edit_spec.specs.InsertKinds.{Added, table_of}
 use Rattle.keep_edit_spec.specs.Laws.{IsEditable, IsLawfulEdit}
 use Rattle.keep_edit_spec.specs.Lines.{content_text, newline_of}
 use Rattle.keep_edit_spec.specs.Refusals.{refusal}
 use Rattle.keep_edit_spec.specs.RunLists.{lines_of, seen_of}
 use Rattle.keep_edit_spec.specs.Runs as runs
-use Rattle.keep_edit_spec.specs.Runs.{IsNoSecond, IsPlain, IsPlainBefore, MakesChange}
+use Rattle.keep_edit_spec.specs.Runs.{IsNoSecond, LeaveNewlineBefore, MakesChange}
 use Rattle.keep_edit_spec.specs.TextChanges.{IsBeside, TextChange, change_at, moved_past, place_of_change, text_with}
 use Rattle.keep_edit_spec.specs.TextEnds.{blank_line, header_at_end}
 use Rattle.keep_edit_spec.specs.declared.line_kind.LineKind.{LineKind}
@@ -51,6 +52,7 @@ use Rattle.keep_edit_runs.specs.AddedLines.{IsCounted, IsHeaderKnown, IsKnownAs,
 use Rattle.keep_edit_runs.specs.GoneBetween.{HasArray, IsElementRunTo}
 use Rattle.keep_edit_runs.specs.KindsRun.{AppendsOne, IsOfHeader}
 use Rattle.keep_edit_runs.specs.Lists.{AreMade, IsEdit}
+use Rattle.keep_edit_runs.specs.Newlines.{LeavesEndHere, LeavesHere}
 use Rattle.keep_edit_runs.specs.Runs.{IsRunTo, LeavesAlone, MakesInRun, outlined, plain}
 use Rattle.keep_edit_runs.specs.SeenHeaders.{HasBrought, HasMore}
 use Rattle.keep_edit_runs.specs.Tail.{AreBlocks, IsBlock, IsOutlineAdded, bytes_of, keys_of, written}
@@ -67,7 +69,9 @@ use Rattle.keep_edit_runs.proofs.ElementsGone.{of_one, plain_elsewhere}
 use Rattle.keep_edit_runs.proofs.HeaderLaws.{header_differs}
 use Rattle.keep_edit_runs.proofs.LineLaws.{headers_stay, with_header}
 use Rattle.keep_edit_runs.proofs.MadeMore.{more_made, tree_after}
+use Rattle.keep_edit_runs.proofs.NewlineSteps.{leave_here}
 use Rattle.keep_edit_runs.proofs.RunSteps.{parts, plain_alone}
+use Rattle.keep_edit_runs.proofs.TailNewlines.{ends_leave}
 use Rattle.keep_edit_runs.proofs.TailRuns.{AreMadeIn, IsEndClear, IsTableKnown, IsTailTo}
 
 -- ---- the edits elsewhere, where more headers are known
@@ -273,11 +277,12 @@ pub record IsPutAmong (profile : Profile) (tree : Document) (upper later : List 
   pub same : edited_document (document_with tree (upper ++ later)) e ≡ document_with tree (upper ++ u ∷ later)
 
 -- what is known of it, by its outline
-pub record IsKnownEnd (outlines : List Outline) (o : Outline) (next : AddedLines) (u : EndEdit) : Type 0 where
+pub record IsKnownEnd (now : ProfiledText) (outlines : List Outline) (o : Outline) (next : AddedLines) (u : EndEdit)
+    : Type 0 where
   pub seen_is : plain u.seen ≡ outlined o
   pub anew : (runs.is_insert u.seen || runs.is_header u.seen) ≡ true
   pub alone : All (λ y. LeavesAlone y o) outlines
-  pub plain_new : IsPlain u.new
+  pub leaves : LeavesEndHere now u.new
   pub utf8 : IsUtf8 u.new
   pub known : IsHeaderKnown next u.seen
   pub table : IsTableKnown next u.seen
@@ -288,7 +293,7 @@ module _ (s : Document) (edits : List Edit) (end : ℕ) (old now : ProfiledText)
     (text_is : text tree ≡ text_with 0 now.text changes) (utf8 : IsUtf8 (text_with 0 now.text changes)) (d x : Edit)
     (lt : end < length edits) (here : get_or edits end d ≡ x) (o : Outline) (e : law.Edit) (given : IsEdit x e)
     (upper later : List EndEdit) (u : EndEdit) (ts_is : t.ts ≡ upper ++ later)
-    (among : IsPutAmong now.profile tree upper later e u) (k : IsKnownEnd outlines o next u)
+    (among : IsPutAmong now.profile tree upper later e u) (k : IsKnownEnd now outlines o next u)
     (more : HasMore adds.headers next.headers) (outlined_too : IsOutlineAdded tail o new)
     (blocks : AreBlocks new.blocks.items (upper ++ u ∷ later)) where
   abbrev with_it : List ℕ
@@ -369,7 +374,7 @@ module _ (s : Document) (edits : List Edit) (end : ℕ) (old now : ProfiledText)
         all_with_it (λ w. IsElsewhere path w.seen) (t.elsewhere path others)
         (plain_elsewhere path u.seen (subst (IsElsewhere path) (sym k.seen_is) its));
     apart = apart_too outlines t.apart k.alone;
-    plain_all = all_with_it (λ w. IsPlain w.new) t.plain_all k.plain_new;
+    leave = all_with_it (λ w. LeavesEndHere now w.new) t.leave k.leaves;
     utf8 = all_with_it (λ w. IsUtf8 w.new) t.utf8 k.utf8;
     known = all_with_it (λ w. IsHeaderKnown next w.seen)
         (All-weaker (λ w. IsHeaderKnown adds w.seen) (λ w. IsHeaderKnown next w.seen)
@@ -494,18 +499,6 @@ no_second adds keys e f (inr is) other known =
     by (law.append_table ks) has = tt
     by (law.append_element ks) has = tt
 
--- ---- no carriage return
-
-pub plain_from : (from : ℕ) (bytes : List ℕ) (cs : List TextChange) → IsPlain bytes → All (λ c. IsPlain c.new) cs
-    → IsPlain (text_with from bytes cs)
-plain_from from bytes [] h new = All-drop (λ b. b ≢ 0x0D) from bytes h
-plain_from from bytes (c ∷ cs) h new =
-    All-append (λ b. b ≢ 0x0D) (drop from (take c.at bytes)) (c.new ++ text_with (c.at + c.size) bytes cs)
-    (All-drop (λ b. b ≢ 0x0D) from (take c.at bytes) (All-take (λ b. b ≢ 0x0D) c.at bytes h))
-    (All-append (λ b. b ≢ 0x0D) c.new (text_with (c.at + c.size) bytes cs)
-    (All-head (λ (d : TextChange). IsPlain d.new) c cs new)
-    (plain_from (c.at + c.size) bytes cs h (All-tail (λ (d : TextChange). IsPlain d.new) c cs new)))
-
 -- ---- a header more
 
 module _ (edits : List Edit) (first end : ℕ) (now : ProfiledText) (run new : KindsRun) (d x : Edit)
@@ -605,9 +598,12 @@ module _ (edits : List Edit) (first end : ℕ) (now : ProfiledText) (run new : K
         (with_header run.lines l known headed).1.1 one.appended.lines.appends.other)
         b.lines b.known
 
-    plain_before : IsPlainBefore (text h.tree) changes c.at
-    plain_before =
-        subst (λ (bytes : List ℕ). IsPlainBefore bytes changes c.at) h.read.reads.spelled (one.placed.header head)
+    -- the others leave the first newline, and none takes the byte before it
+    left_here : All (LeavesHere now) changes × (list_any (runs.takes_up_to c.at) changes ≡ false)
+    left_here = one.placed.header head
+
+    left : LeaveNewlineBefore h.tree changes c.at
+    left = (leave_here now h.tree h.read changes left_here.0, left_here.1)
 
     keeps : KeepsPlaceAmong h.tree b.es changes b.lines its c
     keeps = by one.header
@@ -615,10 +611,10 @@ module _ (edits : List Edit) (first end : ℕ) (now : ProfiledText) (run new : K
         by : IsOfHeader one.outline one.keys → KeepsPlaceAmong h.tree b.es changes b.lines its c
         by (inl is) =
             subst (λ (f : law.Edit). KeepsPlaceAmong h.tree b.es changes b.lines f c) (sym is)
-            (no_second_line, plain_before)
+            (no_second_line, left)
         by (inr is) =
             subst (λ (f : law.Edit). KeepsPlaceAmong h.tree b.es changes b.lines f c) (sym is)
-            (no_second_line, plain_before)
+            (no_second_line, left)
 
     -- so it makes it of that after the edits elsewhere, at the end
     abbrev its_end : EndEdit
@@ -628,6 +624,12 @@ module _ (edits : List Edit) (first end : ℕ) (now : ProfiledText) (run new : K
     at_end =
         header_at now.profile tree its (moved_past changes c) b.run.editable head
         (b.run.later its c (own_makes h.tree h.read).1 alone away beside keeps).0
+
+    known_first : (first : Option (List ℕ)) × (EndsLeave first tree t.ts
+        × LeavesFirstAtEnd first (string_bytes one.change.new))
+    known_first =
+        ends_leave now h.tree h.read changes tree b.made.read left_here.0 t.ts t.leave (string_bytes one.change.new)
+        one.appended.leaves
 
     -- and after those at the end
     ends_with : AreAtEnd now.profile limit tree (t.ts ++ its_end ∷ [])
@@ -639,12 +641,7 @@ module _ (edits : List Edit) (first end : ℕ) (now : ProfiledText) (run new : K
         (All-weaker (λ w. IsTableKnown run.lines w.seen) (λ w. IsNoSecondHeader its w.seen)
         (λ w known. no_second run.lines keys its w.seen one.header one.appended.lines.appends.other known) t.ts
         t.tables)
-        (record {
-          text_is = subst IsPlain (sym b.run.text)
-              (plain_from 0 (text h.tree) changes plain_before.0.0 plain_before.0.1);
-          new_is = All-nil (λ y. y ≢ 0x0D);
-          ends_are = t.plain_all;
-        })
+        known_first.0 known_first.1.0
 
     among : IsPutAmong now.profile tree t.ts [] its its_end
     among =
@@ -662,15 +659,15 @@ module _ (edits : List Edit) (first end : ℕ) (now : ProfiledText) (run new : K
           same = ap (λ (y : Document). edited_document y its) same ∙ sym (document_joined tree t.ts (its_end ∷ []));
         }
 
-    known_end : IsKnownEnd outlines one.outline next_lines its_end
+    known_end : IsKnownEnd now outlines one.outline next_lines its_end
     known_end = by one.header
       where
-        by : IsOfHeader one.outline one.keys → IsKnownEnd outlines one.outline next_lines its_end
+        by : IsOfHeader one.outline one.keys → IsKnownEnd now outlines one.outline next_lines its_end
         by (inl is) = record {
           seen_is = header_plain its head;
           anew = ap (λ (f : law.Edit). runs.is_insert f || runs.is_header f) is;
           alone = one.alone.edits;
-          plain_new = one.appended.plain;
+          leaves = one.appended.leaves;
           utf8 = IsUtf8-string_bytes one.change.new;
           known = subst (IsHeaderKnown next_lines) (sym is) one.appended.lines.appends.here;
           table = subst (IsTableKnown next_lines) (sym is) tt;
@@ -679,7 +676,7 @@ module _ (edits : List Edit) (first end : ℕ) (now : ProfiledText) (run new : K
           seen_is = header_plain its head;
           anew = ap (λ (f : law.Edit). runs.is_insert f || runs.is_header f) is;
           alone = one.alone.edits;
-          plain_new = one.appended.plain;
+          leaves = one.appended.leaves;
           utf8 = IsUtf8-string_bytes one.change.new;
           known = subst (IsHeaderKnown next_lines) (sym is) one.appended.lines.appends.here;
           table = subst (IsTableKnown next_lines) (sym is) tt;
@@ -715,15 +712,14 @@ module _ (edits : List Edit) (first end : ℕ) (now : ProfiledText) (run new : K
 
   -- ---- in all
 
-  end_clear : IsAccepted now → IsEndClear now.text changes
+  end_clear : IsAccepted now → IsEndClear now changes
   end_clear (u, read) =
-      let plain_all : IsPlainBefore now.text changes c.at = one.placed.header head in
+      let (leave, none) = one.placed.header head in
       let here : c.at ≡ length now.text =
       (own_last u read).at ∙ ap (λ (bytes : List ℕ). length bytes) (sym read.reads.spelled) in
       record {
-        text = plain_all.0.0;
-        new = plain_all.0.1;
-        clear = subst (λ (n : ℕ). list_any (runs.takes_up_to n) changes ≡ false) here plain_all.1;
+        leave = leave;
+        clear = subst (λ (n : ℕ). list_any (runs.takes_up_to n) changes ≡ false) here none;
       }
 
   pub appends_one : AreMadeIn edits first (suc end) now new

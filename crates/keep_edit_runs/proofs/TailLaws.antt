@@ -9,7 +9,7 @@
 -- `utf8_behind`; `base_adds`, `base_in_place`, `base_puts`, `base_takes`: one edit more that changes the text
 -- elsewhere; `more_before`: so it is made with what is at the end; `in_begins`: no edits; `in_made`, `in_within`,
 -- `in_few`: what the run changes.
-use Rattle.std.proofs.Common.{◌≡◌, ◌∙◌, ◌<◌, ◌≤◌, ◌+◌, ◌∷◌, ◌++◌, [], ℕ, suc, All, IsUtf8, List, length, take, get_or}
+use Rattle.std.proofs.Common.{[], ◌≡◌, ◌∙◌, ◌<◌, ◌≤◌, ◌+◌, ◌∷◌, ◌++◌, ℕ, suc, All, IsUtf8, List, length, take, get_or}
 use Rattle.std.proofs.Common.{drop, refl, sym, ap, ap₂, subst, subst₂, arith, inl, inr, append_assoc, append-nil}
 use Rattle.std.proofs.Common.{length-append, cond, IsCharBoundary}
 use Rattle.std.specs.Prelude.{◌⊎◌, ⊤, Bool, None, Ok, Err, Option, Some, false, nat_lt, true}
@@ -31,7 +31,6 @@ use Rattle.keep_edit_spec.specs.EndEdits.{AreAtEnd, EndEdit, document_with}
 use Rattle.keep_edit_spec.specs.Laws.{IsEditable}
 use Rattle.keep_edit_spec.specs.Refusals.{refusal}
 use Rattle.keep_edit_spec.specs.Runs as runs
-use Rattle.keep_edit_spec.specs.Runs.{IsPlain}
 use Rattle.keep_edit_spec.specs.TextChanges.{TextChange, change_at, text_with, with_change}
 use Rattle.keep_edit_spec.proofs.Shared.{all_with, end_editable, end_text}
 use Rattle.keep_edit_plan.specs.Reading.{IsAccepted, IsTextOfTree, ProfiledText, limit, text_in}
@@ -43,6 +42,7 @@ use Rattle.keep_edit_runs.specs.GoneBetween.{IsElementRunTo}
 use Rattle.keep_edit_runs.specs.KindsRun.{AddsInPlace, AddsOne, IsAlone, IsRunOn, IsRunUpTo, IsUnchanged, PutsOne}
 use Rattle.keep_edit_runs.specs.KindsRun.{StartsAt, TakesOne}
 use Rattle.keep_edit_runs.specs.Lists.{AreMade, IsEdit, growth_of}
+use Rattle.keep_edit_runs.specs.Newlines.{LeavesEndHere, LeavesHere}
 use Rattle.keep_edit_runs.specs.Runs.{IsRunTo, LeavesAlone, MakeChanges, changed_text, outlined, plain}
 use Rattle.keep_edit_runs.specs.SeenHeaders.{HasTableOf}
 use Rattle.keep_edit_runs.specs.SeenPaths.{IsArraySeen, IsSeen}
@@ -60,6 +60,7 @@ use Rattle.keep_edit_runs.proofs.LiftsPlain.{one_given}
 use Rattle.keep_edit_runs.proofs.KindsRunSteps.{AreBaseIn, adds_in_place, adds_one, puts_one, run_begins, takes_one}
 use Rattle.keep_edit_runs.proofs.MadeLists.{refused_as, zip_more}
 use Rattle.keep_edit_runs.proofs.MadeMore.{more_made, tree_after}
+use Rattle.keep_edit_runs.proofs.TailNewlines.{IsFirstKnown, known_of_both}
 use Rattle.keep_edit_runs.proofs.TailRuns.{AreMadeIn, IsClear, IsLifted, IsTableKnown, IsTailTo, Lifts}
 
 -- ---- a longer list
@@ -361,8 +362,25 @@ module _ (edits : List Edit) (first end : ℕ) (now : ProfiledText) (old new : K
         (changed_text now new.so_far.changes)
         (ap (λ (n : ℕ). take n own) (length_more so_far.own x)) base_after)).1
 
+    -- the first newline is known of the document with the edit, too
+    known_so : IsFirstKnown base_before.tree ts (edited_document base_before.tree e)
+    known_so = by (so_far.clear (earlier.tree, earlier.read)) (clear (earlier.tree, earlier.read))
+      where
+        none_there : old.tail.blocks.items ≡ [] → ts ≡ []
+        none_there none = no_ends old.tail.blocks.items ts none it.is
+
+        by : IsClear now old → IsClear now new
+            → IsFirstKnown base_before.tree ts (edited_document base_before.tree e)
+        by (inl none) any = inl (none_there none)
+        by (inr clear_before) (inl none) =
+            inl (none_there (sym (ap (λ (t : Tail). t.blocks.items) tail) ∙ none))
+        by (inr clear_before) (inr clear_after) =
+            subst (IsFirstKnown base_before.tree ts) grown
+            (known_of_both now earlier.tree earlier.read old.so_far.changes new.so_far.changes base_before.tree
+            base_after.tree base_before.read base_after.read clear_before.leave clear_after.leave ts it.leave)
+
     lifted : IsLifted now.profile base_before.tree ts e
-    lifted = lifts so_far s was earlier e given
+    lifted = lifts so_far s was earlier e given known_so
 
     ends : AreAtEnd now.profile limit base_after.tree ts
     ends = subst (λ (t : Document). AreAtEnd now.profile limit t ts) (sym grown) lifted.ends
@@ -435,7 +453,7 @@ module _ (edits : List Edit) (first end : ℕ) (now : ProfiledText) (old new : K
       apart = subst (All (λ o. All (λ t. runs.LeavesAlone t.seen (outlined o)) ts)) (sym outlines)
           (All-append (λ o. All (λ t. runs.LeavesAlone t.seen (outlined o)) ts) old.so_far.outlines.items more it.apart
           (more_apart apart));
-      plain_all = it.plain_all;
+      leave = it.leave;
       utf8 = it.utf8;
       known = All-weaker (λ t. IsHeaderKnown old.lines t.seen) (λ t. IsHeaderKnown new.lines t.seen)
           (λ t. headers t.seen) ts it.known;
@@ -489,7 +507,7 @@ in_begins edits first now run few h =
               apart = subst (All (λ (o : Outline). All (λ (t : EndEdit). runs.LeavesAlone t.seen (outlined o)) []))
                   (sym h.outlines)
                   (All-nil (λ (o : Outline). All (λ (t : EndEdit). runs.LeavesAlone t.seen (outlined o)) []));
-              plain_all = All-nil (λ (t : EndEdit). IsPlain t.new);
+              leave = All-nil (λ (t : EndEdit). LeavesEndHere now t.new);
               utf8 = All-nil (λ (t : EndEdit). IsUtf8 t.new);
               known = All-nil (λ (t : EndEdit). IsHeaderKnown run.lines t.seen);
               tables = All-nil (λ (t : EndEdit). IsTableKnown run.lines t.seen);
@@ -504,8 +522,7 @@ in_begins edits first now run few h =
           elements = subst (All (λ (t : Outline). is_element t ≡ true → IsAlone run t)) (sym h.outlines_at_end)
               (All-nil (λ (t : Outline). is_element t ≡ true → IsAlone run t));
         };
-        text = λ yes. absurd (let no = h.text in cc);
-        plain = λ yes. subst (All (λ d. IsPlain d.new)) (sym h.changes) (All-nil (λ (d : TextChange). IsPlain d.new));
+        newline = λ yes. subst (All (LeavesHere now)) (sym h.changes) (All-nil (LeavesHere now));
         planner = h.planner;
       },
     )

@@ -2,7 +2,7 @@
 --
 -- The edits that change the text elsewhere are a list of their own (`own`), which is made at once as ElementSteps tells
 -- (`base`). Those at the end come after its document (`IsTailTo`), whichever were first in the list that is given.
-use Rattle.std.proofs.Common.{◌≡◌, ◌≤◌, ◌++◌, ℕ, List, [], All, IsUtf8, length, take}
+use Rattle.std.proofs.Common.{[], ◌≡◌, ◌≤◌, ◌++◌, ℕ, List, All, IsUtf8, length, take}
 use Rattle.std.specs.Prelude.{◌⊎◌, ⊤, None, false}
 use Rattle.std.specs.List.{list_any}
 use Rattle.keep_types.specs.declared.leaf.Profile.{Profile}
@@ -15,12 +15,13 @@ use Rattle.keep_edit_spec.specs.EndEdits.{AreAtEnd, EndEdit, document_with}
 use Rattle.keep_edit_spec.specs.Laws.{IsLawfulEdit}
 use Rattle.keep_edit_spec.specs.Refusals.{refusal}
 use Rattle.keep_edit_spec.specs.Runs as runs
-use Rattle.keep_edit_spec.specs.Runs.{IsPlain, takes_up_to}
+use Rattle.keep_edit_spec.specs.Runs.{takes_up_to}
 use Rattle.keep_edit_spec.specs.TextChanges.{TextChange, text_with}
 use Rattle.keep_edit_plan.specs.Reading.{IsAccepted, ProfiledText, limit, text_in}
 use Rattle.keep_edit_plan.specs.declared.edit.Edit.{Edit}
 use Rattle.keep_edit_runs.specs.AddedLines.{IsHeaderKnown}
 use Rattle.keep_edit_runs.specs.Lists.{AreMade, IsEdit}
+use Rattle.keep_edit_runs.specs.Newlines.{LeavesEndHere, LeavesHere}
 use Rattle.keep_edit_runs.specs.Runs.{outlined, plain}
 use Rattle.keep_edit_runs.specs.SeenHeaders.{HasTableOf}
 use Rattle.keep_edit_runs.specs.Tail.{AreBlocks, bytes_of}
@@ -29,6 +30,7 @@ use Rattle.keep_edit_runs.specs.declared.kinds_run.KindsRun.{KindsRun}
 use Rattle.keep_edit_runs.specs.declared.outline.Outline.{Outline}
 use Rattle.keep_edit_runs.specs.declared.tail.Tail.{Tail}
 use Rattle.keep_edit_runs.proofs.ElementSteps.{AreMadeAmong}
+use Rattle.keep_edit_runs.proofs.TailNewlines.{IsFirstKnown}
 
 -- the table into which the edit inserts is known as one whose header comes with a line
 abbrev pub IsTableKnown : AddedLines → law.Edit → Type 0
@@ -50,20 +52,19 @@ pub record IsTailTo (s : Document) (edits : List Edit) (end : ℕ) (old now : Pr
   pub elsewhere : (path : List Part) → All (λ x. IsElsewhere path (outlined x)) tail.outlines.items
       → All (λ t. IsElsewhere path t.seen) ts
   pub apart : All (λ o. All (λ t. runs.LeavesAlone t.seen (outlined o)) ts) outlines
-  pub plain_all : All (λ t. IsPlain t.new) ts
+  pub leave : All (λ t. LeavesEndHere now t.new) ts
   pub utf8 : All (λ t. IsUtf8 t.new) ts
   pub known : All (λ t. IsHeaderKnown adds t.seen) ts
   pub tables : All (λ t. IsTableKnown adds t.seen) ts
 
--- no carriage return is in the text or in what comes in it, and its last byte stays
-pub record IsEndClear (bytes : List ℕ) (changes : List TextChange) : Type 0 where
-  pub text : IsPlain bytes
-  pub new : All (λ c. IsPlain c.new) changes
-  pub clear : list_any (takes_up_to (length bytes)) changes ≡ false
+-- the changes leave the first newline, and the text's last byte stays
+pub record IsEndClear (now : ProfiledText) (changes : List TextChange) : Type 0 where
+  pub leave : All (LeavesHere now) changes
+  pub clear : list_any (takes_up_to (length now.text)) changes ≡ false
 
 -- nothing is at the end, or that
 abbrev pub IsClear : ProfiledText → KindsRun → Type 0
-IsClear now run = (run.tail.blocks.items ≡ []) ⊎ IsEndClear now.text run.so_far.changes
+IsClear now run = (run.tail.blocks.items ≡ []) ⊎ IsEndClear now run.so_far.changes
 
 -- The edits of a list up to number `end` are made by the run.
 pub record AreMadeIn (edits : List Edit) (first end : ℕ) (now : ProfiledText) (run : KindsRun) : Type 0 where
@@ -84,9 +85,11 @@ pub record IsLifted (profile : Profile) (tree : Document) (ts : List EndEdit) (e
   pub ends : AreAtEnd profile limit (edited_document tree e) ts
   pub same : edited_document (document_with tree ts) e ≡ document_with (edited_document tree e) ts
 
--- So it is of an edit that is given, wherever the edits before are made.
+-- So it is of an edit that is given, wherever the edits before are made, if the first newline is known with it, too.
 abbrev pub Lifts : List Edit → ℕ → ℕ → ProfiledText → KindsRun → Edit → Type 0
 Lifts edits first end now run x =
     (so_far : AreMadeIn edits first end now run) (s : Document) (old : ProfiledText)
     (h : AreMade s (take first so_far.own) old now) (e : law.Edit) → IsEdit x e
+    → IsFirstKnown (so_far.base.made s old h).made.tree (so_far.whole s old h).ts
+    (edited_document (so_far.base.made s old h).made.tree e)
     → IsLifted now.profile (so_far.base.made s old h).made.tree (so_far.whole s old h).ts e

@@ -2,11 +2,11 @@
 --
 -- A header, or an insert below one, comes at the end (TailEnds). Any other edit is made before that, as if it had been
 -- made first: it makes its change among the other edits (`base_adds`, `base_puts`, `base_takes`) and is lifted past
--- what is at the end (LiftsPlain, LiftsOthers). Its change takes no last byte and has no carriage return, so it stays
--- so that none does (`clear_with`).
+-- what is at the end (LiftsPlain, LiftsOthers). Its change takes no last byte and leaves the first newline, so it stays
+-- so that all do (`clear_with`).
 --
 -- Theorem: `run_longer`.
-use Rattle.std.proofs.Common.{◌≡◌, ◌∙◌, ◌<◌, ◌+◌, ◌∷◌, [], ℕ, suc, All, List, length, arith, refl, sym, ap, ap₂}
+use Rattle.std.proofs.Common.{[], ◌≡◌, ◌∙◌, ◌<◌, ◌+◌, ◌∷◌, ℕ, suc, All, List, length, arith, refl, sym, ap, ap₂}
 use Rattle.std.proofs.Common.{append-nil, cond, false, get_or, inl, inr, map, subst, true}
 use Rattle.std.specs.Prelude.{◌⊎◌, ◌&&◌, ◌==◌, Bool, Option, Some, nat_lt}
 use Rattle.std.specs.List.{count_by, list_any}
@@ -19,7 +19,7 @@ use Rattle.keep_path.specs.Path.{Part, beside, key}
 use Rattle.keep_edit_spec.specs.Edits as law
 use Rattle.keep_edit_spec.specs.InsertKinds.{AddsAs}
 use Rattle.keep_edit_spec.specs.Runs as runs
-use Rattle.keep_edit_spec.specs.Runs.{IsPlain, MakesChange, takes_up_to}
+use Rattle.keep_edit_spec.specs.Runs.{MakesChange, takes_up_to}
 use Rattle.keep_edit_spec.specs.TextChanges.{TextChange, with_change}
 use Rattle.keep_edit_spec.specs.declared.line_kind.LineKind.{LineKind}
 use Rattle.keep_edit_spec.specs.declared.line_kind.LineKind.TheVariants.{LastInBody, OfDotted, WithHeader}
@@ -33,6 +33,7 @@ use Rattle.keep_edit_runs.specs.Again.{IsAgainHere, IsPutAgain, outlines_of}
 use Rattle.keep_edit_runs.specs.KindsRun.{AddsInPlace, AddsOne, DoesOne, GoesOn, IsRunOn, LetsAgainBefore}
 use Rattle.keep_edit_runs.specs.KindsRun.{LetsChange, PutsOne, TakesOne}
 use Rattle.keep_edit_runs.specs.Lists.{IsEdit}
+use Rattle.keep_edit_runs.specs.Newlines.{LeavesHere}
 use Rattle.keep_edit_runs.specs.Runs.{AddsLineAlone, IsAddedInOrder, LeavesAlone, MakesInRun, outlined, plain}
 use Rattle.keep_edit_runs.specs.SeenHeaders.{HasHeader, HasTableOf}
 use Rattle.keep_edit_runs.specs.declared.added_lines.AddedLines.{AddedLines}
@@ -92,16 +93,17 @@ insert_takes_none profile s e a c line (inr (holder, value, is, sets)) insert =
     let no : false ≡ true = sym (ap (λ (f : law.Edit). runs.is_insert (plain f)) is) ∙ insert in
     absurd cc
 
--- With one change more nothing has a carriage return, and none takes the last byte.
-clear_with : (bytes : List ℕ) (old new : List TextChange) (c : TextChange)
+-- With one change more all leave the first newline, and none takes the last byte.
+clear_with : (now : ProfiledText) (old new : List TextChange) (c : TextChange)
     → ((P : TextChange → Type 0) → All P old → P c → All P new)
-    → IsEndClear bytes old → IsPlain c.new → takes_up_to (length bytes) c ≡ false → IsEndClear bytes new
-clear_with bytes old new c each h plain_new not = record {
-  text = h.text;
-  new = each (λ d. IsPlain d.new) h.new plain_new;
-  clear = list_any_none (takes_up_to (length bytes)) new
-      (each (λ d. takes_up_to (length bytes) d ≡ false) (each_not (takes_up_to (length bytes)) old h.clear) not);
-}
+    → IsEndClear now old → LeavesHere now c → takes_up_to (length now.text) c ≡ false → IsEndClear now new
+clear_with now old new c each h leaves not =
+    let takes_last : TextChange → Bool = takes_up_to (length now.text) in
+    record {
+      leave = each (LeavesHere now) h.leave leaves;
+      clear = list_any_none takes_last new
+          (each (λ d. takes_last d ≡ false) (each_not takes_last old h.clear) not);
+    }
 
 -- a header is known as before, where lines behind headers are counted
 known_too : (old new : AddedLines) → new.headers ≡ old.headers → (f : law.Edit) → IsHeaderKnown old f
@@ -149,36 +151,36 @@ module _ (edits : List Edit) (first number : ℕ) (now : ProfiledText) (old new 
     adds_clear : IsAccepted now → IsClear now new
     adds_clear accepted = by (so_far.clear accepted) adds.lets adds.added.1.1
       where
-        in_order : IsEndClear now.text old.so_far.changes → IsPlain c.new
+        in_order : IsEndClear now old.so_far.changes → LeavesHere now c
             → takes_up_to (length now.text) c ≡ false
             → IsAddedInOrder now x old.lines old.so_far.changes adds.outline c adds.line adds.added.0 new.lines
             new.so_far.changes
-            → IsEndClear now.text new.so_far.changes
-        in_order clear plain_new not (inl behind) =
-            subst (IsEndClear now.text) (sym behind.changes_are)
-            (clear_with now.text old.so_far.changes (with_change old.so_far.changes c) c
-            (λ P all its. all_with P old.so_far.changes c all its) clear plain_new not)
-        in_order clear plain_new not (inr (sure, inl ahead)) =
-            clear_with now.text old.so_far.changes new.so_far.changes c
-            (λ P all its. each_ahead P old.so_far.changes new.so_far.changes c ahead.put all its) clear plain_new not
-        in_order clear plain_new not (inr (sure, inr (inr before))) =
-            clear_with now.text old.so_far.changes new.so_far.changes c
-            (λ P all its. each_before P old.so_far.changes new.so_far.changes c before.put all its) clear plain_new not
-        in_order clear plain_new not (inr (sure, inr (inl follows))) =
+            → IsEndClear now new.so_far.changes
+        in_order clear leaves not (inl behind) =
+            subst (IsEndClear now) (sym behind.changes_are)
+            (clear_with now old.so_far.changes (with_change old.so_far.changes c) c
+            (λ P all its. all_with P old.so_far.changes c all its) clear leaves not)
+        in_order clear leaves not (inr (sure, inl ahead)) =
+            clear_with now old.so_far.changes new.so_far.changes c
+            (λ P all its. each_ahead P old.so_far.changes new.so_far.changes c ahead.put all its) clear leaves not
+        in_order clear leaves not (inr (sure, inr (inr before))) =
+            clear_with now old.so_far.changes new.so_far.changes c
+            (λ P all its. each_before P old.so_far.changes new.so_far.changes c before.put all its) clear leaves not
+        in_order clear leaves not (inr (sure, inr (inl follows))) =
             let d : TextChange = change_of follows.line in
-            subst (IsEndClear now.text) (sym follows.changes_are)
-            (clear_with now.text old.so_far.changes (with_change old.so_far.changes d) d
-            (λ P all its. all_with P old.so_far.changes d all its) clear follows.plain
+            subst (IsEndClear now) (sym follows.changes_are)
+            (clear_with now old.so_far.changes (with_change old.so_far.changes d) d
+            (λ P all its. all_with P old.so_far.changes d all its) clear follows.leaves
             (takes_not (length now.text) d (inl (follows_none accepted follows.line follows.alone))))
 
-        by : IsClear now old → LetsChange old.tail.blocks.items (length now.text) its adds.change
+        by : IsClear now old → LetsChange (LeavesHere now) old.tail.blocks.items (length now.text) its adds.change
             → IsAddedInOrder now x old.lines old.so_far.changes adds.outline c adds.line adds.added.0 new.lines
             new.so_far.changes
             → IsClear now new
         by (inl none) lets added = inl (same_end adds.tail none)
         by (inr clear) (inl none) added = inl (same_end adds.tail none)
-        by (inr clear) (inr (plain_new, ends)) added =
-            inr (in_order clear plain_new (its_takes_not accepted ends) added)
+        by (inr clear) (inr (leaves, ends)) added =
+            inr (in_order clear leaves (its_takes_not accepted ends) added)
 
     lifts : Lifts edits first number now old x
     lifts = by adds.added.0 adds.added.1.0 adds.added.1.1
@@ -252,9 +254,9 @@ module _ (edits : List Edit) (first number : ℕ) (now : ProfiledText) (old new 
     placed_clear (s, read) = elim (so_far.clear (s, read)) [
       | inl none ↦ inl (same_end adds.tail none)
       | inr clear ↦ inr
-          (subst (IsEndClear now.text) (sym adds.added.changes_are)
-          (clear_with now.text old.so_far.changes (with_change old.so_far.changes placed) placed
-          (λ P all its. all_with P old.so_far.changes placed all its) clear adds.new_plain
+          (subst (IsEndClear now) (sym adds.added.changes_are)
+          (clear_with now old.so_far.changes (with_change old.so_far.changes placed) placed
+          (λ P all its. all_with P old.so_far.changes placed all its) clear adds.leaves
           (takes_not (length now.text) placed
           (inl (insert_takes_none now.profile s adds.makes.edit (adds.makes.in_run s) placed (Some LastInBody)
           (adds.makes.makes s read)
@@ -278,25 +280,25 @@ module _ (edits : List Edit) (first number : ℕ) (now : ProfiledText) (old new 
     again_clear : IsAccepted now → IsClear now new
     again_clear accepted = by (so_far.clear accepted) puts.again puts.does.before puts.does.put
       where
-        by : IsClear now old → (a : Again) → LetsAgainBefore old.tail.blocks.items a
+        by : IsClear now old → (a : Again) → LetsAgainBefore (LeavesHere now) old.tail.blocks.items a
             → IsPutAgain a old.so_far.changes new.so_far.changes → IsClear now new
         by (inl none) a lets put = inl (same_end puts.does.tail none)
         by (inr clear) (again.Value t) (inl none) put = inl (same_end puts.does.tail none)
-        by (inr clear) (again.Value t) (inr plain_new) put =
+        by (inr clear) (again.Value t) (inr leaves) put =
             let c : TextChange = change_of t in
             let n : ℕ = length now.text in
             let was : takes_up_to n put.gone ≡ false =
             in_middle (λ d. takes_up_to n d ≡ false) put.before put.after put.gone
             (subst (All (λ d. takes_up_to n d ≡ false)) put.was
             (each_not (takes_up_to n) old.so_far.changes clear.clear)) in
-            inr (clear_with now.text old.so_far.changes new.so_far.changes c
-            (λ P all its. each_replaced P old.so_far.changes new.so_far.changes c put all its) clear plain_new
+            inr (clear_with now old.so_far.changes new.so_far.changes c
+            (λ P all its. each_replaced P old.so_far.changes new.so_far.changes c put all its) clear leaves
             (ap₂ (λ (k m : ℕ). nat_lt 0 m && (k + m == n)) (sym put.at) (sym put.size) ∙ was))
         by (inr clear) (again.Key o t) none put = inl (same_end puts.does.tail none)
         by (inr clear) (again.Line k was t) none put = inl (same_end puts.does.tail none)
 
     -- what others see anew of it is a rename, where nothing is at the end
-    again_apart : (a : Again) → LetsAgainBefore old.tail.blocks.items a
+    again_apart : (a : Again) → LetsAgainBefore (LeavesHere now) old.tail.blocks.items a
         → (old.tail.blocks.items ≡ [])
         ⊎ All (λ o. All (λ y. LeavesAlone y o) old.tail.outlines.items) (outlines_of a)
     again_apart (again.Value t) lets =
@@ -330,15 +332,15 @@ module _ (edits : List Edit) (first number : ℕ) (now : ProfiledText) (old new 
     takes_clear accepted = by (so_far.clear accepted) takes.lets
       where
         by : IsClear now old
-            → LetsChange old.tail.blocks.items (length now.text) (law.remove takes.takes.removes.header.path)
-            takes.takes.change
+            → LetsChange (LeavesHere now) old.tail.blocks.items (length now.text)
+            (law.remove takes.takes.removes.header.path) takes.takes.change
             → IsClear now new
         by (inl none) lets = inl (same_end takes.tail none)
         by (inr clear) (inl none) = inl (same_end takes.tail none)
-        by (inr clear) (inr (plain_new, ends)) =
-            inr (subst (IsEndClear now.text) (sym takes.takes.changes)
-            (clear_with now.text old.so_far.changes (with_change old.so_far.changes taken) taken
-            (λ P all its. all_with P old.so_far.changes taken all its) clear plain_new
+        by (inr clear) (inr (leaves, ends)) =
+            inr (subst (IsEndClear now) (sym takes.takes.changes)
+            (clear_with now old.so_far.changes (with_change old.so_far.changes taken) taken
+            (λ P all its. all_with P old.so_far.changes taken all its) clear leaves
             (takes_not (length now.text) taken
             (inr (omega (arith, ends refl, takes.takes.removes.header.within.ordered))))))
 

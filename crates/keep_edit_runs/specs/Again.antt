@@ -1,12 +1,11 @@
 -- Edits of a list that are made at once, and one more that does again what one of them did: its change comes in the
 -- place of that one's.
-use Rattle.std.specs.Prelude.{◌≡◌, ◌⊎◌, ⊤, false, true, List, [], ◌∷◌, string_bytes}
+use Rattle.std.specs.Prelude.{◌≡◌, ◌⊎◌, ⊤, false, true, List, [], ◌∷◌}
 use Rattle.keep_syntax.specs.Tree.{Document, Value}
 use Rattle.keep_path.specs.Path.{Part}
 use Rattle.keep_edit_spec.specs.Edits as law
 use Rattle.keep_edit_spec.specs.InsertKinds.{AddsAs}
 use Rattle.keep_edit_spec.specs.Runs as runs
-use Rattle.keep_edit_spec.specs.Runs.{IsPlain}
 use Rattle.keep_edit_spec.specs.TextChanges.{TextChange}
 use Rattle.keep_edit_spec.specs.declared.line_kind.LineKind.{LineKind}
 use Rattle.keep_edit_plan.specs.TextEdits.{HasInstead, IsReplaced, change_of}
@@ -58,12 +57,13 @@ IsPutAgain (again.Value t) old new = IsReplaced old (change_of t) new
 IsPutAgain (again.Key o t) old new = IsReplaced old (change_of t) new
 IsPutAgain (again.Line number was t) old new = HasInstead old (change_of was) (change_of t) new
 
--- Edits of which this is known allow it: a key's new name, and a line whose newlines are alike, if not all add lines.
-abbrev pub AllowAgain : (Outline → Type 0) → Again → Type 0
-AllowAgain P (again.Value t) = ⊤
-AllowAgain P (again.Key o t) = (other : Outline) → P other → Allows other o
-AllowAgain P (again.Line number was t) =
-    IsPlain (string_bytes t.new) ⊎ ((other : Outline) → P other → runs.is_insert (outlined other) ≡ true)
+-- Edits of which this is known allow it: a key's new name, and a line that leaves the first newline, if not all add
+-- lines.
+abbrev pub AllowAgain : (TextChange → Type 0) → (Outline → Type 0) → Again → Type 0
+AllowAgain Leaves P (again.Value t) = ⊤
+AllowAgain Leaves P (again.Key o t) = (other : Outline) → P other → Allows other o
+AllowAgain Leaves P (again.Line number was t) =
+    Leaves (change_of t) ⊎ ((other : Outline) → P other → runs.is_insert (outlined other) ≡ true)
 
 -- A line is put in the place of another only where none comes behind a header's.
 abbrev pub LetsAgain : AddedLines → Again → Type 0

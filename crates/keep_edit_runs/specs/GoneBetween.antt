@@ -1,5 +1,5 @@
 -- Elements of arrays of tables that are removed between edits of all kinds.
-use Rattle.std.specs.Prelude.{◌≡◌, ℕ, All, Any, List, string_bytes, take, true}
+use Rattle.std.specs.Prelude.{◌≡◌, ℕ, All, Any, List, take, true}
 use Rattle.std.specs.List.{count_by}
 use Rattle.keep_syntax.specs.Tree.{Document}
 use Rattle.keep_path.specs.Path.{Part}
@@ -8,7 +8,7 @@ use Rattle.keep_edit_spec.specs.Edits as law
 use Rattle.keep_edit_spec.specs.InsertKinds.{Added}
 use Rattle.keep_edit_spec.specs.RemovedHeaders.{first_path}
 use Rattle.keep_edit_spec.specs.Runs as runs
-use Rattle.keep_edit_spec.specs.Runs.{IsPlain}
+use Rattle.keep_edit_runs.specs.Newlines.{LeavesHere}
 use Rattle.keep_edit_spec.specs.TextChanges.{IsBeside, TextChange, with_change}
 use Rattle.keep_edit_plan.specs.TextEdits.{change_of}
 use Rattle.keep_edit_plan.specs.declared.edit.Edit.{Edit}
@@ -39,7 +39,7 @@ pub record RemovesElementHere (now : ProfiledText) (old new : GoneBetween) (outl
   pub elsewhere : All (λ o. IsElsewhere (changed_path header.path) (outlined o)) outlines
 
 -- So it does after these edits that are made at once: what it takes is one change more, beside theirs, and each array
--- is there still. If what they write is known to have no carriage return, so it was before.
+-- is there still. If they are known to leave the first newline, so they were before.
 pub record TakesElement (now : ProfiledText) (old new : GoneBetween) (before after : AtOnce) (edit : Edit)
     : Type 0 where
   pub change : TextEdit
@@ -47,7 +47,7 @@ pub record TakesElement (now : ProfiledText) (old new : GoneBetween) (before aft
   pub arrays : (a : List Part) → HasArray old.arrays.items a → HasArray new.arrays.items a
   pub beside : All (λ c. IsBeside c (change_of change)) before.changes
   pub changes : after.changes ≡ with_change before.changes (change_of change)
-  pub plain : after.are_plain ≡ true → (before.are_plain ≡ true) × IsPlain (string_bytes change.new)
+  pub newline : after.leave_newline ≡ true → (before.leave_newline ≡ true) × LeavesHere now (change_of change)
 
 -- With the edits up to number `end` made, this is the text with the changes. It is known of the document that it is
 -- after a run of edits, which leave alone what each of these outlines does, and whose lines and headers are known, and

@@ -8,7 +8,7 @@ use Rattle.std.specs.List.{list_any}
 use Rattle.keep_edit_spec.specs.Edits as law
 use Rattle.keep_edit_spec.specs.ElementRuns.{IsElsewhere, changed_path}
 use Rattle.keep_edit_spec.specs.Runs as runs
-use Rattle.keep_edit_spec.specs.Runs.{ArePlain, IsPlain, IsPlainBefore, LetsCome, takes_up_to}
+use Rattle.keep_edit_spec.specs.Runs.{LetsCome, takes_up_to}
 use Rattle.keep_edit_spec.specs.TextChanges.{IsBeside, TextChange, change_at, with_change}
 use Rattle.keep_edit_spec.specs.declared.line_kind.LineKind.{LineKind}
 use Rattle.keep_edit_spec.specs.declared.line_kind.LineKind.TheVariants.{LastInBody, WithHeader}
@@ -20,6 +20,7 @@ use Rattle.keep_edit_runs.specs.Again.{AllowAgain, IsAgainHere, IsPutAgain, Lets
 use Rattle.keep_edit_runs.specs.GoneBetween.{AreElsewhere, HasArray, RemovesElementHere, TakesElement}
 use Rattle.keep_edit_plan.specs.Reading.{ProfiledText}
 use Rattle.keep_path.specs.Path.{Part, without_last}
+use Rattle.keep_edit_runs.specs.Newlines.{LeavesEndHere, LeavesHere}
 use Rattle.keep_edit_runs.specs.Runs.{AddsLineAlone, IsAddedBehind, IsAddedInOrder, LeavesAlone, MakesInRunHere}
 use Rattle.keep_edit_runs.specs.Runs.{no_value, outlined}
 use Rattle.keep_edit_runs.specs.Tail.{HeaderIsAdded, IsBlockFor, IsOutlineAdded, IsPutBelow, bytes_of, is_element}
@@ -61,26 +62,20 @@ pub record StartsAt (now : ProfiledText) (run : KindsRun) : Type 0 where
   pub changes : run.so_far.changes ≡ []
   pub arrays : run.gone.arrays.items ≡ []
   pub elements : run.gone.elements ≡ []
-  pub text : run.is_text_plain ≡ false
   pub outlines_at_end : run.tail.outlines.items ≡ []
   pub blocks : run.tail.blocks.items ≡ []
   pub brought : (n : ℕ) → brought_at run.lines n ≡ None
   pub counts : IsCounted run.lines [] []
   pub planner : run.planner ≡ now
 
--- Its edits are of the document of this text, and their paths are known. If the text, or what they write, is known to
--- have no carriage return, it has none.
+-- Its edits are of the document of this text, and their paths are known. If they are known to leave its first newline,
+-- they do.
 pub record IsRunOn (now : ProfiledText) (run : KindsRun) : Type 0 where
   pub seen : AreSeen run
-  pub text : run.is_text_plain ≡ true → IsPlain now.text
-  pub plain : run.so_far.are_plain ≡ true → All (λ c. IsPlain c.new) run.so_far.changes
+  pub newline : run.so_far.leave_newline ≡ true → All (LeavesHere now) run.so_far.changes
   pub planner : run.planner ≡ now
 
--- the same run, where it is known or not that the text has no carriage return
-abbrev pub with_text : KindsRun → Bool → KindsRun
-with_text run plain = record run { is_text_plain = plain }
-
--- and with these paths, where so many pairs may still be compared
+-- the same run with these paths, where so many pairs may still be compared
 abbrev pub with_paths : KindsRun → SeenPaths → ℕ → KindsRun
 with_paths run paths left = record run { paths = paths; left = left }
 
@@ -99,12 +94,13 @@ pub record KeepsArray (old : KindsRun) (array : List Part) (new : KindsRun) : Ty
   pub elements : new.gone.elements ≡ old.gone.elements
   pub rest : new ≡ with_gone old new.paths new.gone
 
--- If an edit writes a line or a header, each newline is alike, and none takes the byte before its place, but for one in
--- whose place a line comes.
-pub record IsPlacedAmong (bytes : List ℕ) (changes : List TextChange) (x : Outline) (at : ℕ) : Type 0 where
+-- If an edit writes a line or a header, the others leave the first newline, and none takes the byte before its place,
+-- but for one in whose place a line comes.
+pub record IsPlacedAmong (now : ProfiledText) (changes : List TextChange) (x : Outline) (at : ℕ) : Type 0 where
   pub insert : runs.is_insert (outlined x) ≡ true
-      → ArePlain bytes changes × All (LetsCome bytes changes at) changes
-  pub header : runs.is_header (outlined x) ≡ true → IsPlainBefore bytes changes at
+      → All (LeavesHere now) changes × All (LetsCome now.text changes at) changes
+  pub header : runs.is_header (outlined x) ≡ true
+      → All (LeavesHere now) changes × (list_any (takes_up_to at) changes ≡ false)
 
 -- ---- one edit more
 
@@ -114,11 +110,11 @@ IsAddedTo now x old o c line new =
     (none_gone : Bool) × ((none_gone ≡ true → old.gone.arrays.items ≡ [])
     × IsAddedInOrder now x old.lines old.so_far.changes o c line none_gone new.lines new.so_far.changes)
 
--- Where something is at the end of the text, a change of so many bytes has no carriage return and takes no byte right
+-- Where something is at the end of a text of so many bytes, a change leaves the first newline, and takes no byte right
 -- before the end, if it is no new line.
-abbrev pub LetsChange : List Block → ℕ → law.Edit → TextEdit → Type 0
-LetsChange blocks len e t =
-    (blocks ≡ []) ⊎ (IsPlain (string_bytes t.new) × (runs.is_insert e ≡ false → t.place.end < len))
+abbrev pub LetsChange : (TextChange → Type 0) → List Block → ℕ → law.Edit → TextEdit → Type 0
+LetsChange Leaves blocks len e t =
+    (blocks ≡ []) ⊎ (Leaves (change_of t) × (runs.is_insert e ≡ false → t.place.end < len))
 
 -- It makes its own change, beside the others, and before what is at the end of the text.
 pub record AddsOne (now : ProfiledText) (old : KindsRun) (edit : Edit) (new : KindsRun) : Type 0 where
@@ -128,8 +124,8 @@ pub record AddsOne (now : ProfiledText) (old : KindsRun) (edit : Edit) (new : Ki
   pub line : Option LineKind
   pub makes : MakesInRunHere now edit (outlined outline) change line
   pub alone : IsAlone old outline
-  pub lets : LetsChange old.tail.blocks.items (length now.text) (outlined outline) change
-  pub placed : IsPlacedAmong now.text old.so_far.changes outline (change_of change).at
+  pub lets : LetsChange (LeavesHere now) old.tail.blocks.items (length now.text) (outlined outline) change
+  pub placed : IsPlacedAmong now old.so_far.changes outline (change_of change).at
   pub added : IsAddedTo now edit old outline (change_of change) line new
   pub outlines : new.so_far.outlines.items ≡ old.so_far.outlines.items ++ outline ∷ []
   pub gone : new.gone ≡ old.gone
@@ -144,9 +140,9 @@ pub record AddsInPlace (now : ProfiledText) (old : KindsRun) (edit : Edit) (new 
   pub change : TextEdit
   pub makes : MakesInRunHere now edit (outlined outline) change (Some LastInBody)
   pub alone : IsAlone old outline
-  pub lets : LetsChange old.tail.blocks.items (length now.text) (outlined outline) change
-  pub plain : ArePlain now.text old.so_far.changes
-  pub new_plain : IsPlain (string_bytes change.new)
+  pub lets : LetsChange (LeavesHere now) old.tail.blocks.items (length now.text) (outlined outline) change
+  pub newline : All (LeavesHere now) old.so_far.changes
+  pub leaves : LeavesHere now (change_of change)
   pub freed : IsFreed now.text old.so_far.changes (change_of change).at
   pub none : old.gone.arrays.items ≡ []
   pub added : IsAddedBehind now.text old.lines old.so_far.changes outline (change_of change) (Some LastInBody) new.lines
@@ -155,16 +151,16 @@ pub record AddsInPlace (now : ProfiledText) (old : KindsRun) (edit : Edit) (new 
   pub gone : new.gone ≡ old.gone
   pub tail : new.tail ≡ old.tail
 
--- where something is at the end of the text, a value alone is set again, without a carriage return
-abbrev pub LetsAgainBefore : List Block → Again → Type 0
-LetsAgainBefore blocks (again.Value t) = (blocks ≡ []) ⊎ IsPlain (string_bytes t.new)
-LetsAgainBefore blocks a = blocks ≡ []
+-- where something is at the end of the text, a value alone is set again, which leaves the first newline
+abbrev pub LetsAgainBefore : (TextChange → Type 0) → List Block → Again → Type 0
+LetsAgainBefore Leaves blocks (again.Value t) = (blocks ≡ []) ⊎ Leaves (change_of t)
+LetsAgainBefore Leaves blocks a = blocks ≡ []
 
 -- what is done again is put in the place of what was done
-pub record DoesAgain (old : KindsRun) (again : Again) (new : KindsRun) : Type 0 where
-  pub allowed : AllowAgain (IsSeen old.paths) again
+pub record DoesAgain (Leaves : TextChange → Type 0) (old : KindsRun) (again : Again) (new : KindsRun) : Type 0 where
+  pub allowed : AllowAgain Leaves (IsSeen old.paths) again
   pub lets : LetsAgain old.lines again
-  pub before : LetsAgainBefore old.tail.blocks.items again
+  pub before : LetsAgainBefore Leaves old.tail.blocks.items again
   pub put : IsPutAgain again old.so_far.changes new.so_far.changes
   pub outlines : new.so_far.outlines.items ≡ old.so_far.outlines.items ++ outlines_of again
   pub lines : new.lines ≡ old.lines
@@ -176,7 +172,7 @@ pub record PutsOne (now : ProfiledText) (old : KindsRun) (edit : Edit) (new : Ki
   pub again : Again
   pub is : IsAgainHere now edit old.so_far.outlines.items old.so_far.changes again
   pub none : old.gone.arrays.items ≡ []
-  pub does : DoesAgain old again new
+  pub does : DoesAgain (LeavesHere now) old again new
 
 -- An edit is found to take this from the text after those of the run, as it removes an element: its array is one of
 -- those then. All paths are known still, and all else is as it was.
@@ -186,7 +182,7 @@ pub record FindsElement (now : ProfiledText) (old : KindsRun) (edit : Edit) (t :
   pub arrays : (a : List Part) → HasArray old.gone.arrays.items a → HasArray new.gone.arrays.items a
   pub elsewhere : AreElsewhere new.gone.arrays.items old.so_far.outlines.items
   pub tail : All (λ o. IsElsewhere (changed_path removes.header.path) (outlined o)) old.tail.outlines.items
-  pub lets : LetsChange old.tail.blocks.items (length now.text) (law.remove removes.header.path) t
+  pub lets : LetsChange (LeavesHere now) old.tail.blocks.items (length now.text) (law.remove removes.header.path) t
   pub seen : AreSeen new
   pub rest : new ≡ with_gone old new.paths new.gone
 
@@ -195,7 +191,8 @@ pub record TakesOne (now : ProfiledText) (old : KindsRun) (edit : Edit) (new : K
   pub takes : TakesElement now old.gone new.gone old.so_far new.so_far edit
   pub elsewhere : AreElsewhere new.gone.arrays.items new.so_far.outlines.items
   pub at_end : All (λ o. IsElsewhere (changed_path takes.removes.header.path) (outlined o)) old.tail.outlines.items
-  pub lets : LetsChange old.tail.blocks.items (length now.text) (law.remove takes.removes.header.path) takes.change
+  pub lets : LetsChange (LeavesHere now) old.tail.blocks.items (length now.text)
+      (law.remove takes.removes.header.path) takes.change
   pub outlines : new.so_far.outlines.items ≡ old.so_far.outlines.items
   pub lines : new.lines ≡ old.lines
   pub tail : new.tail ≡ old.tail
@@ -212,9 +209,9 @@ IsOfHeader o keys =
     (outlined o ≡ law.append_table (key_texts keys.now)) ⊎ (outlined o ≡ law.append_element (key_texts keys.now))
 
 -- A header with these keys, as it is written, comes behind all others at the end.
-pub record IsAppended (old : KindsRun) (o : Outline) (keys : Bor (List (String Global))) (t : TextEdit)
-    (new : KindsRun) : Type 0 where
-  pub plain : IsPlain (string_bytes t.new)
+pub record IsAppended (Leaves : List ℕ → Type 0) (old : KindsRun) (o : Outline) (keys : Bor (List (String Global)))
+    (t : TextEdit) (new : KindsRun) : Type 0 where
+  pub leaves : Leaves (string_bytes t.new)
   pub lines : IsHeaderLast old.lines (key_texts keys.now) new.lines
   pub added : HeaderIsAdded old.tail keys t.new new.tail
   pub outlines : IsOutlineAdded old.tail o new.tail
@@ -229,8 +226,8 @@ pub record AppendsOne (now : ProfiledText) (old : KindsRun) (edit : Edit) (new :
   pub line : Option LineKind
   pub makes : MakesInRunHere now edit (outlined outline) change line
   pub alone : IsAlone old outline
-  pub placed : IsPlacedAmong now.text old.so_far.changes outline (change_of change).at
-  pub appended : IsAppended old outline keys change (with_tail old new.lines new.tail)
+  pub placed : IsPlacedAmong now old.so_far.changes outline (change_of change).at
+  pub appended : IsAppended (LeavesEndHere now) old outline keys change (with_tail old new.lines new.tail)
   pub same : new.so_far ≡ old.so_far
   pub gone : new.gone ≡ old.gone
 
@@ -255,7 +252,7 @@ pub record IsInsertedBelow (now : ProfiledText) (old : KindsRun) (edit : Edit) (
   pub block : IsBlockFor old.tail.blocks.items (without_last first) number
   pub text : List ℕ
   pub written : IsWrittenBelow now edit t block.block.table text
-  pub plain : IsPlain text × IsPlain (string_bytes t.new)
+  pub leaves : LeavesEndHere now text × LeavesEndHere now (string_bytes t.new)
   pub lines : IsTableBelow old.lines (change_of t).at (without_last first) new.lines
   pub put : IsPutBelow old.tail.blocks.items number (without_last first) text new.tail.blocks.items
   pub outlines : IsOutlineAdded old.tail o new.tail
@@ -268,7 +265,7 @@ pub record PutsBelow (now : ProfiledText) (old : KindsRun) (edit : Edit) (new : 
   pub line : Option LineKind
   pub makes : MakesInRunHere now edit (outlined outline) change line
   pub alone : IsAlone old outline
-  pub placed : IsPlacedAmong now.text old.so_far.changes outline (change_of change).at
+  pub placed : IsPlacedAmong now old.so_far.changes outline (change_of change).at
   pub inserted : IsInsertedBelow now old edit outline change line (with_tail old new.lines new.tail)
   pub same : new.so_far ≡ old.so_far
   pub gone : new.gone ≡ old.gone
@@ -281,13 +278,13 @@ pub record IsUnchanged (old new : KindsRun) : Type 0 where
 -- An edit with this outline and change is added before what is at the end.
 pub record IsAddedBefore (now : ProfiledText) (old : KindsRun) (edit : Edit) (o : Outline) (t : TextEdit)
     (line : Option LineKind) (new : KindsRun) : Type 0 where
-  pub lets : LetsChange old.tail.blocks.items (length now.text) (outlined o) t
+  pub lets : LetsChange (LeavesHere now) old.tail.blocks.items (length now.text) (outlined o) t
   pub added : IsAddedTo now edit old o (change_of t) line new
   pub outlines : new.so_far.outlines.items ≡ old.so_far.outlines.items ++ o ∷ []
   pub seen : IsSeen new.paths o
   pub others : (y : Outline) → IsSeen old.paths y → IsSeen new.paths y
-  pub plain : new.so_far.are_plain ≡ true → (old.so_far.are_plain ≡ true)
-      × (All (λ c. IsPlain c.new) old.so_far.changes → All (λ c. IsPlain c.new) new.so_far.changes)
+  pub newline : new.so_far.leave_newline ≡ true → (old.so_far.leave_newline ≡ true)
+      × (All (LeavesHere now) old.so_far.changes → All (LeavesHere now) new.so_far.changes)
   pub rest : new ≡ record old { so_far = new.so_far; lines = new.lines; paths = new.paths }
 
 -- An edit with this outline and change is added behind all others where it begins, in the place of what one of them
@@ -297,24 +294,24 @@ pub record IsAddedInPlace (now : ProfiledText) (old : KindsRun) (o : Outline) (t
   pub last : line ≡ Some LastInBody
   pub first : List Part
   pub is : outlined o ≡ law.insert first no_value
-  pub lets : LetsChange old.tail.blocks.items (length now.text) (outlined o) t
-  pub all_plain : ArePlain now.text old.so_far.changes
-  pub new_plain : IsPlain (string_bytes t.new)
+  pub lets : LetsChange (LeavesHere now) old.tail.blocks.items (length now.text) (outlined o) t
+  pub leave : All (LeavesHere now) old.so_far.changes
+  pub leaves : LeavesHere now (change_of t)
   pub freed : IsFreed now.text old.so_far.changes (change_of t).at
   pub none : old.gone.arrays.items ≡ []
   pub added : IsAddedBehind now.text old.lines old.so_far.changes o (change_of t) line new.lines new.so_far.changes
   pub outlines : new.so_far.outlines.items ≡ old.so_far.outlines.items ++ o ∷ []
   pub seen : IsSeen new.paths o
   pub others : (y : Outline) → IsSeen old.paths y → IsSeen new.paths y
-  pub plain : new.so_far.are_plain ≡ true → (old.so_far.are_plain ≡ true)
-      × (All (λ c. IsPlain c.new) old.so_far.changes → All (λ c. IsPlain c.new) new.so_far.changes)
+  pub newline : new.so_far.leave_newline ≡ true → (old.so_far.leave_newline ≡ true)
+      × (All (LeavesHere now) old.so_far.changes → All (LeavesHere now) new.so_far.changes)
   pub rest : new ≡ record old { so_far = new.so_far; lines = new.lines; paths = new.paths; left = new.left }
 
--- what such an insert writes below the header with this number, without a carriage return
+-- what such an insert writes below the header with this number, which leaves the first newline
 pub record IsTextBelow (now : ProfiledText) (blocks : List Block) (n : ℕ) (edit : Edit) (made : RunEdit)
     (text : String Global) : Type 0 where
   pub line : made.line ≡ Some WithHeader
-  pub plain : IsPlain (string_bytes text) × IsPlain (string_bytes made.change.new)
+  pub leaves : LeavesEndHere now (string_bytes text) × LeavesEndHere now (string_bytes made.change.new)
   pub written : (b : Block) → slice_get blocks n ≡ Some b
       → IsWrittenBelow now edit made.change b.table (string_bytes text)
 

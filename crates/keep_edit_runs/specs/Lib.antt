@@ -1,4 +1,5 @@
 pub mod Lists
+pub mod Newlines
 pub mod Runs
 pub mod KnownArrays
 pub mod Gone

@@ -9,7 +9,7 @@ use Rattle.keep_edit_spec.specs.Edits as law
 use Rattle.keep_edit_spec.specs.Look.{holder}
 use Rattle.keep_edit_spec.specs.MoreKeys.{GoOnApart, IsOpen, key_below}
 use Rattle.keep_edit_spec.specs.Runs as runs
-use Rattle.keep_edit_spec.specs.Runs.{IsPlain}
+use Rattle.keep_edit_runs.specs.Newlines.{LeavesHere}
 use Rattle.keep_edit_spec.specs.TextChanges.{TextChange}
 use Rattle.keep_edit_spec.specs.declared.line_kind.LineKind.{LineKind}
 use Rattle.keep_edit_spec.specs.declared.line_kind.LineKind.TheVariants.{LastInBody}
@@ -91,8 +91,8 @@ pub record IsAddedLast (now : ProfiledText) (old : KindsRun) (o : Outline) (t : 
   pub outlines : new.so_far.outlines.items ≡ old.so_far.outlines.items ++ o ∷ []
   pub seen : IsSeen new.paths o
   pub others : (y : Outline) → IsSeen old.paths y → IsSeen new.paths y
-  pub plain : new.so_far.are_plain ≡ true → (old.so_far.are_plain ≡ true)
-      × (All (λ c. IsPlain c.new) old.so_far.changes → All (λ c. IsPlain c.new) new.so_far.changes)
+  pub newline : new.so_far.leave_newline ≡ true → (old.so_far.leave_newline ≡ true)
+      × (All (LeavesHere now) old.so_far.changes → All (LeavesHere now) new.so_far.changes)
   pub rest : new ≡ record old { so_far = new.so_far; lines = new.lines; paths = new.paths }
 
 -- It makes its own change. If it makes a table, this is that.
@@ -103,7 +103,7 @@ pub record AddsBehind (now : ProfiledText) (old : KindsRun) (edit : Edit) (new :
   pub line : Option LineKind
   pub makes : MakesInRunHere now edit (outlined outline) change line
   pub alone : IsAlone old outline
-  pub placed : IsPlacedAmong now.text old.so_far.changes outline (change_of change).at
+  pub placed : IsPlacedAmong now old.so_far.changes outline (change_of change).at
   pub added : IsAddedBehind now.text old.lines old.so_far.changes outline (change_of change) line new.lines
       new.so_far.changes
   pub outlines : new.so_far.outlines.items ≡ old.so_far.outlines.items ++ outline ∷ []

@@ -25,7 +25,7 @@ use Rattle.keep_edit_spec.specs.RenamedKeys.{RenamesKey}
 use Rattle.keep_edit_spec.specs.Runs as runs
 use Rattle.keep_edit_spec.specs.RunLists.{AreAtOnce, IsSetIn, MadeEdit, changes_of, document_after, lines_of}
 use Rattle.keep_edit_spec.specs.RunLists.{seen_of}
-use Rattle.keep_edit_spec.specs.Runs.{IsNoSecond, IsPlain, LetsCome, LetsTable, MakesChange, takes_up_to}
+use Rattle.keep_edit_spec.specs.Runs.{IsNoSecond, LetsCome, LetsTable, MakesChange, takes_up_to}
 use Rattle.keep_edit_spec.specs.SetValues.{SetsValue}
 use Rattle.keep_edit_spec.specs.TextChanges.{IsBeside, TextChange, change_at, text_with, with_change}
 use Rattle.keep_edit_spec.specs.declared.line_kind.LineKind.{LineKind}
@@ -38,6 +38,7 @@ use Rattle.keep_edit_runs.specs.Counts.{IsOneMore}
 use Rattle.keep_edit_plan.specs.Answers.{IsSpanOf}
 use Rattle.keep_edit_runs.specs.Gone.{IsGoneWith}
 use Rattle.keep_edit_runs.specs.Lists.{AreMade, IsEdit}
+use Rattle.keep_edit_runs.specs.Newlines.{LeavesHere}
 use Rattle.keep_edit_runs.specs.SeenHeaders.{HasTableOf}
 use Rattle.keep_edit_plan.specs.Reading.{IsAcceptedValue, IsTextOfTree, IsTextOfValue, ProfiledText}
 use Rattle.keep_edit_plan.specs.Reading.{limit, text_in}
@@ -117,12 +118,6 @@ Allows x y = AllowsRename (outlined x) (outlined y)
 abbrev pub writes_anew : Outline → Bool
 writes_anew x = runs.is_insert (outlined x) || runs.is_header (outlined x)
 
--- An edit's place is kept by changes that are made before it. A header's is where none takes the byte before it; a
--- line's is there too, or where one is taken in whose place it comes.
-pub record IsPlaceKept (bytes : List ℕ) (changes : List TextChange) (x : Outline) (at : ℕ) : Type 0 where
-  pub line : runs.is_insert (outlined x) ≡ true → All (LetsCome bytes changes at) changes
-  pub header : runs.is_header (outlined x) ≡ true → list_any (takes_up_to at) changes ≡ false
-
 -- A line comes after those that are known, and is known then. One that does not end a body comes after no change that
 -- takes the byte before it; and headers that are known to be appended pass by the table of one with a header.
 pub record IsKnownThen (old : AddedLines) (changes : List TextChange) (line : Added) (new : AddedLines)
@@ -193,14 +188,14 @@ pub record IsAddedBehind (bytes : List ℕ) (old : AddedLines) (changes : List T
   pub changes_are : with_it ≡ with_change changes c
 
 -- or before those that have to come behind it there.
-pub record IsAddedAhead (bytes : List ℕ) (old : AddedLines) (changes : List TextChange) (x : Outline) (c : TextChange)
-    (line : Option LineKind) (new : AddedLines) (with_it : List TextChange) : Type 0 where
-  pub kept : IsKeptAhead old changes x c.at line (c.at == length bytes) new
+pub record IsAddedAhead (now : ProfiledText) (old : AddedLines) (changes : List TextChange) (x : Outline)
+    (c : TextChange) (line : Option LineKind) (new : AddedLines) (with_it : List TextChange) : Type 0 where
+  pub kept : IsKeptAhead old changes x c.at line (c.at == length now.text) new
   pub count : ℕ
-  pub count_is : IsCountBehind old line c.at (c.at == length bytes) count
+  pub count_is : IsCountBehind old line c.at (c.at == length now.text) count
   pub some : 0 < count
   pub put : IsPutAhead changes c count with_it
-  pub plain : IsPlain c.new
+  pub leaves : LeavesHere now c
 
 -- An edit with this outline inserts a new key of the table whose header comes at that byte.
 pub record IsOfBrought (added : AddedLines) (x : Outline) (at : ℕ) : Type 0 where
@@ -238,20 +233,20 @@ pub record IsAddedFollowing (now : ProfiledText) (x : Edit) (old : AddedLines) (
   pub place : (change_of line).at ≡ at
   pub ends : (at ≢ length now.text) ⊎ (old.appended ≡ 0)
   pub kept : IsKeptBehind old changes o at new
-  pub plain : IsPlain (string_bytes line.new)
+  pub leaves : LeavesHere now (change_of line)
   pub beside : All (λ d. IsBeside d (change_of line)) changes
   pub changes_are : with_it ≡ with_change changes (change_of line)
 
 -- An edit with this outline, this change and a line of a table that dotted keys make is added to edits with these
 -- changes and lines, right before the change that takes bytes from its place on.
-pub record IsAddedRightBefore (old : AddedLines) (changes : List TextChange) (x : Outline) (c : TextChange)
-    (line : Option LineKind) (new : AddedLines) (with_it : List TextChange) : Type 0 where
+pub record IsAddedRightBefore (now : ProfiledText) (old : AddedLines) (changes : List TextChange) (x : Outline)
+    (c : TextChange) (line : Option LineKind) (new : AddedLines) (with_it : List TextChange) : Type 0 where
   pub kept : IsLineKept old changes x c.at line new
   pub line_is : line ≡ Some OfDotted
   pub first : List Part
   pub is : outlined x ≡ law.insert first no_value
   pub put : IsPutBefore changes c with_it
-  pub plain : IsPlain c.new
+  pub leaves : LeavesHere now c
 
 -- It is added in one of these four ways; behind all others, if elements went.
 abbrev pub IsAddedInOrder : ProfiledText → Edit → AddedLines → List TextChange → Outline → TextChange
@@ -259,9 +254,9 @@ abbrev pub IsAddedInOrder : ProfiledText → Edit → AddedLines → List TextCh
 IsAddedInOrder now x old changes o c line none_gone new with_it =
     IsAddedBehind now.text old changes o c line new with_it
     ⊎ ((none_gone ≡ true)
-    × (IsAddedAhead now.text old changes o c line new with_it
+    × (IsAddedAhead now old changes o c line new with_it
     ⊎ (IsAddedFollowing now x old changes o c.at new with_it
-    ⊎ IsAddedRightBefore old changes o c line new with_it)))
+    ⊎ IsAddedRightBefore now old changes o c line new with_it)))
 
 -- what is left of keys after so many, and after those of the steps of a path
 abbrev pub rest_from : List (String Global) → ℕ → List Part

@@ -1,15 +1,17 @@
 //! Edits of those that are made at once that do again what one before them did.
-ghost use Rattle.std.specs.Prelude.{◌≡◌, ◌++◌, All, IfSome, IsTrue, false, string_bytes, true};
+ghost use Rattle.std.specs.Prelude.{◌≡◌, ◌++◌, All, IfSome, IsTrue, false, true};
+ghost use Rattle.keep_edit_plan.specs.TextEdits.{change_of};
 ghost use Rattle.keep_edit_runs.specs.Again.{AllowAgain, IsAgainHere, IsPutAgain, LetsAgain, edit_of};
 ghost use Rattle.keep_edit_runs.specs.Again.{outlines_of};
+ghost use Rattle.keep_edit_runs.specs.Newlines.{LeavesBy};
 ghost use Rattle.keep_edit_runs.specs.Seen.{IsSeen};
 ghost use Rattle.keep_edit_runs.specs.SeenPaths as paths;
 ghost use Rattle.keep_edit_runs.specs.declared.outline.Outline.{Outline};
-ghost use Rattle.keep_edit_spec.specs.Runs.{IsPlain};
 
 use crate::added_lines::AddedLines;
-use crate::at_once::{AtOnce, is_plain};
+use crate::at_once::AtOnce;
 use crate::before::Before;
+use crate::newline::Newline;
 use crate::opened::OpenValues;
 use crate::outline::Outline;
 use crate::seen::SeenKeys;
@@ -58,20 +60,26 @@ impl<'a> AtOnce<'a> {
     /// Puts the change of an edit, which has this number in the list, in the place of an earlier one. Returns whether
     /// it did; if not, no change has come in the place of one. A line is put in the place of none where lines come
     /// behind headers, since one of these may be like that of an earlier edit.
-    pub fn put_again(&mut self, lines: &AddedLines, number: usize, again: Again<'a>) -> bool
+    pub fn put_again(
+        &mut self,
+        newline: Newline,
+        lines: &AddedLines,
+        number: usize,
+        again: Again<'a>,
+    ) -> bool
         ensures lines { IsTrue result → LetsAgain lines.now again.entry }
         ensures changes { IsTrue result → IsPutAgain again.entry self.old.changes self.new.changes }
         ensures outlines { IsTrue result
             → self.new.outlines.items ≡ self.old.outlines.items ++ outlines_of again.entry }
-        ensures plain { IsTrue result → self.new.are_plain ≡ true
-            → (self.old.are_plain ≡ true) × IsPlain (string_bytes (edit_of again.entry).new) }
+        ensures newline { IsTrue result → self.new.leave_newline ≡ true
+            → (self.old.leave_newline ≡ true) × LeavesBy newline (change_of (edit_of again.entry)) }
         ensures refused { result ≡ false → self.new.changes ≡ self.old.changes }
     {
         match again {
-            Again::Value(change) => self.overwrite(change),
-            Again::Key(outline, change) => self.rename(number, outline, change),
+            Again::Value(change) => self.overwrite(newline, change),
+            Again::Key(outline, change) => self.rename(newline, number, outline, change),
             Again::Line(path, earlier, change) => {
-                lines.has_no_follower() && self.exchange(number, path, &earlier, change)
+                lines.has_no_follower() && self.exchange(newline, number, path, &earlier, change)
             }
         }
     }
@@ -80,30 +88,30 @@ impl<'a> AtOnce<'a> {
 impl<'a> SeenKeys<'a> {
     /// Whether each edit whose paths were added is known to allow what is done again. Then those of what stands for it
     /// are added, too.
-    pub fn allow_again(&mut self, again: &Again) -> bool
-        ensures allowed { IsTrue result → AllowAgain (IsSeen self.old) again.now }
+    pub fn allow_again(&mut self, newline: Newline, again: &Again) -> bool
+        ensures allowed { IsTrue result → AllowAgain (LeavesBy newline) (IsSeen self.old) again.now }
         ensures seen { IsTrue result → All (IsSeen self.new) (outlines_of again.now) }
         ensures others { (other : Outline) → IsSeen self.old other → IsSeen self.new other }
     {
         match again {
             Again::Value(_) => true,
             Again::Key(outline, _) => self.allow(outline) && self.add(outline).unwrap_or(false),
-            Again::Line(_, _, change) => self.is_of_inserts() || is_plain(change.new.as_str()),
+            Again::Line(_, _, change) => self.is_of_inserts() || newline.is_left_by(change),
         }
     }
 }
 
 impl<'a> SeenPaths<'a> {
     /// The same.
-    pub fn allow_again(&mut self, again: &Again<'a>) -> bool
-        ensures allowed { IsTrue result → AllowAgain (paths.IsSeen self.old) again.now }
+    pub fn allow_again(&mut self, newline: Newline, again: &Again<'a>) -> bool
+        ensures allowed { IsTrue result → AllowAgain (LeavesBy newline) (paths.IsSeen self.old) again.now }
         ensures seen { IsTrue result → All (paths.IsSeen self.new) (outlines_of again.now) }
         ensures others { (other : Outline) → paths.IsSeen self.old other → paths.IsSeen self.new other }
     {
         match again {
             Again::Value(_) => true,
             Again::Key(outline, _) => self.allow(outline) && self.add(outline).unwrap_or(false),
-            Again::Line(_, _, change) => is_plain(change.new.as_str()),
+            Again::Line(_, _, change) => newline.is_left_by(change),
         }
     }
 }

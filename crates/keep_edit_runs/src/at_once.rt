@@ -1,22 +1,21 @@
 //! Edits of a list that are made at once, as far as they are gone through.
-ghost use Rattle.std.specs.Prelude.{◌≡◌, ◌++◌, ◌∷◌, [], All, IfSome, IsTrue, List, None, Some, false, string_bytes};
+ghost use Rattle.std.specs.Prelude.{◌≡◌, ◌++◌, ◌∷◌, [], All, IfSome, IsTrue, List, None, Some, false};
 ghost use Rattle.std.specs.Prelude.{true};
-ghost use Rattle.std.specs.Bool.{Decides};
 ghost use Rattle.keep_edit_spec.specs.Edits.{insert};
 ghost use Rattle.keep_edit_spec.specs.LinesInPlace.{IsPutBefore};
-ghost use Rattle.keep_edit_spec.specs.Runs.{IsPlain};
 ghost use Rattle.keep_edit_spec.specs.TextChanges.{IsBeside, with_change};
 ghost use Rattle.keep_edit_spec.specs.declared.line_kind.LineKind.TheVariants.{OfDotted};
 ghost use Rattle.keep_edit_plan.specs.TextEdits.{HasChange, HasInstead, IsOrdered, IsPutAhead, IsReplaced, change_of};
 ghost use Rattle.keep_path.specs.Path.{Part, beside};
+ghost use Rattle.keep_edit_runs.specs.Newlines.{LeavesBy};
 ghost use Rattle.keep_edit_runs.specs.Runs.{IsRenamedBy, IsSetBy, no_value, outlined};
 
 use crate::alike::{is_new_path, is_same};
+use crate::newline::Newline;
 use crate::outline::{Outline, Steps};
 use crate::seen::{number_beside, number_of};
 use keep_edit_plan::{TextEdit, TextEdits};
 use keep_edit_spec::LineKind;
-use memchr::memchr;
 use std::alloc::Global;
 use std::collections::HashMap;
 
@@ -50,8 +49,8 @@ impl RunEdit {
 pub struct AtOnce<'a> {
     pub outlines: Vec<Outline<'a>>,
     pub changes: TextEdits,
-    /// Whether what they write has no carriage return, as far as is known.
-    pub are_plain: bool,
+    /// Whether they leave the document's first newline, as far as is known.
+    pub leave_newline: bool,
     /// The number of the outline whose change begins at a byte. It only tells where to look.
     numbers: HashMap<usize, usize>,
     /// The same of the rename whose new path has a number.
@@ -59,13 +58,6 @@ pub struct AtOnce<'a> {
     /// The number in the list of the edit that gave the value of an added line, by that of the line's path. It only
     /// tells where to look, too.
     values: HashMap<u64, usize>,
-}
-
-/// Whether a text has no carriage return.
-pub fn is_plain(text: &str) -> bool
-    ensures { Decides result (IsPlain text.now) }
-{
-    memchr(b'\r', text.as_bytes()).is_none()
 }
 
 impl<'a> AtOnce<'a> {
@@ -76,7 +68,7 @@ impl<'a> AtOnce<'a> {
         AtOnce {
             outlines: Vec::new(alloc),
             changes: TextEdits::new(alloc),
-            are_plain: true,
+            leave_newline: true,
             numbers: HashMap::new(alloc),
             renames: HashMap::new(alloc),
             values: HashMap::new(alloc),
@@ -136,34 +128,40 @@ impl<'a> AtOnce<'a> {
 
     /// Puts a change in the place of one that replaces the same bytes. Returns whether there is one; if not, nothing
     /// has changed.
-    pub fn overwrite(&mut self, change: TextEdit) -> bool
+    pub fn overwrite(&mut self, newline: Newline, change: TextEdit) -> bool
         ensures changes { IsTrue result → IsReplaced self.old.changes (change_of change) self.new.changes }
         ensures outlines { self.new.outlines.items ≡ self.old.outlines.items }
-        ensures plain { self.new.are_plain ≡ true
-            → (self.old.are_plain ≡ true) × (IsTrue result → IsPlain (string_bytes change.new)) }
+        ensures newline { self.new.leave_newline ≡ true
+            → (self.old.leave_newline ≡ true) × (IsTrue result → LeavesBy newline (change_of change)) }
         ensures refused { result ≡ false → self.new.changes ≡ self.old.changes }
     {
-        let is_plain = is_plain(change.new.as_str());
+        let is_left = newline.is_left_by(&change);
         if !self.changes.overwrite(change) {
             return false;
         }
-        self.are_plain = self.are_plain && is_plain;
+        self.leave_newline = self.leave_newline && is_left;
         true
     }
 
     /// Adds an edit that comes in the place of another, with its change in the place of that one's. Returns whether it
     /// does; if not, no change has come in the place of one.
-    pub fn rename(&mut self, number: usize, outline: Outline<'a>, change: TextEdit) -> bool
+    pub fn rename(
+        &mut self,
+        newline: Newline,
+        number: usize,
+        outline: Outline<'a>,
+        change: TextEdit,
+    ) -> bool
         ensures changes { IsTrue result → IsReplaced self.old.changes (change_of change) self.new.changes }
         ensures outlines { IsTrue result → self.new.outlines.items ≡ self.old.outlines.items ++ outline.entry ∷ [] }
-        ensures plain { IsTrue result → self.new.are_plain ≡ true
-            → (self.old.are_plain ≡ true) × IsPlain (string_bytes change.new) }
+        ensures newline { IsTrue result → self.new.leave_newline ≡ true
+            → (self.old.leave_newline ≡ true) × LeavesBy newline (change_of change) }
         ensures refused { result ≡ false → self.new.changes ≡ self.old.changes }
     {
         if !self.add_outline(number, outline) {
             return false;
         }
-        self.overwrite(change)
+        self.overwrite(newline, change)
     }
 
     /// Puts a change in the place of another, by the edit with this number in the list: it gives another value to the
@@ -171,6 +169,7 @@ impl<'a> AtOnce<'a> {
     /// place of one.
     pub fn exchange(
         &mut self,
+        newline: Newline,
         number: usize,
         path: u64,
         earlier: &TextEdit,
@@ -179,16 +178,16 @@ impl<'a> AtOnce<'a> {
         ensures changes { IsTrue result
             → HasInstead self.old.changes (change_of earlier.now) (change_of change) self.new.changes }
         ensures outlines { self.new.outlines.items ≡ self.old.outlines.items }
-        ensures plain { IsTrue result → self.new.are_plain ≡ true
-            → (self.old.are_plain ≡ true) × IsPlain (string_bytes change.new) }
+        ensures newline { IsTrue result → self.new.leave_newline ≡ true
+            → (self.old.leave_newline ≡ true) × LeavesBy newline (change_of change) }
         ensures refused { result ≡ false → self.new.changes ≡ self.old.changes }
     {
-        let is_plain = is_plain(change.new.as_str());
+        let is_left = newline.is_left_by(&change);
         if self.values.insert(path, number).is_err() || !self.changes.exchange(earlier, change) {
             return false;
         }
-        if !is_plain {
-            self.are_plain = false;
+        if !is_left {
+            self.leave_newline = false;
         }
         true
     }
@@ -198,7 +197,7 @@ impl<'a> AtOnce<'a> {
     fn add_outline(&mut self, number: usize, outline: Outline<'a>) -> bool
         ensures outlines { IsTrue result → self.new.outlines.items ≡ self.old.outlines.items ++ outline.entry ∷ [] }
         ensures changes { self.new.changes ≡ self.old.changes }
-        ensures plain { self.new.are_plain ≡ self.old.are_plain }
+        ensures newline { self.new.leave_newline ≡ self.old.leave_newline }
     {
         let own = self.outlines.len();
         let noted = match &outline {
@@ -212,41 +211,53 @@ impl<'a> AtOnce<'a> {
         noted && self.outlines.push(outline).is_ok()
     }
 
-    /// Adds what an edit does that adds a line with these bytes, which has this number in the list. Returns whether it
-    /// was added: it is not if it writes a carriage return, nor where memory is refused.
-    fn add_line_outline(&mut self, number: usize, outline: Outline<'a>, line: &str) -> bool
-        ensures plain { IsTrue result → IsPlain line.now }
+    /// Adds what an edit does that adds a line by this change, which has this number in the list. Returns whether it
+    /// was added: it is not if the change is not known to leave the first newline, nor where memory is refused.
+    fn add_line_outline(
+        &mut self,
+        newline: Newline,
+        number: usize,
+        outline: Outline<'a>,
+        line: &TextEdit,
+    ) -> bool
+        ensures left { IsTrue result → LeavesBy newline (change_of line.now) }
         ensures outlines { IsTrue result → self.new.outlines.items ≡ self.old.outlines.items ++ outline.entry ∷ [] }
         ensures changes { self.new.changes ≡ self.old.changes }
-        ensures are_plain { self.new.are_plain ≡ self.old.are_plain }
+        ensures newline { self.new.leave_newline ≡ self.old.leave_newline }
     {
-        is_plain(line) && self.add_outline(number, outline)
+        newline.is_left_by(line) && self.add_outline(number, outline)
     }
 
     /// Adds a change of an edit that has no outline. Returns whether it was added: one that overlaps another is not,
     /// nor is any where memory is refused. Then no change was added.
-    pub fn add_change(&mut self, change: TextEdit) -> bool
+    pub fn add_change(&mut self, newline: Newline, change: TextEdit) -> bool
         requires { IsOrdered change }
         ensures changes { IsTrue result → All (λ c. IsBeside c (change_of change)) self.old.changes
             × (self.new.changes ≡ with_change self.old.changes (change_of change)) }
         ensures outlines { self.new.outlines.items ≡ self.old.outlines.items }
-        ensures plain { IsTrue result → self.new.are_plain ≡ true
-            → (self.old.are_plain ≡ true) × IsPlain (string_bytes change.new) }
+        ensures newline { IsTrue result → self.new.leave_newline ≡ true
+            → (self.old.leave_newline ≡ true) × LeavesBy newline (change_of change) }
         ensures refused { result ≡ false → self.new.changes ≡ self.old.changes }
     {
-        self.are_plain = self.are_plain && is_plain(change.new.as_str());
+        self.leave_newline = self.leave_newline && newline.is_left_by(&change);
         self.changes.add(change).unwrap_or(false)
     }
 
     /// Adds an edit, which has this number in the list. Returns whether it was added: one whose change overlaps another
     /// is not, nor is any where memory is refused. Then no change was added.
-    pub fn add(&mut self, number: usize, outline: Outline<'a>, change: TextEdit) -> bool
+    pub fn add(
+        &mut self,
+        newline: Newline,
+        number: usize,
+        outline: Outline<'a>,
+        change: TextEdit,
+    ) -> bool
         requires { IsOrdered change }
         ensures changes { IsTrue result → All (λ c. IsBeside c (change_of change)) self.old.changes
             × (self.new.changes ≡ with_change self.old.changes (change_of change)) }
         ensures outlines { IsTrue result → self.new.outlines.items ≡ self.old.outlines.items ++ outline.entry ∷ [] }
-        ensures plain { IsTrue result → self.new.are_plain ≡ true
-            → (self.old.are_plain ≡ true) × IsPlain (string_bytes change.new) }
+        ensures newline { IsTrue result → self.new.leave_newline ≡ true
+            → (self.old.leave_newline ≡ true) × LeavesBy newline (change_of change) }
         ensures refused { result ≡ false → self.new.changes ≡ self.old.changes }
     {
         let start = change.place.start;
@@ -254,14 +265,16 @@ impl<'a> AtOnce<'a> {
         if self.numbers.insert(start, own).is_err() || !self.add_outline(number, outline) {
             return false;
         }
-        self.add_change(change)
+        self.add_change(newline, change)
     }
 
     /// Adds an edit that adds a line, which has this number in the list, with its change before the last of those that
     /// begin where it does, so many. Returns whether it was added: it is not where no or fewer begin there, or the last
-    /// one takes bytes, nor if it writes a carriage return, nor where memory is refused. Then no change was added.
+    /// one takes bytes, nor if it is not known to leave the first newline, nor where memory is refused. Then no change
+    /// was added.
     pub fn add_ahead(
         &mut self,
+        newline: Newline,
         number: usize,
         outline: Outline<'a>,
         change: TextEdit,
@@ -269,25 +282,31 @@ impl<'a> AtOnce<'a> {
     ) -> bool
         ensures changes { IsTrue result → IsPutAhead self.old.changes (change_of change) count self.new.changes }
         ensures outlines { IsTrue result → self.new.outlines.items ≡ self.old.outlines.items ++ outline.entry ∷ [] }
-        ensures plain { IsTrue result → IsPlain (string_bytes change.new) }
-        ensures are_plain { self.new.are_plain ≡ self.old.are_plain }
+        ensures left { IsTrue result → LeavesBy newline (change_of change) }
+        ensures newline { self.new.leave_newline ≡ self.old.leave_newline }
         ensures refused { result ≡ false → self.new.changes ≡ self.old.changes }
     {
-        self.add_line_outline(number, outline, change.new.as_str())
+        self.add_line_outline(newline, number, outline, &change)
             && self.changes.add_ahead(change, count).unwrap_or(false)
     }
 
     /// Adds an edit that adds a line, which has this number in the list, with its change right before the one that
-    /// takes bytes from its place on. Returns whether it was added: it is not where none does, nor if it writes a
-    /// carriage return, nor where memory is refused. Then no change was added.
-    pub fn add_before(&mut self, number: usize, outline: Outline<'a>, change: TextEdit) -> bool
+    /// takes bytes from its place on. Returns whether it was added: it is not where none does, nor if it is not known
+    /// to leave the first newline, nor where memory is refused. Then no change was added.
+    pub fn add_before(
+        &mut self,
+        newline: Newline,
+        number: usize,
+        outline: Outline<'a>,
+        change: TextEdit,
+    ) -> bool
         ensures changes { IsTrue result → IsPutBefore self.old.changes (change_of change) self.new.changes }
         ensures outlines { IsTrue result → self.new.outlines.items ≡ self.old.outlines.items ++ outline.entry ∷ [] }
-        ensures plain { IsTrue result → IsPlain (string_bytes change.new) }
-        ensures are_plain { self.new.are_plain ≡ self.old.are_plain }
+        ensures left { IsTrue result → LeavesBy newline (change_of change) }
+        ensures newline { self.new.leave_newline ≡ self.old.leave_newline }
         ensures refused { result ≡ false → self.new.changes ≡ self.old.changes }
     {
-        self.add_line_outline(number, outline, change.new.as_str())
+        self.add_line_outline(newline, number, outline, &change)
             && self.changes.add_before(change).unwrap_or(false)
     }
 

@@ -1,7 +1,9 @@
 //! A document that was read, as edits of a list look at it that are made at once.
 ghost use Rattle.std.specs.Prelude.{◌≡◌};
 ghost use Rattle.keep_edit_plan.specs.Reading.{Holds, text_in};
+ghost use Rattle.keep_edit_runs.specs.Newlines.{IsNewlineOf};
 
+use crate::newline::{Newline, is_plain};
 use keep_edit_plan::DocumentRef;
 use keep_rules::Index;
 use keep_syntax::Syntax;
@@ -18,16 +20,33 @@ pub struct Before<'a> {
     pub(crate) profile: Profile,
     pub(crate) syntax: &'a Syntax,
     pub(crate) index: &'a Index,
+    pub(crate) newline: Newline,
 }
 
 impl<'a> Model for Before<'a> {
     ghost use Rattle.keep_edit_plan.specs.Reading.{Holds, ProfiledText, text_in};
+    ghost use Rattle.keep_edit_runs.specs.Newlines.{IsNewlineOf};
 
     ghost Value = { ProfiledText };
 
     ghost view = { λ d. text_in d.profile d.text.now };
 
-    ghost invariant = { λ d. Holds (text_in d.profile d.text.now) d.syntax.now d.index.now };
+    ghost invariant = { λ d. Holds (text_in d.profile d.text.now) d.syntax.now d.index.now
+        × IsNewlineOf (text_in d.profile d.text.now) d.newline };
+}
+
+/// What leaves the first newline of a document with this text.
+fn newline_in(text: &str, document: DocumentRef) -> Newline
+    requires { text.now ≡ document.text }
+    ensures { IsNewlineOf document.entry result }
+{
+    if is_plain(text) {
+        return Newline::LineFeed;
+    }
+    match document.first_line_end() {
+        Some(end) => Newline::After(end),
+        None => Newline::Unknown,
+    }
 }
 
 impl<'a> Before<'a> {
@@ -42,12 +61,14 @@ impl<'a> Before<'a> {
         requires { Holds (text_in profile text.now) syntax.now index.now }
         ensures { result ≡ text_in profile text.now }
     {
+        let newline = newline_in(text, DocumentRef::new(text, profile, syntax, index));
         Before {
             alloc,
             text,
             profile,
             syntax,
             index,
+            newline,
         }
     }
 

@@ -1,11 +1,11 @@
 //! Edits that are made at once, with the lines that they add in order.
 ghost use Rattle.std.specs.Prelude.{◌≡◌, ◌≤◌, ◌++◌, ◌∷◌, [], All, IfSome, IsTrue, false, true};
 ghost use Rattle.keep_edit_plan.specs.TextEdits.{IsOrdered, change_of};
+ghost use Rattle.keep_edit_runs.specs.Newlines.{LeavesHere};
 ghost use Rattle.keep_edit_runs.specs.Runs.{AddsLineAlone, IsAddedFollowing, IsAddedInOrder};
-ghost use Rattle.keep_edit_spec.specs.Runs.{IsPlain};
 
 use crate::added_lines::AddedLines;
-use crate::at_once::{AtOnce, RunEdit, is_plain};
+use crate::at_once::{AtOnce, RunEdit};
 use crate::before::Before;
 use crate::outline::Outline;
 use keep_edit_plan::{Edit, TextEdit};
@@ -32,8 +32,8 @@ impl Before<'_> {
             (change_of made.change) made.line is_none_gone lines.new so_far.new.changes }
         ensures outlines { IsTrue result
             → so_far.new.outlines.items ≡ so_far.old.outlines.items ++ outline.entry ∷ [] }
-        ensures plain { IsTrue result → so_far.new.are_plain ≡ true → (so_far.old.are_plain ≡ true)
-            × (All (λ c. IsPlain c.new) so_far.old.changes → All (λ c. IsPlain c.new) so_far.new.changes) }
+        ensures newline { IsTrue result → so_far.new.leave_newline ≡ true → (so_far.old.leave_newline ≡ true)
+            × (All (LeavesHere self.now) so_far.old.changes → All (LeavesHere self.now) so_far.new.changes) }
         ensures refused { result ≡ false → so_far.new.changes ≡ so_far.old.changes }
     {
         let place = made.change.place;
@@ -47,22 +47,23 @@ impl Before<'_> {
             Some(0) if so_far.comes_before(&outline, &made) => {
                 is_none_gone
                     && lines.keep_line(so_far, &outline, &made)
-                    && so_far.add_before(number, outline, made.change)
+                    && so_far.add_before(self.newline, number, outline, made.change)
             }
             Some(0) => {
-                lines.keep_line(so_far, &outline, &made) && so_far.add(number, outline, made.change)
+                lines.keep_line(so_far, &outline, &made)
+                    && so_far.add(self.newline, number, outline, made.change)
             }
             Some(count) => {
                 is_none_gone
                     && lines.keep_ahead(so_far, &outline, &made, is_at_end)
-                    && so_far.add_ahead(number, outline, made.change, count)
+                    && so_far.add_ahead(self.newline, number, outline, made.change, count)
             }
             None => false,
         }
     }
 
     /// Adds an edit that would bring the header of its table to this place, where that of an earlier one comes: its
-    /// line alone, behind that, if no header is appended there and it has no carriage return. Returns whether it was
+    /// line alone, behind that, if no header is appended there and it leaves the first newline. Returns whether it was
     /// added; if not, no change was.
     fn add_behind<'a>(
         &self,
@@ -78,8 +79,8 @@ impl Before<'_> {
             place.start lines.new so_far.new.changes }
         ensures outlines { IsTrue result
             → so_far.new.outlines.items ≡ so_far.old.outlines.items ++ outline.entry ∷ [] }
-        ensures plain { IsTrue result → so_far.new.are_plain ≡ true → (so_far.old.are_plain ≡ true)
-            × (All (λ c. IsPlain c.new) so_far.old.changes → All (λ c. IsPlain c.new) so_far.new.changes) }
+        ensures newline { IsTrue result → so_far.new.leave_newline ≡ true → (so_far.old.leave_newline ≡ true)
+            × (All (LeavesHere self.now) so_far.old.changes → All (LeavesHere self.now) so_far.new.changes) }
         ensures refused { result ≡ false → so_far.new.changes ≡ so_far.old.changes }
     {
         if place.start == self.text.len() && lines.has_appended() {
@@ -89,9 +90,9 @@ impl Before<'_> {
             return false;
         };
         line.place == place
-            && is_plain(line.new.as_str())
+            && self.newline.is_left_by(&line)
             && lines.keep_behind(so_far, &outline, place.start)
-            && so_far.add(number, outline, line)
+            && so_far.add(self.newline, number, outline, line)
     }
 
     /// The line alone of an insert that would bring the header of its table.

@@ -3,12 +3,12 @@ ghost use Rattle.std.specs.Prelude.{◌≡◌, ◌+◌, ◌<◌, ◌≤◌, [], 
 ghost use Rattle.keep_edit_runs.specs.GoneBetween.{AreElsewhere};
 ghost use Rattle.keep_edit_runs.specs.KindsRun.{AddsAny, AreSeen, FindsElement, GoesOn, IsAddedBefore, IsInsertedBelow};
 ghost use Rattle.keep_edit_runs.specs.KindsRun.{IsAddedInPlace, IsPlacedAmong, IsRunOn, IsTextBelow, IsUnchanged};
-ghost use Rattle.keep_edit_runs.specs.KindsRun.{TakesOne, with_paths, with_text};
-ghost use Rattle.keep_edit_runs.specs.Runs.{IsPlaceKept, IsSeenAs, MakeChanges, outline};
+ghost use Rattle.keep_edit_runs.specs.KindsRun.{TakesOne, with_paths};
+ghost use Rattle.keep_edit_runs.specs.Newlines.{LeavesHere};
+ghost use Rattle.keep_edit_runs.specs.Runs.{IsSeenAs, MakeChanges, outline};
 ghost use Rattle.keep_edit_plan.specs.TextEdits.{IsChangeIn, IsFreed, IsOrdered};
-ghost use Rattle.keep_edit_spec.specs.Runs.{ArePlain, IsPlain};
 
-use crate::at_once::{AtOnce, Run, RunEdit, is_plain};
+use crate::at_once::{Run, RunEdit};
 use crate::before::Before;
 use crate::gone::array_of;
 use crate::kinds_run::KindsRun;
@@ -74,7 +74,7 @@ impl Before<'_> {
         if run.gone.is_empty() {
             let again = self.again(&run.so_far, &mut run.opened, &mut run.planner, edits, edit);
             if let Some(again) = again {
-                return run.put_again(number, again);
+                return run.put_again(self.newline, number, again);
             }
         }
         self.add_to(run, number, edit, edits.get(number + 1), seen)
@@ -109,7 +109,7 @@ impl Before<'_> {
             return self.add_in_place(run, number, outline, made);
         }
         if let Some(keys) = outline.header_keys() {
-            return run.append(outline, keys, made.change);
+            return run.append(self.newline, outline, keys, made.change);
         }
         if run.comes_below(&outline, &made) {
             return self.put_below(run, edit, outline, made);
@@ -132,7 +132,7 @@ impl Before<'_> {
             → IsAddedBefore self.now run.old edit.now outline.entry made.change made.line run.new }
         ensures refused { result ≡ false → IsUnchanged run.old run.new }
     {
-        if !run.lets_change(&outline, &made.change, self.text.len())
+        if !run.lets_change(self.newline, &outline, &made.change, self.text.len())
             || !run.paths.add(&outline).unwrap_or(false)
         {
             return false;
@@ -163,32 +163,32 @@ impl Before<'_> {
             return false;
         };
         let at = made.change.place.start;
-        if !is_plain(made.change.new.as_str()) || !self.frees_place_in(run, at) {
+        if !self.newline.is_left_by(&made.change) || !self.frees_place_in(run, at) {
             return false;
         }
         if at == self.text.len() && run.lines.has_appended() {
             return false;
         }
-        if !run.lets_change(&outline, &made.change, self.text.len())
+        if !run.lets_change(self.newline, &outline, &made.change, self.text.len())
             || !run.paths.add(&outline).unwrap_or(false)
         {
             return false;
         }
         run.lines.keep_line(&run.so_far, &outline, &made)
-            && run.so_far.add(number, outline, made.change)
+            && run.so_far.add(self.newline, number, outline, made.change)
     }
 
-    /// Whether one of the edits of a run frees a place for a new line, where no element went, and nothing has a
-    /// carriage return. The text before the place is copied for that, which counts as comparing pairs.
+    /// Whether one of the edits of a run frees a place for a new line, where no element went, and all leave the first
+    /// newline. The text before the place is copied for that, which counts as comparing pairs.
     fn frees_place_in(&self, run: &mut KindsRun, at: usize) -> bool
         requires run { IsRunOn self.now run.old }
         requires within { All (IsChangeIn self.now.text) run.old.so_far.changes }
-        ensures plain { IsTrue result → ArePlain self.now.text run.old.so_far.changes }
+        ensures newline { IsTrue result → All (LeavesHere self.now) run.old.so_far.changes }
         ensures freed { IsTrue result → IsFreed self.now.text run.old.so_far.changes at }
         ensures none { IsTrue result → run.old.gone.arrays.items ≡ [] }
         ensures rest { run.new ≡ with_paths run.old run.old.paths run.new.left }
     {
-        if !run.gone.is_empty() || !run.is_text_plain || !run.so_far.are_plain {
+        if !run.gone.is_empty() || !run.so_far.leave_newline {
             return false;
         }
         let Some(left) = run.left.checked_sub(at / BYTES_A_PAIR) else {
@@ -231,59 +231,43 @@ impl Before<'_> {
     }
 
     /// What an insert that would bring the header of its table writes below the header with this number. None where it
-    /// has a carriage return, or brings no header, and where memory was refused.
+    /// is not known to leave the first newline, or brings no header, and where memory was refused.
     fn text_below(&self, tail: &Tail, block: usize, edit: &Edit, made: &RunEdit) -> Option<String>
         ensures { IfSome result (λ text. IsTextBelow self.now tail.now.blocks.items block edit.now made.now text) }
     {
         let Some(LineKind::WithHeader) = made.line else {
             return None;
         };
-        if !is_plain(made.change.new.as_str()) {
+        if !self.newline.is_left_at_end(made.change.new.as_str()) {
             return None;
         }
         if !tail.has_lines_below(block) {
             return String::from_str(self.alloc(), made.change.new.as_str()).ok();
         }
         let line = self.line_alone(edit)?;
-        if !is_plain(line.new.as_str()) {
+        if !self.newline.is_left_at_end(line.new.as_str()) {
             return None;
         }
         Some(line.new)
     }
 
     /// Whether an edit writes no line and no header, or the one that it writes at a byte can come there after a run's
-    /// changes as before them, as the text has no carriage return.
-    pub(crate) fn keeps_place_in(&self, run: &mut KindsRun, outline: &Outline, at: usize) -> bool
-        requires run { IsRunOn self.now run.old }
-        requires within { All (IsChangeIn self.now.text) run.old.so_far.changes }
-        ensures placed { IsTrue result
-            → IsPlacedAmong self.now.text run.old.so_far.changes outline.now at }
-        ensures text { run.new.is_text_plain ≡ true → IsPlain self.now.text }
-        ensures rest { run.new ≡ with_text run.old run.new.is_text_plain }
+    /// changes as before them: these leave the first newline. A header can if none of them takes the byte before it. So
+    /// can a line, or it comes in the place of one that is taken.
+    pub(crate) fn keeps_place_in(&self, run: &KindsRun, outline: &Outline, at: usize) -> bool
+        requires run { IsRunOn self.now run.now }
+        requires within { All (IsChangeIn self.now.text) run.now.so_far.changes }
+        ensures { IsTrue result → IsPlacedAmong self.now run.now.so_far.changes outline.now at }
     {
         if !outline.writes_anew() {
             return true;
         }
-        run.is_text_plain = run.is_text_plain || is_plain(self.text);
-        run.is_text_plain && self.keeps_place(&run.so_far, outline, at)
-    }
-
-    /// Whether an edit that writes a line or a header at a byte can do so after these changes as before them. They
-    /// write no carriage return. A header can if none of them takes the byte before it. So can a line, or it comes in
-    /// the place of one that is taken.
-    fn keeps_place(&self, so_far: &AtOnce, outline: &Outline, at: usize) -> bool
-        requires { All (IsChangeIn self.now.text) so_far.now.changes }
-        ensures plain { IsTrue result → so_far.now.are_plain ≡ true }
-        ensures kept { IsTrue result → IsPlaceKept self.now.text so_far.now.changes outline.now at }
-    {
-        if !so_far.are_plain {
-            return false;
-        }
-        match outline {
-            Outline::Insert(_) => so_far.changes.allows_line_at(self.text, at),
-            Outline::Table(_) | Outline::Element(_) => !so_far.changes.take_up_to(at),
-            _ => true,
-        }
+        let changes = &run.so_far.changes;
+        run.so_far.leave_newline
+            && match outline {
+                Outline::Insert(_) => changes.allows_line_at(self.text, at),
+                _ => !changes.take_up_to(at),
+            }
     }
 
     /// Adds what an edit takes from the text after those of a run, if it is the remove of an element, and the edits are
@@ -298,7 +282,7 @@ impl Before<'_> {
         let Some(change) = self.element_by(run, edit) else {
             return false;
         };
-        run.so_far.add_change(change)
+        run.so_far.add_change(self.newline, change)
     }
 
     /// What an edit takes from the text after those of a run, if it is the remove of an element, and the edits are
@@ -317,7 +301,7 @@ impl Before<'_> {
             return None;
         }
         let change = self.section_by(&mut run.gone.elements, edit)?;
-        if !run.lets_section(&change, self.text.len()) {
+        if !run.lets_section(self.newline, &change, self.text.len()) {
             return None;
         }
         Some(change)

@@ -8,14 +8,16 @@ ghost use Rattle.keep_edit_runs.specs.KindsRun.{AreSeen, DoesAgain, IsAlone, IsA
 ghost use Rattle.keep_edit_runs.specs.KindsRun.{IsUnchanged, KeepsArray, LetsAgainBefore, LetsChange, StartsAt};
 ghost use Rattle.keep_edit_runs.specs.KindsRun.{with_paths};
 ghost use Rattle.keep_edit_plan.specs.Reading.{ProfiledText};
+ghost use Rattle.keep_edit_runs.specs.Newlines.{IsNewlineOf, LeavesBy, LeavesEndBy};
 ghost use Rattle.keep_edit_runs.specs.Runs.{LeavesAlone, outlined};
 ghost use Rattle.keep_path.specs.Path.{Part};
 
 use crate::added_lines::AddedLines;
 use crate::again::Again;
 use crate::alike::{are_elsewhere, leave_alone_within};
-use crate::at_once::{AtOnce, Run, RunEdit, is_plain};
+use crate::at_once::{AtOnce, Run, RunEdit};
 use crate::gone_between::GoneBetween;
+use crate::newline::Newline;
 use crate::opened::OpenValues;
 use crate::outline::{Outline, Steps};
 use crate::seen_paths::SeenPaths;
@@ -38,8 +40,6 @@ pub struct KindsRun<'a> {
     pub tail: Tail<'a>,
     /// How many pairs of edits may still be compared.
     pub left: usize,
-    /// Whether the document's text has no carriage return, as far as is known.
-    pub is_text_plain: bool,
 }
 
 impl<'a> KindsRun<'a> {
@@ -56,7 +56,6 @@ impl<'a> KindsRun<'a> {
             gone: GoneBetween::new(alloc),
             tail: Tail::new(alloc),
             left,
-            is_text_plain: false,
         }
     }
 
@@ -88,61 +87,74 @@ impl<'a> KindsRun<'a> {
     /// Puts the change of an edit, which has this number in the list, in the place of an earlier one. Returns whether
     /// it did; if not, no change has come in the place of one. A key is renamed again, and an inserted value set, only
     /// where nothing comes at the end of the text.
-    pub fn put_again(&mut self, number: usize, again: Again<'a>) -> bool
-        ensures done { IsTrue result → DoesAgain self.old again.entry self.new }
-        ensures run { (now : ProfiledText) → IsRunOn now self.old → IsTrue result → IsRunOn now self.new }
+    pub fn put_again(&mut self, newline: Newline, number: usize, again: Again<'a>) -> bool
+        ensures done { IsTrue result → DoesAgain (LeavesBy newline) self.old again.entry self.new }
+        ensures run { (now : ProfiledText) → IsNewlineOf now newline → IsRunOn now self.old → IsTrue result
+            → IsRunOn now self.new }
         ensures refused { result ≡ false → IsUnchanged self.old self.new }
     {
-        self.lets_again(&again)
-            && self.paths.allow_again(&again)
-            && self.so_far.put_again(&self.lines, number, again)
+        self.lets_again(newline, &again)
+            && self.paths.allow_again(newline, &again)
+            && self.so_far.put_again(newline, &self.lines, number, again)
     }
 
     /// Whether what is done again may come before what is at the end of the text.
-    fn lets_again(&self, again: &Again) -> bool
-        ensures before { IsTrue result → LetsAgainBefore self.now.tail.blocks.items again.now }
+    fn lets_again(&self, newline: Newline, again: &Again) -> bool
+        ensures before { IsTrue result → LetsAgainBefore (LeavesBy newline) self.now.tail.blocks.items again.now }
         ensures none { IsTrue result → (outlines_of again.now ≡ []) ⊎ (self.now.tail.outlines.items ≡ []) }
     {
         if self.tail.is_empty() {
             return true;
         }
         match again {
-            Again::Value(change) => is_plain(change.new.as_str()),
+            Again::Value(change) => newline.is_left_by(change),
             Again::Key(_, _) | Again::Line(_, _, _) => false,
         }
     }
 
-    /// Whether a change of a text of so many bytes can come before what is at the end of the text: it has no carriage
-    /// return, and takes no byte right before the end, if it is no new line.
-    pub fn lets_change(&self, outline: &Outline, change: &TextEdit, len: usize) -> bool
+    /// Whether a change of a text of so many bytes can come before what is at the end of the text: it leaves the first
+    /// newline, and takes no byte right before the end, if it is no new line.
+    pub fn lets_change(
+        &self,
+        newline: Newline,
+        outline: &Outline,
+        change: &TextEdit,
+        len: usize,
+    ) -> bool
         ensures { IsTrue result
-            → LetsChange self.now.tail.blocks.items len (outlined outline.now) change.now }
+            → LetsChange (LeavesBy newline) self.now.tail.blocks.items len (outlined outline.now) change.now }
     {
         if self.tail.is_empty() {
             return true;
         }
-        is_plain(change.new.as_str())
+        newline.is_left_by(change)
             && (matches!(outline, Outline::Insert(_)) || change.place.end < len)
     }
 
     /// The same of what an element's remove takes.
-    pub fn lets_section(&self, change: &TextEdit, len: usize) -> bool
-        ensures { IsTrue result
-            → (path : List Part) → LetsChange self.now.tail.blocks.items len (remove path) change.now }
+    pub fn lets_section(&self, newline: Newline, change: &TextEdit, len: usize) -> bool
+        ensures { IsTrue result → (path : List Part)
+            → LetsChange (LeavesBy newline) self.now.tail.blocks.items len (remove path) change.now }
     {
-        self.tail.is_empty() || (is_plain(change.new.as_str()) && change.place.end < len)
+        self.tail.is_empty() || (newline.is_left_by(change) && change.place.end < len)
     }
 
     /// Appends a header with these keys, as it is written, behind all that is at the end of the text. Returns whether
-    /// it did: not one that has a carriage return, or is of a table whose header comes with a line, nor any where
-    /// memory was refused. Then what is at the end of the text is the same.
-    pub fn append(&mut self, outline: Outline<'a>, keys: &'a [String], change: TextEdit) -> bool
+    /// it did: not one that is not known to leave the first newline, or is of a table whose header comes with a line,
+    /// nor any where memory was refused. Then what is at the end of the text is the same.
+    pub fn append(
+        &mut self,
+        newline: Newline,
+        outline: Outline<'a>,
+        keys: &'a [String],
+        change: TextEdit,
+    ) -> bool
         requires { AreSeen self.old }
         ensures appended { IsTrue result
-            → IsAppended self.old outline.entry keys.entry change self.new }
+            → IsAppended (LeavesEndBy newline) self.old outline.entry keys.entry change self.new }
         ensures refused { result ≡ false → IsUnchanged self.old self.new }
     {
-        is_plain(change.new.as_str())
+        newline.is_left_at_end(change.new.as_str())
             && self.lines.keep_last(keys)
             && self.tail.add(outline, keys, change.new)
     }

@@ -31,6 +31,7 @@ mod kinds_run;
 mod known_arrays;
 mod last_elements;
 mod more_keys;
+mod newline;
 mod next;
 mod one_kind;
 mod opened;

@@ -31,10 +31,10 @@ impl Before<'_> {
         for number in first..end {
             let edit = &edits[number];
             if let Some(again) = self.again(&so_far, &mut opened, &mut planner, edits, edit) {
-                if !keys.allow_again(&again) {
+                if !keys.allow_again(self.newline, &again) {
                     return so_far.up_to(number);
                 }
-                if !so_far.put_again(&lines, number, again) {
+                if !so_far.put_again(self.newline, &lines, number, again) {
                     return so_far.up_to(number);
                 }
                 continue;

@@ -74,6 +74,8 @@ pub mod HeaderAfterRename
 pub mod OtherHeader
 pub mod ApartPaths
 pub mod PlainTexts
+pub mod FirstLines
+pub mod NewlineStays
 pub mod TextChanges
 pub mod WiderChanges
 pub mod ClearStays

@@ -135,6 +135,8 @@ pub use Rattle.keep_edit_spec.proofs.Lists.EndBelow.{end_goes_on_below}
 pub use Rattle.keep_edit_spec.proofs.Lists.EndEdits.{end_comes_after_entry, end_comes_later}
 pub use Rattle.keep_edit_spec.proofs.Lists.EndElements.{end_comes_after_element}
 pub use Rattle.keep_edit_spec.proofs.Lists.EndHeaders.{end_goes_on}
-pub use Rattle.keep_edit_spec.proofs.Lists.EndJoined.{document_joined, ends_joined, ends_split, fine_after, plain_after}
+pub use Rattle.keep_edit_spec.proofs.Lists.EndJoined.{document_joined, ends_joined, ends_split, fine_after, first_after}
+pub use Rattle.keep_edit_spec.proofs.Lists.NewlineStays.{FirstKnown, first_behind, first_known, first_line_within}
+pub use Rattle.keep_edit_spec.proofs.Lists.NewlineStays.{newline_stays, plain_by, stays_first}
 pub use Rattle.keep_edit_spec.proofs.Lists.EndTexts.{IsLonger, end_editable, end_text, with_ends}
 pub use Rattle.keep_edit_spec.proofs.Lists.MoreKeyRuns.{run_goes_on_inside, run_is_open}

@@ -13,8 +13,8 @@ use Rattle.keep_edit_spec.specs.Laws.{IsEditable, IsLawfulEdit}
 use Rattle.keep_edit_spec.specs.Refusals.{refusal}
 use Rattle.keep_edit_spec.specs.RemovedHeaders.{RemovesHeader, first_path}
 use Rattle.keep_edit_spec.specs.RunLists.{AreAtOnce, MadeEdit, changes_of, document_after, lines_of, seen_of}
-use Rattle.keep_edit_spec.specs.Runs.{AreApart, ArePlain, IsBeforeHeaders, IsInOrder, IsNoStep}
-use Rattle.keep_edit_spec.specs.Runs.{IsPlainBefore, IsSeenStill, IsStillPlaced, LeavesAlone, LetsCome, MakesChange}
+use Rattle.keep_edit_spec.specs.Runs.{AreApart, IsBeforeHeaders, IsInOrder, IsNoStep, IsSeenStill, IsStillPlaced}
+use Rattle.keep_edit_spec.specs.Runs.{LeaveNewline, LeaveNewlineBefore, LeavesAlone, LetsCome, MakesChange}
 use Rattle.keep_edit_spec.specs.Runs.{IsNoSecond, PassesBy, path_of, seen, with_line}
 use Rattle.keep_edit_spec.specs.TextChanges.{Follow, IsBeside, TextChange, moved, moved_by_all, moved_past}
 use Rattle.keep_edit_spec.specs.TextChanges.{text_with, with_change}
@@ -59,12 +59,12 @@ StillRemovesHeaderAfter =
 abbrev pub KeepsPlaceAmong : Document → List Edit → List TextChange → List Added → Edit → TextChange → Type 0
 KeepsPlaceAmong s edits changes lines (insert path value) c =
     IsInOrder edits changes lines (added_as s path c)
-    × (ArePlain (text s) changes
+    × (LeaveNewline s changes
     × (All (LetsCome (text s) changes c.at) changes × IsBeforeHeaders (text s) edits c.at))
 KeepsPlaceAmong s edits changes lines (append_table keys) c =
-    All (IsNoSecond keys) lines × IsPlainBefore (text s) changes c.at
+    All (IsNoSecond keys) lines × LeaveNewlineBefore s changes c.at
 KeepsPlaceAmong s edits changes lines (append_element keys) c =
-    All (IsNoSecond keys) lines × IsPlainBefore (text s) changes c.at
+    All (IsNoSecond keys) lines × LeaveNewlineBefore s changes c.at
 KeepsPlaceAmong s edits changes lines e c = ⊤
 
 -- The document after these edits, and after elements at the paths `gone` were removed between them, one after another.

@@ -1,6 +1,7 @@
 -- Edits of a list that write at the end of the text: headers that are appended, and inserts that come below one of
 -- these, into a table through which it goes. They may be made after all other edits of the list, whichever comes first.
-use Rattle.std.specs.Prelude.{◌≡◌, ◌≢◌, ⊤, ℕ, ◌+◌, ◌<◌, true, false, List, [], ◌∷◌, ◌++◌, All, None, length, map}
+use Rattle.std.specs.Prelude.{◌≡◌, ◌≢◌, ⊤, ℕ, ◌+◌, ◌<◌, true, false, List, [], ◌∷◌, ◌++◌, All, None, Option, length}
+use Rattle.std.specs.Prelude.{map}
 use Rattle.keep_types.specs.declared.leaf.Profile.{Profile}
 use Rattle.keep_syntax.specs.Tree.{Document, Value, text}
 use Rattle.keep_path.specs.Path.{Part, key, strip, without_last}
@@ -17,7 +18,8 @@ use Rattle.keep_edit_spec.specs.Lines.{newline_of}
 use Rattle.keep_edit_spec.specs.Look.{holder, keys_in}
 use Rattle.keep_edit_spec.specs.Refusals.{refusal}
 use Rattle.keep_edit_spec.specs.RemovedHeaders.{RemovesHeader}
-use Rattle.keep_edit_spec.specs.Runs.{IsPlain, IsSeenStill, LeavesAlone, MakesChange, PassesTable, is_header}
+use Rattle.keep_edit_spec.specs.FirstNewline.{HasFirst, LeavesFirstAtEnd}
+use Rattle.keep_edit_spec.specs.Runs.{IsSeenStill, LeavesAlone, MakesChange, PassesTable, is_header}
 use Rattle.keep_edit_spec.specs.Runs.{is_insert, seen}
 use Rattle.keep_edit_spec.specs.TextChanges.{TextChange, change_at}
 use Rattle.keep_edit_spec.specs.declared.line_kind.LineKind.TheVariants.{WithHeader}
@@ -69,11 +71,10 @@ abbrev pub BeginWithHeader : List EndEdit → Type 0
 BeginWithHeader [] = ⊤
 BeginWithHeader (t ∷ ts) = is_header t.edit ≡ true
 
--- no carriage return is in the text, nor in what the edits write
-pub record AreAllPlain (s : Document) (ts : List EndEdit) (new : List ℕ) : Type 0 where
-  pub text_is : IsPlain (text s)
-  pub new_is : IsPlain new
-  pub ends_are : All (λ t. IsPlain t.new) ts
+-- The document has its first newline so, and what these edits write leaves it.
+pub record EndsLeave (first : Option (List ℕ)) (s : Document) (ts : List EndEdit) : Type 0 where
+  pub has : HasFirst first s
+  pub ends : All (λ t. LeavesFirstAtEnd first t.new) ts
 
 -- The edit appends no header, and the others leave it alone. It takes no byte right before the end of the text; at the
 -- end it comes right before a header alone.
@@ -81,7 +82,7 @@ pub record ComesBefore (s : Document) (ts : List EndEdit) (e : Edit) (c : TextCh
   pub other : is_header e ≡ false
   pub alone : All (λ t. LeavesAlone t.seen (seen s e)) ts
   pub lets : All (LetsEdit s e c) ts
-  pub plain : AreAllPlain s ts c.new
+  pub newline : (line : Option (List ℕ)) × (EndsLeave line s ts × HasFirst line (edited_document s e))
   pub clear : is_insert e ≡ false → c.at + c.size ≢ length (text s)
   pub first : c.at ≡ length (text s) → BeginWithHeader ts
 
@@ -124,7 +125,8 @@ abbrev pub EndComesAfterElement : Type 0
 EndComesAfterElement =
     (profile : Profile) (limit : ℕ) (s : Document) (ts : List EndEdit) (path : List Part) (c : TextChange)
     → IsEditable profile limit s → AreAtEnd profile limit s ts → RemovesHeader profile limit s path c
-    → All (λ t. IsElsewhere (changed_path path) t.seen) ts → AreAllPlain s ts c.new
+    → All (λ t. IsElsewhere (changed_path path) t.seen) ts
+    → (line : Option (List ℕ)) → EndsLeave line s ts → HasFirst line (edited_document s (remove path))
     → c.at + c.size ≢ length (text s)
     → IsRemovedBefore profile limit s ts path c
 
@@ -142,7 +144,7 @@ EndGoesOn =
     (profile : Profile) (limit : ℕ) (s : Document) (ts : List EndEdit) (t : EndEdit)
     → IsEditable profile limit s → AreAtEnd profile limit s ts → IsAtEnd profile limit s t
     → is_header t.edit ≡ true → All (λ u. LeavesAlone u.seen t.seen) ts
-    → All (λ u. IsNoSecondHeader t.edit u.seen) ts → AreAllPlain s ts []
+    → All (λ u. IsNoSecondHeader t.edit u.seen) ts → (line : Option (List ℕ)) → EndsLeave line s ts
     → AreAtEnd profile limit s (ts ++ t ∷ [])
 
 -- ---- one below a header
@@ -197,7 +199,7 @@ EndGoesOnBelow =
     → IsEditable profile limit s → AreAtEnd profile limit s (before ++ h ∷ own ++ later)
     → (k : BringsHeader profile limit s path value c)
     → ComesBelow s before h own later (holder path (mentions_in s)) (insert path value)
-    → AreAllPlain s (before ++ h ∷ own ++ later) c.new
+    → (line : Option (List ℕ)) → EndsLeave line s (before ++ h ∷ own ++ later) → LeavesFirstAtEnd line c.new
     → IsMadeBelow profile limit s (before ++ h ∷ own) later
     (record {
       edit = insert path value;

@@ -9,7 +9,8 @@ use Rattle.keep_edit_spec.specs.InsertKinds.{AddsAs}
 use Rattle.keep_edit_spec.specs.Laws.{IsEditable}
 use Rattle.keep_edit_spec.specs.Refusals.{refusal}
 use Rattle.keep_edit_spec.specs.RunLists.{AreAtOnce, MadeEdit, changes_of, document_after, made, seen_of}
-use Rattle.keep_edit_spec.specs.Runs.{IsPlain, MakesChange, is_insert}
+use Rattle.keep_edit_spec.specs.FirstNewline.{LeavesNewline}
+use Rattle.keep_edit_spec.specs.Runs.{MakesChange, is_insert}
 use Rattle.keep_edit_spec.specs.SetValues.{SetsValue}
 use Rattle.keep_edit_spec.specs.TextChanges.{TextChange}
 use Rattle.keep_edit_spec.specs.declared.line_kind.LineKind.{LineKind}
@@ -48,5 +49,5 @@ RunGoesOnInserted =
     → All (λ m. MakesChange profile limit s m.edit m.change) ms
     → AddsAs kind profile limit s path value c → changes_of ms ≡ before ++ c ∷ after
     → AddsAs kind profile limit s path more d
-    → IsPlain d.new ⊎ All (λ e. IsTrue (is_insert e)) (seen_of s ms)
+    → LeavesNewline s d ⊎ All (λ e. IsTrue (is_insert e)) (seen_of s ms)
     → IsRunInsertedAgain profile limit s ms path more before c d after

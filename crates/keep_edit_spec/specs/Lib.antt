@@ -18,6 +18,7 @@ pub mod Insertion
 pub mod TextEnds
 pub mod Headers
 pub mod TextChanges
+pub mod FirstNewline
 pub mod SetValues
 pub mod AppendedHeaders
 pub mod RenamedKeys

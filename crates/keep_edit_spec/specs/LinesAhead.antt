@@ -15,7 +15,8 @@ use Rattle.keep_edit_spec.specs.InsertKinds.{has_header, kind_of}
 use Rattle.keep_edit_spec.specs.Laws.{IsEditable}
 use Rattle.keep_edit_spec.specs.Refusals.{refusal}
 use Rattle.keep_edit_spec.specs.RunLists.{AreAtOnce, MadeEdit, changes_of, document_after, lines_of, made, seen_of}
-use Rattle.keep_edit_spec.specs.Runs.{ArePlain, IsPlain, IsSeenStill, LeavesAlone, LetsTable, PassesBy, is_header}
+use Rattle.keep_edit_spec.specs.FirstNewline.{LeavesNewline}
+use Rattle.keep_edit_spec.specs.Runs.{IsSeenStill, LeaveNewline, LeavesAlone, LetsTable, PassesBy, is_header}
 use Rattle.keep_edit_spec.specs.Runs.{is_insert, seen, takes_up_to}
 use Rattle.keep_edit_spec.specs.TextChanges.{IsBeside, TextChange}
 use Rattle.keep_edit_spec.specs.declared.line_kind.LineKind.{LineKind}
@@ -116,7 +117,7 @@ pub record ComesAhead (s : Document) (ms : List MadeEdit) (kind : LineKind) (lin
   pub passed : c.at ≢ length (text s)
       → All (λ l. IsHeaderAt c.at l → All (LetsTable l) (seen_of s ms)) (lines_of s ms)
   pub clear : list_any (takes_up_to c.at) (changes_of ms) ≡ false
-  pub alike : All (λ e. IsTrue (is_insert e)) (seen_of s ms) ⊎ (ArePlain (text s) (changes_of ms) × IsPlain c.new)
+  pub alike : All (λ e. IsTrue (is_insert e)) (seen_of s ms) ⊎ (LeaveNewline s (changes_of ms) × LeavesNewline s c)
 
 -- Such an insert after these edits: it adds its line there still, with the same bytes, and is seen as before. It is not
 -- refused, and makes the document that they make if it comes before those that come behind its line. Its change is

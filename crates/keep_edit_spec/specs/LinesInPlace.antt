@@ -10,7 +10,7 @@ use Rattle.keep_edit_spec.specs.Laws.{IsEditable}
 use Rattle.keep_edit_spec.specs.Refusals.{refusal}
 use Rattle.keep_edit_spec.specs.RunLists.{AreAtOnce, IsOneOf, MadeEdit, changes_of, document_after, lines_of, made}
 use Rattle.keep_edit_spec.specs.RunLists.{seen_of}
-use Rattle.keep_edit_spec.specs.Runs.{ArePlain, IsBeforeHeaders, IsSeenStill, KeepsPlace, LeavesAlone, LetsTable}
+use Rattle.keep_edit_spec.specs.Runs.{IsBeforeHeaders, IsSeenStill, KeepsPlace, LeaveNewline, LeavesAlone, LetsTable}
 use Rattle.keep_edit_spec.specs.Runs.{is_header, seen, with_line}
 use Rattle.keep_edit_spec.specs.SaidLines.{SaysBefore}
 use Rattle.keep_edit_spec.specs.TextChanges.{IsBeside, TextChange, moved_by_all, text_with, with_change}
@@ -26,11 +26,11 @@ pub record FreesPlace (bytes : List ℕ) (others : List TextChange) (c : TextCha
   pub said : SaysBefore (text_with 0 bytes others) (moved_by_all others c.at)
 
 -- The line of an insert at the end of a body comes after the others at its byte, where no header is appended; headers
--- pass by its table. No newline has a carriage return.
+-- pass by its table. The edits leave the first newline.
 pub record CanComeInPlace (s : Document) (ms : List MadeEdit) (path : List Part) (d : TextChange) : Type 0 where
   pub after : All (λ l. IsAfterLine l (added_as s path d)) (lines_of s ms)
   pub passed : All (LetsTable (added_as s path d)) (seen_of s ms)
-  pub plain : ArePlain (text s) (changes_of ms)
+  pub newline : LeaveNewline s (changes_of ms)
   pub before : IsBeforeHeaders (text s) (seen_of s ms) d.at
 
 -- An insert after these edits, one of which adds nothing and could come after all others and the insert. It adds its

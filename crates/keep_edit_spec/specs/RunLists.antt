@@ -12,7 +12,7 @@ use Rattle.keep_edit_spec.specs.InsertKinds.{Added, IsHeaderAt, table_of}
 use Rattle.keep_edit_spec.specs.Edits.{Edit, edited_document, insert, set}
 use Rattle.keep_edit_spec.specs.Laws.{IsEditable}
 use Rattle.keep_edit_spec.specs.Look.{holder}
-use Rattle.keep_edit_spec.specs.Runs.{ArePlain, IsBeforeHeaders, IsRun, IsRunLonger, KeepsPlace, LeavesAlone}
+use Rattle.keep_edit_spec.specs.Runs.{IsBeforeHeaders, IsRun, IsRunLonger, KeepsPlace, LeaveNewline, LeavesAlone}
 use Rattle.keep_edit_spec.specs.Runs.{MakesChange, is_insert, seen, takes_up_to, with_line}
 use Rattle.keep_edit_spec.specs.SetValues.{SetsValue}
 use Rattle.keep_edit_spec.specs.TextChanges.{Follow, IsBeside, TextChange, change_at, moved_by_all, text_with}
@@ -61,7 +61,7 @@ Follows profile limit s lines e c = ⊥
 abbrev pub KeepsBehind : Document → List Edit → List TextChange → TextChange → Type 0
 KeepsBehind s edits changes c =
     (list_any (takes_up_to c.at) changes ≡ false)
-    × (All (λ e. IsTrue (is_insert e)) edits ⊎ (ArePlain (text s) changes × IsBeforeHeaders (text s) edits c.at))
+    × (All (λ e. IsTrue (is_insert e)) edits ⊎ (LeaveNewline s changes × IsBeforeHeaders (text s) edits c.at))
 
 -- An edit makes its change of the first document in its place, or follows a header.
 abbrev pub MakesInPlace : Profile → ℕ → Document → List Edit → List TextChange → List Added → Edit → TextChange → Type 0

@@ -9,6 +9,7 @@ use Rattle.keep_path.specs.Path.{Part, beside, key, strip}
 use Rattle.keep_edit_spec.specs.AddedLines.{first_new}
 use Rattle.keep_edit_spec.specs.AppendedHeaders.{AppendsElement, AppendsTable, AreSameOrApart}
 use Rattle.keep_edit_spec.specs.ClearedLines.{ClearsLine}
+use Rattle.keep_edit_spec.specs.FirstNewline.{LeavesNewline}
 use Rattle.keep_edit_spec.specs.InsertKinds.{Added, AddsAs, IsAfterLine, added_as, is_last_in_body, kind_of}
 use Rattle.keep_edit_spec.specs.InsertKinds.{table_of}
 use Rattle.keep_edit_spec.specs.Edits.{Edit, append_element, append_table, edited_document, insert, place, remove}
@@ -170,21 +171,17 @@ StillMakesChange =
 
 -- ---- edits of several kinds
 
--- no carriage return, so that each newline is a line feed
-abbrev pub IsPlain : List ℕ → Type 0
-IsPlain bytes = All (λ b. b ≢ 0x0D) bytes
-
 -- the change takes the byte before this one
 abbrev pub takes_up_to : ℕ → TextChange → Bool
 takes_up_to at c = nat_lt 0 c.size && (c.at + c.size == at)
 
--- each newline is alike
-abbrev pub ArePlain : List ℕ → List TextChange → Type 0
-ArePlain bytes changes = IsPlain bytes × All (λ d. IsPlain d.new) changes
+-- the document's first newline is the same after these changes
+abbrev pub LeaveNewline : Document → List TextChange → Type 0
+LeaveNewline s changes = All (LeavesNewline s) changes
 
--- and no change takes the byte before this one
-abbrev pub IsPlainBefore : List ℕ → List TextChange → ℕ → Type 0
-IsPlainBefore bytes changes at = ArePlain bytes changes × (list_any (takes_up_to at) changes ≡ false)
+-- and none of them takes the byte before this one
+abbrev pub LeaveNewlineBefore : Document → List TextChange → ℕ → Type 0
+LeaveNewlineBefore s changes at = LeaveNewline s changes × (list_any (takes_up_to at) changes ≡ false)
 
 -- The change takes a line, the one before it says something and stays as it is, and nothing comes between them.
 pub record LeavesPlace (bytes : List ℕ) (changes : List TextChange) (d : TextChange) : Type 0 where
@@ -224,12 +221,12 @@ abbrev pub KeepsPlace : Document → List Edit → List TextChange → List Adde
 KeepsPlace s edits changes lines (insert path value) c =
     IsInOrder edits changes lines (added_as s path c)
     × (All (λ e. IsTrue (is_insert e)) edits
-    ⊎ (ArePlain (text s) changes
+    ⊎ (LeaveNewline s changes
     × (All (LetsCome (text s) changes c.at) changes × IsBeforeHeaders (text s) edits c.at)))
 KeepsPlace s edits changes lines (append_table keys) c =
-    All (IsNoSecond keys) lines × (All (λ e. IsTrue (is_header e)) edits ⊎ IsPlainBefore (text s) changes c.at)
+    All (IsNoSecond keys) lines × (All (λ e. IsTrue (is_header e)) edits ⊎ LeaveNewlineBefore s changes c.at)
 KeepsPlace s edits changes lines (append_element keys) c =
-    All (IsNoSecond keys) lines × (All (λ e. IsTrue (is_header e)) edits ⊎ IsPlainBefore (text s) changes c.at)
+    All (IsNoSecond keys) lines × (All (λ e. IsTrue (is_header e)) edits ⊎ LeaveNewlineBefore s changes c.at)
 KeepsPlace s edits changes lines e c = ⊤
 
 -- ---- a run of edits

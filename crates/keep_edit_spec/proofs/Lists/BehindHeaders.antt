@@ -32,7 +32,7 @@ use Rattle.keep_edit_spec.specs.Look.{holder}
 use Rattle.keep_edit_spec.specs.RunLists.{AreAtOnce, Follows, FollowsHeader, KeepsBehind, MadeEdit, MakesInPlace}
 use Rattle.keep_edit_spec.specs.RunLists.{RunGoesOnBehind, changes_of, document_after, lines_of, seen_of}
 use Rattle.keep_edit_spec.specs.Runs.{ComesInOrder, IsRun, IsRunLonger, KeepsPlace, LeavesAlone, LetsTable}
-use Rattle.keep_edit_spec.specs.Runs.{ArePlain, IsBeforeHeaders, IsSeenStill, LetsCome, MakesChange, PassesBy}
+use Rattle.keep_edit_spec.specs.Runs.{LeaveNewline, IsBeforeHeaders, IsSeenStill, LetsCome, MakesChange, PassesBy}
 use Rattle.keep_edit_spec.specs.Runs.{is_insert, seen, takes_up_to, with_line}
 use Rattle.keep_edit_spec.specs.TextChanges.{IsBeside, TextChange, change_at, moved_by, moved_by_all, moved_past}
 use Rattle.keep_edit_spec.specs.TextChanges.{with_change}
@@ -271,7 +271,7 @@ module _ (profile : Profile) (limit : ℕ) (s : Document) (edits : List Edit) (c
         passed = All-weaker (LetsTable own) (LetsTable its) passes edits placed.0.passed;
       },
       subst (λ (n : ℕ). All (λ e. IsTrue (is_insert e)) edits
-          ⊎ (ArePlain (text s) changes
+          ⊎ (LeaveNewline s changes
           × (All (LetsCome (text s) changes n) changes × IsBeforeHeaders (text s) edits n))) at placed.1,
     )
 

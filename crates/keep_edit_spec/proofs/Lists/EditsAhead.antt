@@ -22,7 +22,7 @@ use Rattle.keep_edit_spec.specs.Laws.{IsEditable}
 use Rattle.keep_edit_spec.specs.LinesAhead.{ComesAhead, before, behind, comes_before, comes_behind, with_ahead}
 use Rattle.keep_edit_spec.specs.Look.{keys_in}
 use Rattle.keep_edit_spec.specs.RunLists.{AreAtOnce, MadeEdit, changes_of, lines_of, made, seen_of}
-use Rattle.keep_edit_spec.specs.Runs.{IsBeforeHeaders, IsNoSecond, IsPlain, LeavesAlone, LetsTable, PassesBy, is_header}
+use Rattle.keep_edit_spec.specs.Runs.{IsBeforeHeaders, IsNoSecond, LeavesAlone, LetsTable, PassesBy, is_header}
 use Rattle.keep_edit_spec.specs.Runs.{is_insert, seen, takes_up_to, with_line}
 use Rattle.keep_edit_spec.specs.TextChanges.{IsBeside, TextChange}
 use Rattle.keep_edit_spec.specs.declared.line_kind.LineKind.{LineKind}
@@ -34,6 +34,7 @@ use Rattle.keep_edit_spec.proofs.Lists.OneMoreBelow.{IsBelow, IsFree, LetsUnder,
 use Rattle.keep_edit_spec.proofs.Lists.OtherHeader.{apart_differ}
 use Rattle.keep_edit_spec.proofs.Lists.OtherOrder.{IsOver, all_sorted, by_changes, by_lines, by_seen, of_changes}
 use Rattle.keep_edit_spec.proofs.Lists.OtherOrder.{of_lines, of_seen, own_lines}
+use Rattle.keep_edit_spec.specs.FirstNewline.{LeavesNewline}
 
 -- A line comes after one that comes before it by their kinds.
 after_before : (l m : Added) → comes_before l.kind m.kind ≡ true → IsAfterLine l m
@@ -162,10 +163,10 @@ module _ (profile : Profile) (limit : ℕ) (s : Document) (ms : List MadeEdit) (
           passed = by_seen s (LetsTable line) earlier
               (fewer (λ m. LetsTable line (seen s m.edit)) (of_seen s (LetsTable line) ms ahead.lets));
         },
-        let_come (text s) (seen_of s earlier) (changes_of earlier) c.at clear
+        let_come s (seen_of s earlier) (changes_of earlier) c.at clear
             (elim (free_moved s c ms earlier fewer free).alike [
               | inl inserts ↦ inl (by_seen s (λ f. IsTrue (is_insert f)) earlier inserts)
-              | inr (plain, new) ↦ inr ((plain, by_changes s (λ x. IsPlain x.new) earlier new), before_headers)
+              | inr leave ↦ inr (by_changes s (LeavesNewline s) earlier leave, before_headers)
             ]),
       ),
     ),
@@ -228,10 +229,8 @@ module _ (profile : Profile) (limit : ℕ) (s : Document) (ms : List MadeEdit) (
       | inl inserts ↦ inl
           (All-cons (λ m. IsTrue (is_insert (seen s m.edit))) own ms refl
           (of_seen s (λ f. IsTrue (is_insert f)) ms inserts))
-      | inr ((plain, new), its) ↦ inr (
-        plain,
-        All-cons (λ m. IsPlain m.change.new) own ms its (of_changes s (λ x. IsPlain x.new) ms new),
-      )
+      | inr (leave, its) ↦ inr
+          (All-cons (λ m. LeavesNewline s m.change) own ms its (of_changes s (LeavesNewline s) ms leave))
     ];
   }
 

@@ -9,6 +9,7 @@
 --
 -- Theorem: `end_goes_on_below`.
 use Rattle.std.proofs.Common.{◌≡◌, ◌≢◌, ℕ, List, [], ◌∷◌, ◌++◌, length, map, All, refl, sym, ap, subst, ◌∙◌, None, Some}
+use Rattle.std.proofs.Common.{Option}
 use Rattle.std.proofs.Common.{inl, inr}
 use Rattle.std.proofs.lemmas.List.Elements.{All-cons, All-head, All-nil, All-tail, All-weaker}
 use Rattle.keep_types.specs.declared.leaf.Profile.{Profile}
@@ -18,16 +19,17 @@ use Rattle.keep_meaning.specs.Meaning.{mentions_in}
 use Rattle.keep_edit_spec.specs.AddedLines.{first_new}
 use Rattle.keep_edit_spec.specs.BroughtHeaders.{BringsHeader}
 use Rattle.keep_edit_spec.specs.Edits.{Edit, append_element, append_table, edited_document, insert, remove, rename, set}
-use Rattle.keep_edit_spec.specs.EndEdits.{AreAllPlain, AreAtEnd, BeginWithHeader, ComesBefore, ComesBelow}
+use Rattle.keep_edit_spec.specs.EndEdits.{AreAtEnd, BeginWithHeader, ComesBefore, ComesBelow, EndsLeave}
 use Rattle.keep_edit_spec.specs.EndEdits.{EndComesLater, EndEdit, EndGoesOnBelow, GoesThrough, IsAtEnd, IsInto}
 use Rattle.keep_edit_spec.specs.EndEdits.{IsMadeBefore, IsMadeBelow, IsNotOf, LetsLine, document_with, written_below}
+use Rattle.keep_edit_spec.specs.FirstNewline.{HasFirst, LeavesFirstAtEnd}
 use Rattle.keep_edit_spec.specs.InsertKinds.{Added, added_as, kind_of, table_of}
 use Rattle.keep_edit_spec.specs.Insertion.{keyed_text}
 use Rattle.keep_edit_spec.specs.Laws.{IsEditable, IsLawfulEdit}
 use Rattle.keep_edit_spec.specs.Lines.{newline_of}
 use Rattle.keep_edit_spec.specs.Look.{holder, keys_in}
 use Rattle.keep_edit_spec.specs.Refusals.{refusal}
-use Rattle.keep_edit_spec.specs.Runs.{IsPlain, LeavesAlone, PassesBy, PassesTable, seen}
+use Rattle.keep_edit_spec.specs.Runs.{LeavesAlone, PassesBy, PassesTable, seen}
 use Rattle.keep_edit_spec.specs.TextChanges.{TextChange, change_at}
 use Rattle.keep_edit_spec.specs.declared.line_kind.LineKind.{LineKind}
 use Rattle.keep_edit_spec.specs.declared.line_kind.LineKind.TheVariants.{LastInBody, WithHeader}
@@ -35,10 +37,11 @@ use Rattle.keep_edit_spec.proofs.Rename.RenamedParts.{strip_self}
 use Rattle.keep_edit_spec.proofs.Lists.AheadDocuments.{adds_bytes}
 use Rattle.keep_edit_spec.proofs.Lists.BroughtOverEnds.{BringsSomewhere, BringsStill, below_header, over_all}
 use Rattle.keep_edit_spec.proofs.Lists.EndJoined.{all_first, all_last, document_joined, ends_joined, ends_split}
-use Rattle.keep_edit_spec.proofs.Lists.EndJoined.{fine_after, fine_after_one, plain_after}
-use Rattle.keep_edit_spec.proofs.Lists.EndOwnLines.{AddsAtEnd, line_plain, over_own}
+use Rattle.keep_edit_spec.proofs.Lists.EndJoined.{fine_after, fine_after_one, first_after}
+use Rattle.keep_edit_spec.proofs.Lists.EndOwnLines.{AddsAtEnd, line_leaves, over_own}
 use Rattle.keep_edit_spec.proofs.Lists.KeysThrough.{keys_alone, through_or_not}
 use Rattle.keep_edit_spec.proofs.Lists.LineKinds.{keys_of_line, kind_is, table_is}
+use Rattle.keep_edit_spec.proofs.Lists.EndTexts.{end_first}
 use Rattle.keep_edit_spec.proofs.Lists.MadeChanges.{change_allowed, change_lawful}
 
 -- ---- what came later
@@ -116,9 +119,10 @@ module _ (comes_later : EndComesLater) (profile : Profile) (limit : ℕ) (s : Do
 
   goes_on : AreAtEnd profile limit s upper → AreAtEnd profile limit here later
       → AddsAtEnd kind profile limit s here path value new → All (λ u. LeavesAlone u.seen (seen s its_edit)) later
-      → All (λ u. LetsLine (added_as here path its) u.seen) later → AreAllPlain here later new
+      → All (λ u. LetsLine (added_as here path its) u.seen) later
+      → (line : Option (List ℕ)) → EndsLeave line here later → LeavesFirstAtEnd line new
       → BeginWithHeader later → IsMadeBelow profile limit s upper later one
-  goes_on above ends b alone lets plain head = record {
+  goes_on above ends b alone lets line leave leaves head = record {
     allowed = subst (λ (x : Document). refusal profile limit x its_edit ≡ None) (sym all_is)
         (change_allowed profile limit all its_edit its made.makes);
     lawful = subst (λ (x : Document). IsLawfulEdit profile limit x its_edit) (sym all_is)
@@ -146,7 +150,7 @@ module _ (comes_later : EndComesLater) (profile : Profile) (limit : ℕ) (s : Do
         other = refl;
         alone = subst (λ (f : Edit). All (λ u. LeavesAlone u.seen f) later) (sym seen_here) alone;
         lets = lets;
-        plain = plain;
+        newline = (line, (leave, end_first profile limit here one b.fine at_end line leave.has leaves));
         clear = λ none. absurd cc;
         first = λ there. head;
       }
@@ -161,7 +165,8 @@ module _ (comes_later : EndComesLater) (profile : Profile) (limit : ℕ) (s : Do
     (fine : IsEditable profile limit s) (ends : AreAtEnd profile limit s (before ++ h ∷ own ++ later))
     (k : BringsHeader profile limit s path value c)
     (below : ComesBelow s before h own later (holder path (mentions_in s)) (insert path value))
-    (plain : AreAllPlain s (before ++ h ∷ own ++ later) c.new) where
+    (line_text : Option (List ℕ)) (leave : EndsLeave line_text s (before ++ h ∷ own ++ later))
+    (leaves : LeavesFirstAtEnd line_text c.new) where
   abbrev e : Edit
   e = insert path value
 
@@ -227,16 +232,17 @@ module _ (comes_later : EndComesLater) (profile : Profile) (limit : ℕ) (s : Do
   others_later : All IsOther later
   others_later = All-tail IsOther h later (all_last IsOther before (h ∷ later) below.others)
 
-  abbrev IsPlainNew : EndEdit → Type 0
-  IsPlainNew t = IsPlain t.new
+  abbrev IsLeft : EndEdit → Type 0
+  IsLeft t = LeavesFirstAtEnd line_text t.new
 
-  plain_now : (new : List ℕ) → IsPlain new → AreAllPlain now later new
-  plain_now new new_plain = record {
-    text_is = plain_after profile limit s upper fine split.0 plain.text_is
-        (all_first IsPlainNew upper later plain.ends_are);
-    new_is = new_plain;
-    ends_are = all_last IsPlainNew upper later plain.ends_are;
-  }
+  -- after those before it the first newline is known as before, and the later ones leave it
+  has_now : HasFirst line_text now
+  has_now =
+      first_after profile limit s upper fine split.0 line_text
+      (record { has = leave.has; ends = all_first IsLeft upper later leave.ends })
+
+  leave_later : EndsLeave line_text now later
+  leave_later = record { has = has_now; ends = all_last IsLeft upper later leave.ends }
 
   -- ---- before the header, and right after it
 
@@ -273,7 +279,7 @@ module _ (comes_later : EndComesLater) (profile : Profile) (limit : ℕ) (s : Do
       let change : TextChange = change_at (length (text now)) 0 c.new in
       goes_on comes_later profile limit s upper later path value WithHeader c.new split.0 split.1 b alone_later
       (lets_all profile limit table is_keys (added_as now path change) (ap without_last b.first ∙ is_table) now later
-      split.1 (below.passes none) others_later) (plain_now c.new plain.new_is) below.first
+      split.1 (below.passes none) others_later) line_text leave_later leaves below.first
 
   -- where some did
   with_line : AddsAtEnd LastInBody profile limit s now path value line
@@ -284,7 +290,8 @@ module _ (comes_later : EndComesLater) (profile : Profile) (limit : ℕ) (s : Do
       goes_on comes_later profile limit s upper later path value LastInBody line split.0 split.1 b alone_later
       (All-weaker IsAlone (λ (u : EndEdit). LetsLine (added_as now path change) u.seen)
       (λ u alone. lets_none (added_as now path change) is u.seen) later alone_later)
-      (plain_now line (line_plain profile limit s path value c k table is_table plain.new_is)) below.first
+      line_text leave_later
+      (line_leaves profile limit s path value c k table is_table line_text leaves) below.first
 
   made_below : (ts : List EndEdit) → ts ≡ own
       → IsMadeBelow profile limit s upper later
@@ -301,5 +308,5 @@ module _ (comes_later : EndComesLater) (profile : Profile) (limit : ℕ) (s : Do
       (subst (All IsAlone) (sym is) (All-tail IsAlone h own alone_own))))
 
 pub end_goes_on_below : EndComesLater → EndGoesOnBelow
-end_goes_on_below comes_later profile limit s before h own later path value c fine ends k below plain =
-    made_below comes_later profile limit s before h own later path value c fine ends k below plain own refl
+end_goes_on_below comes_later profile limit s before h own later path value c fine ends k below first leave leaves =
+    made_below comes_later profile limit s before h own later path value c fine ends k below first leave leaves own refl

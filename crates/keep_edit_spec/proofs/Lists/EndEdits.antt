@@ -16,16 +16,19 @@ use Rattle.keep_edit_spec.specs.Edits.{Edit, append_element, append_table, edite
 use Rattle.keep_edit_spec.specs.EndEdits.{AreAtEnd, ComesBefore, EndComesAfterEntry, EndComesLater}
 use Rattle.keep_edit_spec.specs.EndEdits.{EndEdit, IsAtEnd, IsMadeBefore, LetsEdit, LetsLine, document_with}
 use Rattle.keep_edit_spec.specs.EntryEdits.{MakesSet}
+use Rattle.keep_edit_spec.specs.FirstNewline.{HasFirst, LeavesFirstAtEnd}
 use Rattle.keep_edit_spec.specs.InsertKinds.{Added}
 use Rattle.keep_edit_spec.specs.Laws.{IsEditable}
 use Rattle.keep_edit_spec.specs.Runs.{IsSeenStill, LeavesAlone, MakesChange, seen}
 use Rattle.keep_edit_spec.specs.TextChanges.{TextChange}
 use Rattle.keep_edit_spec.specs.declared.line_kind.LineKind.{LineKind}
-use Rattle.keep_edit_spec.proofs.Lists.EndTexts.{IsLonger, bytes_stay, end_editable, end_later, plain_rest, with_ends}
+use Rattle.keep_edit_spec.proofs.Lists.EndTexts.{IsLonger, bytes_stay, end_editable, end_first, end_later, leave_rest}
+use Rattle.keep_edit_spec.proofs.Lists.EndTexts.{then_editable, with_ends}
 use Rattle.keep_edit_spec.proofs.Lists.EntryEdits.{of_itself, still_makes_set}
 use Rattle.keep_edit_spec.proofs.Lists.MadeChanges.{within_text}
 use Rattle.keep_edit_spec.proofs.Lists.RunLaws.{same_seen, seen_here, seen_on}
 use Rattle.keep_edit_spec.proofs.Lists.SwappedEnds.{IsSwapped, swap_end}
+use Rattle.keep_edit_spec.proofs.Lists.TextsAfter.{made_puts}
 
 -- ---- after the first of them
 
@@ -52,14 +55,17 @@ module _ (profile : Profile) (limit : ℕ) (s : Document) (t : EndEdit) (ts : Li
   ends_sooner =
       end_later profile limit s t fine first (c.at + c.size) (within_text profile limit s e c fine makes)
 
-  before_rest : IsSeenStill s now e → ComesBefore now ts e c
-  before_rest still = record {
+  before_rest : IsSeenStill s now e → HasFirst h.newline.0 (edited_document now e) → ComesBefore now ts e c
+  before_rest still first_then = record {
     other = h.other;
     alone = All-tail (λ u. LeavesAlone u.seen (seen now e)) t ts
         (subst (λ (f : Edit). All (λ u. LeavesAlone u.seen f) (t ∷ ts)) (sym (same_seen s now e still)) h.alone);
     lets = All-weaker (LetsEdit s e c) (LetsEdit now e c) (λ u. lets_now s now e c u still) ts
         (All-tail (LetsEdit s e c) t ts h.lets);
-    plain = plain_rest profile limit s t fine first ts c.new h.plain;
+    newline = (
+      h.newline.0,
+      (leave_rest profile limit s t fine first h.newline.0 ts h.newline.1.0, first_then),
+    );
     clear = λ other same. (let less = ends_sooner in omega (arith, less, same));
     first = λ same. absurd (let less = ends_sooner in omega (arith, less, same));
   }
@@ -74,10 +80,16 @@ end_comes_later profile limit s (t ∷ ts) e c fine h makes before =
     let one : IsSwapped profile limit s e c t =
     swap_end profile limit s e c t fine h.0 makes before.other
     (All-head (λ u. LeavesAlone u.seen (seen s e)) t ts before.alone)
-    (All-head (LetsEdit s e c) t ts before.lets) before.plain.text_is before.plain.new_is before.clear before.first in
+    (All-head (LetsEdit s e c) t ts before.lets) before.newline.0 before.newline.1.0.has before.newline.1.1
+    before.clear before.first in
+    let still_first : HasFirst before.newline.0 (edited_document x e) =
+    subst (HasFirst before.newline.0) one.same
+    (end_first profile limit (edited_document s e) t
+    (then_editable profile limit s e c (made_puts profile limit s e c fine makes)) one.ends before.newline.0
+    before.newline.1.1 (All-head (λ u. LeavesFirstAtEnd before.newline.0 u.new) t ts before.newline.1.0.ends)) in
     let rest : IsMadeBefore profile limit x ts e c =
     end_comes_later profile limit x ts e c (end_editable profile limit s t fine h.0) h.1 one.makes
-    (before_rest profile limit s t ts e c fine h.0 makes before one.still) in
+    (before_rest profile limit s t ts e c fine h.0 makes before one.still still_first) in
     record {
       makes = rest.makes;
       still = seen_on s x (document_with x ts) e one.still rest.still;

@@ -3,19 +3,21 @@
 -- Such an edit takes nothing, so the text after it is the text with what it writes behind (`text_behind`).
 --
 -- Theorems: `document_joined`, `ends_split`, `ends_joined`: two lists; `all_first`, `all_last`: what holds of all;
--- `text_behind`, `length_behind`; `fine_after_one`, `fine_after`, `plain_after`: the document after one, or after all.
-use Rattle.std.proofs.Common.{◌≡◌, ◌≢◌, ℕ, ◌+◌, List, [], ◌∷◌, ◌++◌, length, refl, sym, ap, ap₂, subst, ◌∙◌}
-use Rattle.std.proofs.Common.{length-append, arith, All}
+-- `text_behind`, `length_behind`; `fine_after_one`, `fine_after`, `first_after`: the document after one, or after all.
+use Rattle.std.proofs.Common.{◌≡◌, ℕ, ◌+◌, List, [], ◌∷◌, ◌++◌, length, refl, ap, ap₂, ◌∙◌}
+use Rattle.std.proofs.Common.{length-append, arith, All, Option}
 use Rattle.std.proofs.lemmas.List.{append-nil, drop_all, take_all}
-use Rattle.std.proofs.lemmas.List.Elements.{All-append, All-cons, All-head, All-nil, All-tail}
+use Rattle.std.proofs.lemmas.List.Elements.{All-cons, All-head, All-nil, All-tail}
 use Rattle.keep_types.specs.declared.leaf.Profile.{Profile}
 use Rattle.keep_syntax.specs.Tree.{Document, text}
 use Rattle.keep_edit_spec.specs.Edits.{edited_document}
-use Rattle.keep_edit_spec.specs.EndEdits.{AreAtEnd, EndEdit, IsAtEnd, document_with, end_change}
+use Rattle.keep_edit_spec.specs.EndEdits.{AreAtEnd, EndEdit, EndsLeave, IsAtEnd, document_with}
+use Rattle.keep_edit_spec.specs.EndEdits.{end_change}
+use Rattle.keep_edit_spec.specs.FirstNewline.{HasFirst, LeavesFirstAtEnd}
 use Rattle.keep_edit_spec.specs.Laws.{IsEditable, IsLawfulEdit}
-use Rattle.keep_edit_spec.specs.Runs.{IsPlain}
 use Rattle.keep_edit_spec.proofs.EditLaws.{change_put}
 use Rattle.keep_edit_spec.proofs.Lists.MadeChanges.{change_lawful, change_puts}
+use Rattle.keep_edit_spec.proofs.Lists.NewlineStays.{first_behind}
 
 -- ---- two lists
 
@@ -77,12 +79,15 @@ fine_after profile limit s [] fine h = fine
 fine_after profile limit s (t ∷ ts) fine h =
     fine_after profile limit (edited_document s t.edit) ts (fine_after_one profile limit s t fine h.0) h.1
 
-pub plain_after : (profile : Profile) (limit : ℕ) (s : Document) (ts : List EndEdit) → IsEditable profile limit s
-    → AreAtEnd profile limit s ts → IsPlain (text s) → All (λ t. IsPlain t.new) ts
-    → IsPlain (text (document_with s ts))
-plain_after profile limit s [] fine h plain new = plain
-plain_after profile limit s (t ∷ ts) fine h plain new =
-    plain_after profile limit (edited_document s t.edit) ts (fine_after_one profile limit s t fine h.0) h.1
-    (subst IsPlain (sym (text_behind profile limit s t fine h.0))
-    (All-append (λ b. b ≢ 0x0D) (text s) t.new plain (All-head (λ (u : EndEdit). IsPlain u.new) t ts new)))
-    (All-tail (λ (u : EndEdit). IsPlain u.new) t ts new)
+-- The document has its first newline so after all of them.
+pub first_after : (profile : Profile) (limit : ℕ) (s : Document) (ts : List EndEdit) → IsEditable profile limit s
+    → AreAtEnd profile limit s ts → (line : Option (List ℕ)) → EndsLeave line s ts → HasFirst line (document_with s ts)
+first_after profile limit s [] fine h line leave = leave.has
+first_after profile limit s (t ∷ ts) fine h line leave =
+    let then = fine_after_one profile limit s t fine h.0 in
+    first_after profile limit (edited_document s t.edit) ts then h.1 line (record {
+      has = first_behind profile limit s (edited_document s t.edit) fine then line t.new
+          (text_behind profile limit s t fine h.0) leave.has
+          (All-head (λ (u : EndEdit). LeavesFirstAtEnd line u.new) t ts leave.ends);
+      ends = All-tail (λ (u : EndEdit). LeavesFirstAtEnd line u.new) t ts leave.ends;
+    })

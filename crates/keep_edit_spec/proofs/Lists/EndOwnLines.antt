@@ -6,9 +6,9 @@
 -- moves this one on (StillAdds, `over_next`). The keys and the newline of the line are those of the first document,
 -- since the insert writes the same in both (BroughtTexts).
 --
--- Theorems: `over_own`; `line_plain`: the line is a part of what is written with the header.
+-- Theorems: `over_own`; `line_leaves`: the line is a part of what is written with the header.
 use Rattle.std.proofs.Common.{◌≡◌, ◌≢◌, ℕ, ◌+◌, List, [], ◌∷◌, ◌++◌, length, map, All, refl, sym, ap, ap₂, subst, ◌∙◌}
-use Rattle.std.proofs.Common.{arith, Some, None}
+use Rattle.std.proofs.Common.{arith, Option, Some, None}
 use Rattle.std.proofs.lemmas.Bool.{le-ltb}
 use Rattle.std.proofs.lemmas.List.Elements.{All-head, All-tail}
 use Rattle.keep_types.specs.declared.leaf.Profile.{Profile}
@@ -21,12 +21,13 @@ use Rattle.keep_edit_spec.specs.BroughtHeaders.{BringsHeader}
 use Rattle.keep_edit_spec.specs.Edits.{Edit, append_element, append_table, edited_document, end_of, insert, name_with}
 use Rattle.keep_edit_spec.specs.Edits.{new_header, remove, rename, set}
 use Rattle.keep_edit_spec.specs.EndEdits.{AreAtEnd, EndEdit, IsAtEnd, IsInto, document_with, end_change}
+use Rattle.keep_edit_spec.specs.FirstNewline.{IsPlain, LeavesFirstAtEnd}
 use Rattle.keep_edit_spec.specs.InsertKinds.{AddsAs}
 use Rattle.keep_edit_spec.specs.Insertion.{keyed_text}
 use Rattle.keep_edit_spec.specs.Laws.{IsEditable}
 use Rattle.keep_edit_spec.specs.Lines.{ended_text, last_line, leads_dotted, new_line, newline_of}
 use Rattle.keep_edit_spec.specs.Look.{holder, keys_in}
-use Rattle.keep_edit_spec.specs.Runs.{IsPlain, LeavesAlone, MakesChange, seen}
+use Rattle.keep_edit_spec.specs.Runs.{LeavesAlone, MakesChange, seen}
 use Rattle.keep_edit_spec.specs.TextChanges.{TextChange, change_at, moved_by}
 use Rattle.keep_edit_spec.specs.declared.line_kind.LineKind.{LineKind}
 use Rattle.keep_edit_spec.specs.declared.line_kind.LineKind.TheVariants.{LastInBody, OfDotted, WithHeader}
@@ -83,7 +84,7 @@ module _ (profile : Profile) (limit : ℕ) (s : Document) (path : List Part) (va
   line = keyed_text (h.text ∷ h.more) value ++ (newline_of s).text
 
   -- it is the last of the lines that come with the header
-  pub line_plain : IsPlain c.new → IsPlain line
+  line_plain : IsPlain c.new → IsPlain line
   line_plain plain =
       let newline = newline_of s in
       let two : List Content = blank ∷ new_header (keys_in (holder path (mentions_in s))) ∷ [] in
@@ -93,6 +94,11 @@ module _ (profile : Profile) (limit : ℕ) (s : Document) (path : List Part) (va
       (subst IsPlain
       (new_is profile limit s path value c h ∙ ended_append (map (new_line newline) two) (new_line newline own ∷ [])
       ∙ ap (λ (bytes : List ℕ). first ++ bytes) (new_line_text newline h.text h.more value)) plain)
+
+  -- so it leaves the first newline where that does
+  pub line_leaves : (first : Option (List ℕ)) → LeavesFirstAtEnd first c.new → LeavesFirstAtEnd first line
+  line_leaves None plain = line_plain plain
+  line_leaves (Some first) h = tt
 
   module _ (kind : LineKind) (new : List ℕ) (x : Document) (b : AddsAtEnd kind profile limit s x path value new)
       (t : EndEdit) (end : IsAtEnd profile limit x t) where

@@ -1,33 +1,36 @@
 -- The text after edits at its end: what they write stands behind it, and the document is editable still.
 --
 -- Such an edit takes nothing and writes behind the last byte (`put_last`), so all bytes of the text before it stay
--- where they are (`bytes_stay`), and no byte of a carriage return comes if it writes none.
+-- where they are (`bytes_stay`), the document's first newline too (NewlineStays).
 --
 -- Another edit puts its change into the text, so the end of the text is where the change moves it (`then_end`), and the
 -- one at the end is there again (`end_again`). What it changes is the same, whatever comes behind the text
 -- (`put_before`). So in either order the two make one text, and a text is that of one document (`same_made`).
 --
 -- Theorems: `same_newline`: after any edit that puts a change into the text; `end_puts`, `end_editable`, `end_text`,
--- `end_length`, `end_later`, `end_plain`, `plain_rest`: after one at the end; `header_or_line`: what that is;
+-- `end_length`, `end_later`, `leave_rest`: after one at the end; `header_or_line`: what that is;
 -- `end_again`, `same_made`: that one and another; `with_ends`: after all of a list; `bytes_stay`.
 use Rattle.std.proofs.Common.{◌≡◌, ℕ, ◌+◌, ◌<◌, ◌≤◌, false, true, List, [], ◌∷◌, ◌++◌, length, take, drop, sym, ap}
 use Rattle.std.proofs.Common.{ap₂, subst, ◌∙◌, arith, inl, inr, append_assoc, append-nil, length-append, length-drop}
+use Rattle.std.proofs.Common.{Option}
 use Rattle.std.proofs.lemmas.Bool.{le-ltb}
 use Rattle.std.proofs.lemmas.List.{drop_all, drop-append-le, length-take-le, take_all, take-append-le}
-use Rattle.std.proofs.lemmas.List.Elements.{All-cons, All-head, All-nil, All-tail}
+use Rattle.std.proofs.lemmas.List.Elements.{All-head, All-tail}
 use Rattle.keep_types.specs.declared.leaf.Profile.{Profile}
 use Rattle.keep_syntax.specs.Tree.{Document, text}
 use Rattle.keep_syntax.proofs.Shared.{one_document}
 use Rattle.keep_edit_spec.specs.Changed.{put}
 use Rattle.keep_edit_spec.specs.Edits.{Edit, edited_document}
-use Rattle.keep_edit_spec.specs.EndEdits.{AreAllPlain, AreAtEnd, EndEdit, IsAtEnd, document_with, end_change}
+use Rattle.keep_edit_spec.specs.EndEdits.{AreAtEnd, EndEdit, EndsLeave, IsAtEnd, document_with}
+use Rattle.keep_edit_spec.specs.EndEdits.{end_change}
+use Rattle.keep_edit_spec.specs.FirstNewline.{HasFirst, LeavesFirstAtEnd}
 use Rattle.keep_edit_spec.specs.Laws.{IsEditable}
 use Rattle.keep_edit_spec.specs.Lines.{newline_of}
-use Rattle.keep_edit_spec.specs.Runs.{IsPlain, IsSeenStill, MakesChange, is_header, is_insert}
+use Rattle.keep_edit_spec.specs.Runs.{IsSeenStill, MakesChange, is_header, is_insert}
 use Rattle.keep_edit_spec.specs.TextChanges.{TextChange, change_at, moved, moved_by, place_of_change}
 use Rattle.keep_edit_spec.proofs.EditLaws.{change_put}
 use Rattle.keep_edit_spec.proofs.Lists.PlacesKept.{change_placed}
-use Rattle.keep_edit_spec.proofs.Lists.PlainTexts.{plain_newline, plain_with}
+use Rattle.keep_edit_spec.proofs.Lists.NewlineStays.{first_behind, newline_by}
 use Rattle.keep_edit_spec.proofs.Lists.RunLaws.{same_seen}
 use Rattle.keep_edit_spec.proofs.Lists.TextsAfter.{PutsChange, made_puts}
 
@@ -63,17 +66,11 @@ put_long bytes c within =
       length-drop (c.at + c.size) bytes,
     )
 
-put_plain : (bytes : List ℕ) (c : TextChange) → IsPlain bytes → IsPlain c.new
-    → IsPlain (put bytes (place_of_change c))
-put_plain bytes c plain new =
-    plain_with bytes (c ∷ []) plain
-    (All-cons (λ (d : TextChange). IsPlain d.new) c [] new (All-nil (λ (d : TextChange). IsPlain d.new)))
-
 -- ---- after an edit that puts a change into the text
 
 module _ (profile : Profile) (limit : ℕ) (s : Document) (e : Edit) (c : TextChange)
     (h : PutsChange profile limit s e c) where
-  then_editable : IsEditable profile limit (edited_document s e)
+  pub then_editable : IsEditable profile limit (edited_document s e)
   then_editable =
       record { valid = h.lawful.reads.valid; shallow = h.lawful.reads.shallow; obeys = h.lawful.obeys }
 
@@ -90,15 +87,10 @@ module _ (profile : Profile) (limit : ℕ) (s : Document) (e : Edit) (c : TextCh
         ap (λ (b : List ℕ). length b) then_text,
       ))
 
-  then_plain : IsPlain (text s) → IsPlain c.new → IsPlain (text (edited_document s e))
-  then_plain plain new = subst IsPlain (sym then_text) (put_plain (text s) c plain new)
-
-  -- without a carriage return the first newline is a line feed, before and after
-  pub same_newline : IsEditable profile limit s → IsPlain (text s) → IsPlain c.new
-      → newline_of (edited_document s e) ≡ newline_of s
-  same_newline fine plain new =
-      plain_newline profile limit (edited_document s e) then_editable (then_plain plain new)
-      ∙ sym (plain_newline profile limit s fine plain)
+  -- the first newline is the same if it is known so
+  pub same_newline : IsEditable profile limit s → (line : Option (List ℕ)) → HasFirst line s
+      → HasFirst line (edited_document s e) → newline_of (edited_document s e) ≡ newline_of s
+  same_newline fine = newline_by profile limit s (edited_document s e) fine then_editable
 
 -- ---- after one at the end
 
@@ -126,15 +118,16 @@ module _ (profile : Profile) (limit : ℕ) (s : Document) (t : EndEdit) (fine : 
   pub end_later : (n : ℕ) → n ≤ length (text s) → n < length (text now)
   end_later n within = omega (arith, within, h.some, end_length)
 
-  pub end_plain : IsPlain (text s) → IsPlain t.new → IsPlain (text now)
-  end_plain = then_plain profile limit s t.edit d end_puts
+  -- where it leaves the first newline, that is known as before
+  pub end_first : (line : Option (List ℕ)) → HasFirst line s → LeavesFirstAtEnd line t.new → HasFirst line now
+  end_first line has = first_behind profile limit s now fine end_editable line t.new end_text has
 
-  -- for those that come after it
-  pub plain_rest : (ts : List EndEdit) (new : List ℕ) → AreAllPlain s (t ∷ ts) new → AreAllPlain now ts new
-  plain_rest ts new plain = record {
-    text_is = end_plain plain.text_is (All-head (λ (u : EndEdit). IsPlain u.new) t ts plain.ends_are);
-    new_is = plain.new_is;
-    ends_are = All-tail (λ (u : EndEdit). IsPlain u.new) t ts plain.ends_are;
+  -- the others leave it after it, too
+  pub leave_rest : (line : Option (List ℕ)) (ts : List EndEdit) → EndsLeave line s (t ∷ ts) → EndsLeave line now ts
+  leave_rest line ts h = record {
+    has = end_first line h.has
+        (All-head (λ (u : EndEdit). LeavesFirstAtEnd line u.new) t ts h.ends);
+    ends = All-tail (λ (u : EndEdit). LeavesFirstAtEnd line u.new) t ts h.ends;
   }
 
   -- it takes nothing, so it adds a line or appends a header

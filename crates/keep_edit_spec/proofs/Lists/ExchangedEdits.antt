@@ -18,12 +18,13 @@ use Rattle.keep_types.specs.declared.leaf.Profile.{Profile}
 use Rattle.keep_syntax.specs.Tree.{Document, Value, text}
 use Rattle.keep_path.specs.Path.{Part, beside, key, strip}
 use Rattle.keep_edit_spec.specs.AddedLines.{first_new}
+use Rattle.keep_edit_spec.specs.FirstNewline.{LeavesNewline}
 use Rattle.keep_edit_spec.specs.InsertKinds.{Added, IsAfterLine, added_as, kind_of}
 use Rattle.keep_edit_spec.specs.Edits.{Edit, append_element, append_table, edited_document, insert, remove, rename, set}
 use Rattle.keep_edit_spec.specs.Laws.{IsEditable}
 use Rattle.keep_edit_spec.specs.Look.{key_text, keys_in}
 use Rattle.keep_edit_spec.specs.RunLists.{MadeEdit, lines_of, made, seen_of}
-use Rattle.keep_edit_spec.specs.Runs.{AreApart, ArePlain, IsBeforeHeaders, IsInOrder, IsPlain, IsPlainBefore}
+use Rattle.keep_edit_spec.specs.Runs.{AreApart, LeaveNewline, IsBeforeHeaders, IsInOrder, LeaveNewlineBefore}
 use Rattle.keep_edit_spec.specs.Runs.{IsSeenStill, KeepsPlace, LeavesAlone, LetsCome, LetsTable, MakesChange}
 use Rattle.keep_edit_spec.specs.Runs.{IsNoSecond}
 use Rattle.keep_edit_spec.specs.Runs.{PassesBy, is_header, is_insert, is_new_after, seen, takes_up_to, with_line}
@@ -209,8 +210,8 @@ module _ (c d : TextChange) (at : c.at ≡ d.at) (none : c.size ≡ 0) (no_size 
         changes_more (LetsCome bytes ys to) c d xs ys k (λ one. inl (takes_none to d no_size))
         (All-weaker (LetsCome bytes xs to) (LetsCome bytes ys to) (lets_alike to) xs h)
 
-    plain_more : IsPlain d.new → ArePlain bytes xs → ArePlain bytes ys
-    plain_more new (plain, all) = (plain, changes_more (λ x. IsPlain x.new) c d xs ys k (λ one. new) all)
+    leave_more : LeavesNewline s d → LeaveNewline s xs → LeaveNewline s ys
+    leave_more new = changes_more (LeavesNewline s) c d xs ys k (λ one. new)
 
     module _ (path : List Part) (value more : Value) (later earlier : List MadeEdit) where
       abbrev ms : List MadeEdit
@@ -229,9 +230,9 @@ module _ (c d : TextChange) (at : c.at ≡ d.at) (none : c.size ≡ 0) (no_size 
       headers_more to (inl clear) = inl (sym (header_none s path value more c d later earlier) ∙ clear)
       headers_more to (inr before) = inr before
 
-      -- each newline that comes is alike, or all edits add lines, and this one too
+      -- it leaves the first newline, or all edits add lines, and this one too
       abbrev pub AreAlike : Edit → Type 0
-      AreAlike f = IsPlain d.new ⊎ (IsTrue (is_insert (seen s f)) × All (λ e. IsTrue (is_insert e)) was)
+      AreAlike f = LeavesNewline s d ⊎ (IsTrue (is_insert (seen s f)) × All (λ e. IsTrue (is_insert e)) was)
 
       all_more : (P : Edit → Type 0) → (P (seen s (insert path value)) → P (seen s (insert path more))) → All P was
           → All P edits
@@ -247,23 +248,23 @@ module _ (c d : TextChange) (at : c.at ≡ d.at) (none : c.size ≡ 0) (no_size 
         passed = all_more (LetsTable line) (λ one. one) order.passed;
       }
 
-      placed_header : (x : TextChange) → IsPlain d.new
-          → All (λ e. IsTrue (is_header e)) was ⊎ IsPlainBefore bytes xs x.at
-          → All (λ e. IsTrue (is_header e)) edits ⊎ IsPlainBefore bytes ys x.at
+      placed_header : (x : TextChange) → LeavesNewline s d
+          → All (λ e. IsTrue (is_header e)) was ⊎ LeaveNewlineBefore s xs x.at
+          → All (λ e. IsTrue (is_header e)) edits ⊎ LeaveNewlineBefore s ys x.at
       placed_header x new (inl all) = inl (all_more (λ e. IsTrue (is_header e)) (λ one. one) all)
-      placed_header x new (inr (plain, clear)) = inr (plain_more new plain, sym (takes_alike x.at) ∙ clear)
+      placed_header x new (inr (plain, clear)) = inr (leave_more new plain, sym (takes_alike x.at) ∙ clear)
 
       no_insert : {A : Type 0} → IsTrue false → A
       no_insert it = absurd (let e : false ≡ true = it in cc)
 
-      placed_line : (x : TextChange) → IsPlain d.new ⊎ All (λ e. IsTrue (is_insert e)) was
+      placed_line : (x : TextChange) → LeavesNewline s d ⊎ All (λ e. IsTrue (is_insert e)) was
           → All (λ e. IsTrue (is_insert e)) was
-          ⊎ (ArePlain bytes xs × (All (LetsCome bytes xs x.at) xs × IsBeforeHeaders bytes was x.at))
+          ⊎ (LeaveNewline s xs × (All (LetsCome bytes xs x.at) xs × IsBeforeHeaders bytes was x.at))
           → All (λ e. IsTrue (is_insert e)) edits
-          ⊎ (ArePlain bytes ys × (All (LetsCome bytes ys x.at) ys × IsBeforeHeaders bytes edits x.at))
+          ⊎ (LeaveNewline s ys × (All (LetsCome bytes ys x.at) ys × IsBeforeHeaders bytes edits x.at))
       placed_line x alike (inl all) = inl (all_more (λ e. IsTrue (is_insert e)) (λ one. one) all)
       placed_line x (inl plain) (inr (all, (lets, before))) =
-          inr (plain_more plain all, (lets_more x.at lets, headers_more x.at before))
+          inr (leave_more plain all, (lets_more x.at lets, headers_more x.at before))
       placed_line x (inr all) (inr h) = inl (all_more (λ e. IsTrue (is_insert e)) (λ one. one) all)
 
       pub placed_more : (f : Edit) (x : TextChange) → AreAlike f → KeepsPlace s was xs (lines_of s ms) f x

@@ -23,7 +23,7 @@ use Rattle.keep_edit_spec.specs.LinesAhead.{ComesAhead, before, behind, comes_be
 use Rattle.keep_edit_spec.specs.Look.{holder, keys_in}
 use Rattle.keep_edit_spec.specs.RunLists.{AreAtOnce, FollowsHeader, MadeEdit, MakesInPlace, changes_of, lines_of, made}
 use Rattle.keep_edit_spec.specs.RunLists.{seen_of}
-use Rattle.keep_edit_spec.specs.Runs.{IsNoSecond, IsPlain, KeepsPlace, LeavesAlone, LetsTable, MakesChange, PassesBy}
+use Rattle.keep_edit_spec.specs.Runs.{IsNoSecond, KeepsPlace, LeavesAlone, LetsTable, MakesChange, PassesBy}
 use Rattle.keep_edit_spec.specs.Runs.{is_header, is_insert, seen, takes_up_to, with_line}
 use Rattle.keep_edit_spec.specs.TextChanges.{IsBeside, TextChange, with_change}
 use Rattle.keep_edit_spec.specs.declared.line_kind.LineKind.{LineKind}
@@ -41,6 +41,7 @@ use Rattle.keep_edit_spec.proofs.Lists.PlacesBefore.{behind_before, each_none, p
 use Rattle.keep_edit_spec.proofs.Lists.RunLaws.{lines_before}
 use Rattle.keep_edit_spec.proofs.Lists.RunLists.{follows_other}
 use Rattle.keep_edit_spec.proofs.Lists.TextChanges.{rest_of_all}
+use Rattle.keep_edit_spec.specs.FirstNewline.{LeavesNewline}
 
 -- A line comes after one at another byte, unless both would bring the header of one table.
 after_apart : (l m : Added) → l.at ≢ m.at → (m.kind ≡ WithHeader → l.kind ≡ WithHeader → table_of l ≢ table_of m)
@@ -380,7 +381,7 @@ module _ (profile : Profile) (limit : ℕ) (s : Document) (ms : List MadeEdit) (
         (each_none (takes_up_to c.at) (changes_of ms) ahead.clear);
     alike = elim ahead.alike [
       | inl inserts ↦ inl (of_seen s (λ e. IsTrue (is_insert e)) ms inserts)
-      | inr ((plain, new), own) ↦ inr (plain, of_changes s (λ d. IsPlain d.new) ms new)
+      | inr (leave, own) ↦ inr (of_changes s (LeavesNewline s) ms leave)
     ];
   }
 

@@ -26,7 +26,7 @@ use Rattle.keep_edit_spec.specs.Laws.{IsEditable}
 use Rattle.keep_edit_spec.specs.Lines.{newline_of}
 use Rattle.keep_edit_spec.specs.Refusals.{refusal}
 use Rattle.keep_edit_spec.specs.RunLists.{AreAtOnce, MadeEdit, changes_of, document_after, lines_of, made, seen_of}
-use Rattle.keep_edit_spec.specs.Runs.{ArePlain, IsBeforeHeaders, IsInOrder, IsPlain, IsRun, KeepsPlace, LeavesAlone}
+use Rattle.keep_edit_spec.specs.Runs.{LeaveNewline, IsBeforeHeaders, IsInOrder, IsRun, KeepsPlace, LeavesAlone}
 use Rattle.keep_edit_spec.specs.Runs.{LetsCome, MakesChange, is_insert, seen}
 use Rattle.keep_edit_spec.specs.SetValues.{SetsValue}
 use Rattle.keep_edit_spec.specs.TextChanges.{Follow, IsBeside, TextChange, change_at, moved_by_all, moved_past}
@@ -46,6 +46,7 @@ use Rattle.keep_edit_spec.proofs.Lists.MadeChanges.{added, within_text}
 use Rattle.keep_edit_spec.proofs.Lists.OneInsert.{only_insert}
 use Rattle.keep_edit_spec.proofs.Lists.RunLists.{run_is_known}
 use Rattle.keep_edit_spec.proofs.Lists.TextChanges.{all_with}
+use Rattle.keep_edit_spec.specs.FirstNewline.{LeavesNewline}
 
 -- ---- edits that follow no header
 
@@ -162,7 +163,7 @@ module _ (profile : Profile) (limit : ℕ) (s : Document) (path : List Part) (va
       subst (λ (n : ℕ). IsInOrder (seen_of s earlier) (changes_of earlier) (lines_of s earlier)
       (record { first = first_new s path; at = n; kind = kind_of s path })
       × (All (λ e. IsTrue (is_insert e)) (seen_of s earlier)
-      ⊎ (ArePlain (text s) (changes_of earlier) × (All (LetsCome (text s) (changes_of earlier) n) (changes_of earlier)
+      ⊎ (LeaveNewline s (changes_of earlier) × (All (LetsCome (text s) (changes_of earlier) n) (changes_of earlier)
       × IsBeforeHeaders (text s) (seen_of s earlier) n)))) at
 
   -- ---- the set after the edits
@@ -241,7 +242,7 @@ module _ (profile : Profile) (limit : ℕ) (s : Document) (path : List Part) (va
   -- ---- the other edits
 
   at_once : (later earlier : List MadeEdit)
-      → IsPlain d.new ⊎ All (λ e. IsTrue (is_insert e)) (seen_of s (later ++ m ∷ earlier))
+      → LeavesNewline s d ⊎ All (λ e. IsTrue (is_insert e)) (seen_of s (later ++ m ∷ earlier))
       → AreMade profile limit s (later ++ m ∷ earlier) → AreMade profile limit s (later ++ by ∷ earlier)
   at_once [] earlier plain (makes, (alone, (beside, (placed, others)))) = (
     (kind, k),
@@ -267,14 +268,14 @@ module _ (profile : Profile) (limit : ℕ) (s : Document) (path : List Part) (va
         ),
       )
     where
-      fewer : IsPlain d.new ⊎ All (λ e. IsTrue (is_insert e)) (seen_of s (x ∷ later ++ m ∷ earlier))
-          → IsPlain d.new ⊎ All (λ e. IsTrue (is_insert e)) (seen_of s (later ++ m ∷ earlier))
+      fewer : LeavesNewline s d ⊎ All (λ e. IsTrue (is_insert e)) (seen_of s (x ∷ later ++ m ∷ earlier))
+          → LeavesNewline s d ⊎ All (λ e. IsTrue (is_insert e)) (seen_of s (later ++ m ∷ earlier))
       fewer (inl new) = inl new
       fewer (inr all) =
           inr (All-tail (λ e. IsTrue (is_insert e)) (seen s x.edit) (seen_of s (later ++ m ∷ earlier)) all)
 
-      alike : IsPlain d.new ⊎ All (λ e. IsTrue (is_insert e)) (seen_of s (x ∷ later ++ m ∷ earlier))
-          → IsPlain d.new
+      alike : LeavesNewline s d ⊎ All (λ e. IsTrue (is_insert e)) (seen_of s (x ∷ later ++ m ∷ earlier))
+          → LeavesNewline s d
           ⊎ (IsTrue (is_insert (seen s x.edit)) × All (λ e. IsTrue (is_insert e)) (seen_of s (later ++ m ∷ earlier)))
       alike (inl new) = inl new
       alike (inr all) = inr (
@@ -425,7 +426,7 @@ run_goes_on_inserted profile limit s ms path value more kind before c d after fi
     of_kind own (its_own found.later found.earlier own ours) in
     let still : AreMade profile limit s others =
     at_once profile limit s path own c more d kind fine its makes found.later found.earlier
-    (subst (λ (l : List MadeEdit). IsPlain d.new ⊎ All (λ e. IsTrue (is_insert e)) (seen_of s l)) found.all plain)
+    (subst (λ (l : List MadeEdit). LeavesNewline s d ⊎ All (λ e. IsTrue (is_insert e)) (seen_of s l)) found.all plain)
     ours in
     let there_set = set_there profile limit s path own c more d kind fine its makes found.later found.earlier ours in
     let put_there : TextChange =

@@ -26,7 +26,8 @@ use Rattle.keep_edit_spec.specs.Look.{holder}
 use Rattle.keep_edit_spec.specs.RenamedKeys.{RenamesKey}
 use Rattle.keep_edit_spec.specs.RunLists.{AreAtOnce, Follows, IsOneOf, MadeEdit, changes_of}
 use Rattle.keep_edit_spec.specs.RunLists.{document_after, lines_of, made, seen_of}
-use Rattle.keep_edit_spec.specs.Runs.{AreApart, ArePlain, IsBeforeHeaders, IsRun, IsSeenStill, KeepsPlace, LeavesAlone}
+use Rattle.keep_edit_spec.specs.Runs.{AreApart, LeaveNewline, IsBeforeHeaders, IsRun, IsSeenStill, KeepsPlace}
+use Rattle.keep_edit_spec.specs.Runs.{LeavesAlone}
 use Rattle.keep_edit_spec.specs.Runs.{LetsCome, MakesChange, is_header, is_insert, seen, with_line}
 use Rattle.keep_edit_spec.specs.TextChanges.{Follow, IsBeside, TextChange, moved, moved_by_all, moved_past}
 use Rattle.keep_edit_spec.specs.TextChanges.{place_of_change, with_change}
@@ -234,14 +235,14 @@ module _ (profile : Profile) (limit : ℕ) (s : Document) (ms rest : List MadeEd
       placed_before s (seen_of s ms) (seen_of s rest) each_seen (lines_of s ms) (lines_of s rest) each_line changes c f
       d (subst (λ (l : List TextChange). KeepsPlace s (seen_of s ms) l (lines_of s ms) f d) k.changes placed)
 
-  plain : ArePlain (text s) (with_change changes c)
-  plain = subst (ArePlain (text s)) k.changes (by placed.1)
+  leave : LeaveNewline s (with_change changes c)
+  leave = subst (LeaveNewline s) k.changes (by placed.1)
     where
       by : All (λ g. IsTrue (is_insert g)) (seen_of s ms)
-          ⊎ (ArePlain (text s) (changes_of ms)
+          ⊎ (LeaveNewline s (changes_of ms)
           × (All (LetsCome (text s) (changes_of ms) d.at) (changes_of ms)
           × IsBeforeHeaders (text s) (seen_of s ms) d.at))
-          → ArePlain (text s) (changes_of ms)
+          → LeaveNewline s (changes_of ms)
       by (inl every) =
           let its : is_insert (seen s e) ≡ true =
           (each_of_others s (λ g. IsTrue (is_insert g)) (made e c) ms rest one every).0 in
@@ -275,7 +276,7 @@ module _ (profile : Profile) (limit : ℕ) (s : Document) (ms rest : List MadeEd
       (as_of_kind OfDotted profile limit now path value (moved_past changes d) (there.1.1 ∙ kind) there.0)
       (subst₂ LeavesAlone (old_seen s e old ∙ sym (old_seen now e old)) (sym (same_seen s now f there.1)) left_alone.0)
       same_place
-      (same_newline profile limit s (seen_of s rest) changes (lines_of s rest) now r e c next plain)
+      (same_newline profile limit s (seen_of s rest) changes (lines_of s rest) now r e c next leave)
 
   now_is : document_after s ms ≡ edited_document now e
   now_is = same_document profile limit s e c ms rest fine k h

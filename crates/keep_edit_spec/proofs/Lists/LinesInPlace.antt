@@ -22,7 +22,7 @@ use Rattle.keep_edit_spec.specs.Laws.{IsEditable}
 use Rattle.keep_edit_spec.specs.LinesInPlace.{CanComeInPlace, FreesPlace, IsRunBefore, RunGoesOnInPlace}
 use Rattle.keep_edit_spec.specs.RunLists.{AreAtOnce, Follows, IsOneOf, MadeEdit, MakesInPlace, changes_of}
 use Rattle.keep_edit_spec.specs.RunLists.{document_after, lines_of, made, seen_of}
-use Rattle.keep_edit_spec.specs.Runs.{ArePlain, ComesInPlace, IsPlain, IsRun, IsSeenStill, KeepsPlace, LeavesAlone}
+use Rattle.keep_edit_spec.specs.Runs.{LeaveNewline, ComesInPlace, IsRun, IsSeenStill, KeepsPlace, LeavesAlone}
 use Rattle.keep_edit_spec.specs.Runs.{LetsCome, LetsTable, MakesChange, StaysPlaced, seen, takes_up_to}
 use Rattle.keep_edit_spec.specs.SaidLines.{SaysBefore}
 use Rattle.keep_edit_spec.specs.TextChanges.{Follow, IsBeside, TextChange, moved_past, text_with, with_change}
@@ -39,6 +39,7 @@ use Rattle.keep_edit_spec.proofs.Lists.RunLists.{ComesLast, each_of_others, last
 use Rattle.keep_edit_spec.proofs.Lists.RunLists.{all_hold, other_lines, run_is_known, same_document}
 use Rattle.keep_edit_spec.proofs.Lists.TextChanges.{all_with, rest_of_all}
 use Rattle.keep_edit_spec.proofs.Lists.TextsAfter.{IsTextAfter, of_run}
+use Rattle.keep_edit_spec.specs.FirstNewline.{LeavesNewline}
 
 -- ---- the remove
 
@@ -205,8 +206,8 @@ module _ (profile : Profile) (limit : ℕ) (s : Document) (ms rest : List MadeEd
   each_change : (P : TextChange → Type 0) → All P (changes_of ms) → All P changes
   each_change P every = rest_of_all P changes c (subst (All P) k.changes every)
 
-  plain_others : ArePlain (text s) changes
-  plain_others = (can.plain.0, each_change (λ x. IsPlain x.new) can.plain.1)
+  leave_others : LeaveNewline s changes
+  leave_others = each_change (LeavesNewline s) can.newline
 
   left_alone : LeavesAlone e (seen s f) × All (λ g. LeavesAlone g (seen s f)) (seen_of s rest)
   left_alone = each_of_others s (λ g. LeavesAlone g (seen s f)) (made e c) ms rest one alone
@@ -231,7 +232,7 @@ module _ (profile : Profile) (limit : ℕ) (s : Document) (ms rest : List MadeEd
       passed = each_seen (LetsTable (added_as s path d)) can.passed;
     },
     inr (
-      plain_others,
+      leave_others,
       (
         All-weaker (λ x. IsBeside x c) (LetsCome (text s) changes d.at)
             (λ x its. inl (takes_none d.at c x frees.some frees.next its)) changes left,
@@ -259,11 +260,8 @@ module _ (profile : Profile) (limit : ℕ) (s : Document) (ms rest : List MadeEd
   -- the insert comes elsewhere than what is taken ends, or in its place
   in_place : StaysPlaced now e (moved_past changes c) f (moved_past changes d)
   in_place = (
-    same_newline profile limit s (seen_of s rest) changes (lines_of s rest) now r e c next (
-      plain_others.0,
-      all_with (λ x. IsPlain x.new) changes c plain_others.1
-          (subst IsPlain (sym frees.takes) (All-nil (λ (b : ℕ). b ≢ 0x0D))),
-    ),
+    same_newline profile limit s (seen_of s rest) changes (lines_of s rest) now r e c next
+        (subst (LeaveNewline s) k.changes can.newline),
     λ other. by ((moved_past changes c).at + c.size == (moved_past changes d).at) refl,
   )
     where

@@ -23,7 +23,8 @@ use Rattle.keep_edit_spec.specs.Look.{holder}
 use Rattle.keep_edit_spec.specs.MoreKeys.{GoOnApart, IsOpen, RunGoesOnInside, RunIsOpen, inner_line, key_below}
 use Rattle.keep_edit_spec.specs.Refusals.{refusal}
 use Rattle.keep_edit_spec.specs.RemovedHeaders.{RemovesHeader, first_path}
-use Rattle.keep_edit_spec.specs.Runs.{ArePlain, ComesInOrder, IsBeforeHeaders, IsInOrder, IsSeenStill, IsStillPlaced}
+use Rattle.keep_edit_spec.specs.Runs.{LeaveNewline, ComesInOrder, IsBeforeHeaders, IsInOrder, IsSeenStill}
+use Rattle.keep_edit_spec.specs.Runs.{IsStillPlaced}
 use Rattle.keep_edit_spec.specs.Runs.{LeavesAlone, LetsCome, MakesChange, seen}
 use Rattle.keep_edit_spec.specs.TextChanges.{IsBeside, TextChange, moved_past, with_change}
 use Rattle.keep_edit_spec.specs.declared.line_kind.LineKind.{LineKind}
@@ -85,7 +86,7 @@ module _ (profile : Profile) (limit : ℕ) (s : Document) (es : List Edit) (chan
       where
         Lets : ℕ → Type 0
         Lets at =
-            ArePlain (text s) changes × (All (LetsCome (text s) changes at) changes × IsBeforeHeaders (text s) es at)
+            LeaveNewline s changes × (All (LetsCome (text s) changes at) changes × IsBeforeHeaders (text s) es at)
 
         placed_too : KeepsPlaceAmong s es changes lines (insert other more) d
         placed_too =

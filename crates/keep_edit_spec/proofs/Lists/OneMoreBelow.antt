@@ -19,7 +19,7 @@ use Rattle.keep_edit_spec.specs.InsertKinds.{Added, IsAfterLine, IsHeaderAt, add
 use Rattle.keep_edit_spec.specs.Laws.{IsEditable}
 use Rattle.keep_edit_spec.specs.Look.{holder}
 use Rattle.keep_edit_spec.specs.RunLists.{MadeEdit, MakesInPlace, changes_of, lines_of, seen_of}
-use Rattle.keep_edit_spec.specs.Runs.{ArePlain, IsBeforeHeaders, IsNoSecond, IsPlain, IsPlainBefore, LeavesAlone}
+use Rattle.keep_edit_spec.specs.Runs.{LeaveNewline, IsBeforeHeaders, IsNoSecond, LeaveNewlineBefore, LeavesAlone}
 use Rattle.keep_edit_spec.specs.Runs.{LetsCome, LetsTable, MakesChange, is_header, is_insert, seen, takes_up_to}
 use Rattle.keep_edit_spec.specs.Runs.{with_line}
 use Rattle.keep_edit_spec.specs.TextChanges.{IsBeside, TextChange}
@@ -29,6 +29,7 @@ use Rattle.keep_edit_spec.proofs.Lists.OtherOrder.{IsOver, by_changes, by_seen, 
 use Rattle.keep_edit_spec.proofs.Lists.PlacesBefore.{each_none}
 use Rattle.keep_edit_spec.proofs.Lists.RunLists.{any_later, line_more}
 use Rattle.keep_edit_spec.proofs.Lists.TextChanges.{all_with}
+use Rattle.keep_edit_spec.specs.FirstNewline.{LeavesNewline}
 
 -- a line is among more
 any_with : (P : Added → Type 0) (s : Document) (e : Edit) (c : TextChange) (lines : List Added) → Any P lines
@@ -40,21 +41,21 @@ any_with P s (remove path) c lines h = h
 any_with P s (append_table keys) c lines h = h
 any_with P s (append_element keys) c lines h = h
 
--- Each of them adds a line, or each newline is alike, and no header is appended there.
-abbrev pub AreAlike : List ℕ → List Edit → List TextChange → ℕ → Type 0
-AreAlike bytes edits changes at =
-    All (λ e. IsTrue (is_insert e)) edits ⊎ (ArePlain bytes changes × IsBeforeHeaders bytes edits at)
+-- Each of them adds a line; or they leave the first newline, and no header is appended there.
+abbrev pub AreAlike : Document → List Edit → List TextChange → ℕ → Type 0
+AreAlike s edits changes at =
+    All (λ e. IsTrue (is_insert e)) edits ⊎ (LeaveNewline s changes × IsBeforeHeaders (text s) edits at)
 
 -- so a line can come among them, if none takes the byte before it
-pub let_come : (bytes : List ℕ) (edits : List Edit) (changes : List TextChange) (at : ℕ)
-    → list_any (takes_up_to at) changes ≡ false → AreAlike bytes edits changes at
+pub let_come : (s : Document) (edits : List Edit) (changes : List TextChange) (at : ℕ)
+    → list_any (takes_up_to at) changes ≡ false → AreAlike s edits changes at
     → All (λ e. IsTrue (is_insert e)) edits
-    ⊎ (ArePlain bytes changes × (All (LetsCome bytes changes at) changes × IsBeforeHeaders bytes edits at))
-let_come bytes edits changes at clear (inl all) = inl all
-let_come bytes edits changes at clear (inr (plain, before)) = inr (
-  plain,
+    ⊎ (LeaveNewline s changes × (All (LetsCome (text s) changes at) changes × IsBeforeHeaders (text s) edits at))
+let_come s edits changes at clear (inl all) = inl all
+let_come s edits changes at clear (inr (leave, before)) = inr (
+  leave,
   (
-    All-weaker (λ x. takes_up_to at x ≡ false) (LetsCome bytes changes at) (λ x none. inl none) changes
+    All-weaker (λ x. takes_up_to at x ≡ false) (LetsCome (text s) changes at) (λ x none. inl none) changes
         (each_none (takes_up_to at) changes clear),
     before,
   ),
@@ -89,12 +90,12 @@ before_more bytes e edits at ends before = by (is_header e) refl before
     by false is (inr (inr elsewhere)) = inr elsewhere
 
 -- These edits are beside a change, which takes nothing, and none takes the byte before it. Either all of them add
--- lines, or each newline is alike.
+-- lines, or they leave the first newline.
 pub record IsFree (s : Document) (c : TextChange) (ms : List MadeEdit) : Type 0 where
   pub beside : All (λ m. IsBeside m.change c) ms
   pub clear : All (λ m. takes_up_to c.at m.change ≡ false) ms
   pub alike : All (λ m. IsTrue (is_insert (seen s m.edit))) ms
-      ⊎ (IsPlain (text s) × All (λ m. IsPlain m.change.new) ms)
+      ⊎ All (λ m. LeavesNewline s m.change) ms
 
 -- so are edits that are among them
 pub free_moved : (s : Document) (c : TextChange) (ms others : List MadeEdit)
@@ -104,7 +105,7 @@ free_moved s c ms others move h = record {
   clear = move (λ m. takes_up_to c.at m.change ≡ false) h.clear;
   alike = elim h.alike [
     | inl inserts ↦ inl (move (λ m. IsTrue (is_insert (seen s m.edit))) inserts)
-    | inr (plain, new) ↦ inr (plain, move (λ m. IsPlain m.change.new) new)
+    | inr leave ↦ inr (move (λ m. LeavesNewline s m.change) leave)
   ];
 }
 
@@ -157,19 +158,18 @@ module _ (profile : Profile) (limit : ℕ) (s : Document) (fine : IsEditable pro
         by (inr (less, after)) =
             inr (omega (arith, less, put_there.0), omega (arith, after, put_there.0, put_there.1, none))
 
-    plain : IsPlain (text s) × All (λ x. IsPlain x.change.new) (b ∷ m ∷ ms) → ArePlain (text s) changes
-    plain (first, new) =
-        (first, by_changes s (λ x. IsPlain x.new) (m ∷ ms) (All-tail (λ x. IsPlain x.change.new) b (m ∷ ms) new))
+    leave : All (λ x. LeavesNewline s x.change) (b ∷ m ∷ ms) → LeaveNewline s changes
+    leave all = by_changes s (LeavesNewline s) (m ∷ ms) (All-tail (λ x. LeavesNewline s x.change) b (m ∷ ms) all)
 
     -- for a line
     alike : All (λ f. IsTrue (is_insert f)) (seen_of s ms) ⊎ IsBeforeHeaders (text s) (seen_of s ms) b.change.at
-        → AreAlike (text s) edits changes b.change.at
+        → AreAlike s edits changes b.change.at
     alike before = elim free.alike [
       | inl inserts ↦ inl
           (by_seen s (λ f. IsTrue (is_insert f)) (m ∷ ms)
           (All-tail (λ x. IsTrue (is_insert (seen s x.edit))) b (m ∷ ms) inserts))
       | inr them ↦ inr (
-        plain them,
+        leave them,
         before_more (text s) (seen s m.edit) (seen_of s ms) b.change.at
             (λ head same. ends head (sym put_there.0 ∙ same)) before,
       )
@@ -177,12 +177,12 @@ module _ (profile : Profile) (limit : ℕ) (s : Document) (fine : IsEditable pro
 
     -- for a header
     alike_header : is_insert (seen s b.edit) ≡ false
-        → All (λ f. IsTrue (is_header f)) edits ⊎ IsPlainBefore (text s) changes b.change.at
+        → All (λ f. IsTrue (is_header f)) edits ⊎ LeaveNewlineBefore s changes b.change.at
     alike_header other = elim free.alike [
       | inl inserts ↦
           (let one : is_insert (seen s b.edit) ≡ true =
           All-head (λ x. IsTrue (is_insert (seen s x.edit))) b (m ∷ ms) inserts in absurd cc)
-      | inr them ↦ inr (plain them, clear)
+      | inr them ↦ inr (leave them, clear)
     ]
 
     abbrev InPlace : Edit → Type 0
@@ -198,7 +198,7 @@ module _ (profile : Profile) (limit : ℕ) (s : Document) (fine : IsEditable pro
         by : (e : Edit) → MakesInPlace profile limit s (seen_of s ms) (changes_of ms) lines e b.change
             → (MakesChange profile limit s e b.change → IsBelow s (own_lines s m) (seen s m.edit) e b.change)
             → (is_insert (seen s e) ≡ false
-            → All (λ f. IsTrue (is_header f)) edits ⊎ IsPlainBefore (text s) changes b.change.at) → InPlace e
+            → All (λ f. IsTrue (is_header f)) edits ⊎ LeaveNewlineBefore s changes b.change.at) → InPlace e
         by (insert path value) (inl (makes, (order, it))) below head =
             let its : Added = added_as s path b.change in
             inl (
@@ -209,7 +209,7 @@ module _ (profile : Profile) (limit : ℕ) (s : Document) (fine : IsEditable pro
                   stays = λ last. clear;
                   passed = All-cons (LetsTable its) (seen s m.edit) (seen_of s ms) (below makes).1 order.passed;
                 },
-                let_come (text s) edits changes b.change.at clear (alike (elim it [
+                let_come s edits changes b.change.at clear (alike (elim it [
                   | inl inserts ↦ inl inserts
                   | inr (first, (lets, before)) ↦ inr before
                 ])),

@@ -15,8 +15,9 @@ use Rattle.keep_syntax.specs.Tree.{Document, text}
 use Rattle.keep_path.specs.Path.{Part}
 use Rattle.keep_edit_spec.specs.Edits.{Edit, append_element, append_table, insert, remove, rename, set}
 use Rattle.keep_edit_spec.specs.ElementRuns.{KeepsPlaceAmong}
+use Rattle.keep_edit_spec.specs.FirstNewline.{LeavesNewline}
 use Rattle.keep_edit_spec.specs.InsertKinds.{Added, IsAfterLine, added_as}
-use Rattle.keep_edit_spec.specs.Runs.{ArePlain, IsBeforeHeaders, IsInOrder, IsPlain, IsPlainBefore, KeepsPlace}
+use Rattle.keep_edit_spec.specs.Runs.{LeaveNewline, IsBeforeHeaders, IsInOrder, LeaveNewlineBefore, KeepsPlace}
 use Rattle.keep_edit_spec.specs.Runs.{IsNoSecond, LetsCome, LetsTable, is_header, is_insert, takes_up_to}
 use Rattle.keep_edit_spec.specs.RunLists.{KeepsBehind}
 use Rattle.keep_edit_spec.specs.TextChanges.{IsBeside, TextChange, change_at, with_change}
@@ -24,9 +25,6 @@ use Rattle.keep_edit_spec.proofs.Lists.TextChanges.{rest_of_all}
 
 module _ (bytes : List ℕ) (changes fewer : List TextChange)
     (have : (P : TextChange → Type 0) → All P changes → All P fewer) where
-  plain_over : ArePlain bytes changes → ArePlain bytes fewer
-  plain_over (plain, new) = (plain, have (λ x. IsPlain x.new) new)
-
   lets_over : (at : ℕ) → All (LetsCome bytes changes at) changes → All (LetsCome bytes fewer at) fewer
   lets_over at all =
       All-weaker (LetsCome bytes changes at) (LetsCome bytes fewer at) by fewer (have (LetsCome bytes changes at) all)
@@ -63,8 +61,8 @@ module _ (s : Document) (edits fewer : List Edit) (are : (P : Edit → Type 0) �
       list_any_none (takes_up_to at) some
       (have (λ x. takes_up_to at x ≡ false) (each_none (takes_up_to at) changes none))
 
-  clear_over : (at : ℕ) → IsPlainBefore bytes changes at → IsPlainBefore bytes some at
-  clear_over at (plain, clear) = (plain_over bytes changes some have plain, none_over at clear)
+  clear_over : (at : ℕ) → LeaveNewlineBefore s changes at → LeaveNewlineBefore s some at
+  clear_over at (leave, clear) = (have (LeavesNewline s) leave, none_over at clear)
 
   order_over : (line : Added) → IsInOrder edits changes lines line → IsInOrder fewer some less line
   order_over line order = record {
@@ -73,19 +71,19 @@ module _ (s : Document) (edits fewer : List Edit) (are : (P : Edit → Type 0) �
     passed = are (LetsTable line) order.passed;
   }
 
-  header_over : (at : ℕ) → All (λ e. IsTrue (is_header e)) edits ⊎ IsPlainBefore bytes changes at
-      → All (λ e. IsTrue (is_header e)) fewer ⊎ IsPlainBefore bytes some at
+  header_over : (at : ℕ) → All (λ e. IsTrue (is_header e)) edits ⊎ LeaveNewlineBefore s changes at
+      → All (λ e. IsTrue (is_header e)) fewer ⊎ LeaveNewlineBefore s some at
   header_over at (inl all) = inl (are (λ x. IsTrue (is_header x)) all)
   header_over at (inr plain) = inr (clear_over at plain)
 
   -- where a line can come among others
   abbrev AreLet : List Edit → List TextChange → ℕ → Type 0
   AreLet edits changes at =
-      ArePlain bytes changes × (All (LetsCome bytes changes at) changes × IsBeforeHeaders bytes edits at)
+      LeaveNewline s changes × (All (LetsCome bytes changes at) changes × IsBeforeHeaders bytes edits at)
 
   let_over : (at : ℕ) → AreLet edits changes at → AreLet fewer some at
-  let_over at (plain, (lets, before)) = (
-    plain_over bytes changes some have plain,
+  let_over at (leave, (lets, before)) = (
+    have (LeavesNewline s) leave,
     (lets_over bytes changes some have at lets, headers_over at before),
   )
 
@@ -94,7 +92,7 @@ module _ (s : Document) (edits fewer : List Edit) (are : (P : Edit → Type 0) �
     none_over d.at clear,
     elim h [
       | inl all ↦ inl (are (λ x. IsTrue (is_insert x)) all)
-      | inr (plain, before) ↦ inr (plain_over bytes changes some have plain, headers_over d.at before)
+      | inr (leave, before) ↦ inr (have (LeavesNewline s) leave, headers_over d.at before)
     ],
   )
 

@@ -28,15 +28,15 @@ use Rattle.keep_edit_spec.specs.AddedLines.{first_new}
 use Rattle.keep_edit_spec.specs.InsertKinds.{Added, IsAfterAs, IsAfterLine, added_as, is_last_in_body}
 use Rattle.keep_edit_spec.specs.InsertKinds.{kind_of, table_of}
 use Rattle.keep_edit_spec.specs.AppendedHeaders.{AppendsElement, AppendsTable}
-use Rattle.keep_edit_spec.specs.Runs.{IsBeforeHeaders, IsPlain, IsPlainBefore, IsStillPlaced, KeepsPlace}
-use Rattle.keep_edit_spec.specs.Runs.{MakesChange, is_header, is_insert, is_new_after, takes_up_to, ArePlain}
+use Rattle.keep_edit_spec.specs.Runs.{IsBeforeHeaders, LeaveNewlineBefore, IsStillPlaced, KeepsPlace}
+use Rattle.keep_edit_spec.specs.Runs.{MakesChange, is_header, is_insert, is_new_after, takes_up_to, LeaveNewline}
 use Rattle.keep_edit_spec.specs.Runs.{ComesInOrder, ComesInPlace, IsSeenStill, LeavesPlace, LetsCome, StaysPlaced, seen}
 use Rattle.keep_edit_spec.specs.Runs.{IsNoSecond, IsNoSecondAfter, LetsTable, PassesBy, with_line}
 use Rattle.keep_edit_spec.specs.RunLists.{KeepsBehind}
 use Rattle.keep_edit_spec.specs.TextChanges.{Follow, IsBeside, TextChange, moved_past, with_change}
 use Rattle.keep_edit_spec.specs.TextChanges.{change_at, moved_by_all}
 use Rattle.keep_edit_spec.proofs.Append.AppendPlace.{append_place}
-use Rattle.keep_edit_spec.proofs.Lists.PlainTexts.{plain_newline, plain_with}
+use Rattle.keep_edit_spec.proofs.Lists.NewlineStays.{newline_stays}
 use Rattle.keep_edit_spec.proofs.Lists.TextChanges.{begins_apart, begins_at_one, end_apart, end_apart_let, moved_next}
 use Rattle.keep_edit_spec.proofs.Lists.TextChanges.{none_with, one_of_all, rest_of_all}
 use Rattle.keep_edit_spec.proofs.Lists.TextsAfter.{IsTextAfter}
@@ -44,6 +44,7 @@ use Rattle.keep_edit_spec.specs.SaidLines.{SaysBefore}
 use Rattle.keep_edit_spec.specs.declared.line_kind.LineKind.{LineKind}
 use Rattle.keep_edit_spec.specs.declared.line_kind.LineKind.TheVariants.{LastInBody, OfDotted, WithHeader}
 use Rattle.keep_edit_spec.proofs.Lists.MadeChanges.{within_text, removes_there}
+use Rattle.keep_edit_spec.specs.FirstNewline.{LeavesNewline}
 
 -- a change that takes bytes, but not the one before a place, ends elsewhere
 ends_elsewhere : (at : ℕ) (c : TextChange) → 0 < c.size → takes_up_to at c ≡ false → c.at + c.size ≢ at
@@ -55,7 +56,7 @@ module _ (s : Document) (changes : List TextChange) (c : TextChange) (left : All
     (follow : Follow 0 changes) where
   -- where an edit takes bytes, but not the one before what is new
   taken_apart : 0 < c.size → (d : TextChange) → All (λ x. IsBeside x d) changes → IsBeside c d
-      → IsPlainBefore (text s) (with_change changes c) d.at
+      → LeaveNewlineBefore s (with_change changes c) d.at
       → (moved_past changes c).at + c.size ≢ (moved_past changes d).at
   taken_apart some d right beside (plain, clear) =
       let others = none_with (takes_up_to d.at) changes c clear in
@@ -268,18 +269,18 @@ table_now P s now path value c d (first, kind) holds is =
 module _ (profile : Profile) (limit : ℕ) (s : Document) (edits : List Edit) (changes : List TextChange)
     (lines : List Added) (now : Document) (r : IsTextAfter profile limit s changes now) (e : Edit)
     (c : TextChange) where
-  -- where newlines are alike
+  -- where the changes leave it
   pub same_newline : IsTextAfter profile limit s (with_change changes c) (edited_document now e)
-      → ArePlain (text s) (with_change changes c) → newline_of (edited_document now e) ≡ newline_of now
-  same_newline next (plain, new) =
-      plain_newline profile limit (edited_document now e) next.editable
-      (subst IsPlain (sym next.text) (plain_with (text s) (with_change changes c) plain new))
-      ∙ sym (plain_newline profile limit now r.editable
-      (subst IsPlain (sym r.text) (plain_with (text s) changes plain (rest_of_all (λ x. IsPlain x.new) changes c new))))
+      → LeaveNewline s (with_change changes c) → newline_of (edited_document now e) ≡ newline_of now
+  same_newline next leave =
+      newline_stays profile limit s (edited_document now e) r.first next.editable (with_change changes c) next.text
+      leave
+      ∙ sym (newline_stays profile limit s now r.first r.editable changes r.text
+      (rest_of_all (LeavesNewline s) changes c leave))
 
   -- what it takes or writes ends elsewhere than where a header comes
   apart_now : IsPlacedChange s e c → All (λ x. IsBeside x c) changes → (d : TextChange)
-      → All (λ x. IsBeside x d) changes → IsBeside c d → IsPlainBefore (text s) (with_change changes c) d.at
+      → All (λ x. IsBeside x d) changes → IsBeside c d → LeaveNewlineBefore s (with_change changes c) d.at
       → is_header e ≡ false → is_insert e ≡ false → (moved_past changes c).at + c.size ≢ (moved_past changes d).at
   apart_now placed left d right beside plain no_header other =
       elim (placed.takes other) [
@@ -291,7 +292,7 @@ module _ (profile : Profile) (limit : ℕ) (s : Document) (edits : List Edit) (c
   header_placed : (f : Edit) → is_insert f ≡ false → is_header f ≡ true → IsPlacedChange s e c
       → All (λ x. IsBeside x c) changes → (d : TextChange) → All (λ x. IsBeside x d) changes → IsBeside c d
       → IsTextAfter profile limit s (with_change changes c) (edited_document now e)
-      → All (λ x. IsTrue (is_header x)) (seen s e ∷ edits) ⊎ IsPlainBefore (text s) (with_change changes c) d.at
+      → All (λ x. IsTrue (is_header x)) (seen s e ∷ edits) ⊎ LeaveNewlineBefore s (with_change changes c) d.at
       → IsTrue (is_new_after e f) → StaysPlaced now e (moved_past changes c) f (moved_past changes d)
   header_placed f line head placed left d right beside next k new =
       let no_header : is_header e ≡ false = header_other e f line head new in

@@ -15,9 +15,9 @@ use Rattle.keep_types.specs.declared.leaf.Leaf.TheVariants as leaf
 use Rattle.keep_syntax.specs.Tree.{Document, Written, leaves, text, text_of}
 use Rattle.keep_edit_spec.specs.Laws.{IsEditable}
 use Rattle.keep_edit_spec.specs.Lines.{first_newline, newline_of}
-use Rattle.keep_edit_spec.specs.Runs.{IsPlain}
 use Rattle.keep_edit_spec.specs.TextChanges.{TextChange, text_with}
 use Rattle.keep_edit_spec.proofs.Common.NewLines.{IsNewline, newline_is}
+use Rattle.keep_edit_spec.specs.FirstNewline.{IsPlain}
 
 abbrev is_plain_byte : ℕ → Type 0
 is_plain_byte b = b ≢ 0x0D

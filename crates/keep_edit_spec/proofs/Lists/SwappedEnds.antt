@@ -8,7 +8,7 @@
 -- (EndTexts).
 --
 -- Theorem: `swap_end`.
-use Rattle.std.proofs.Common.{◌≡◌, ◌≢◌, ℕ, ◌+◌, ◌<◌, ◌≤◌, Bool, true, false, ◌&&◌, ◌||◌, List, [], length}
+use Rattle.std.proofs.Common.{◌≡◌, ◌≢◌, ℕ, ◌+◌, ◌<◌, ◌≤◌, Bool, true, false, ◌&&◌, ◌||◌, List, [], length, Option}
 use Rattle.std.proofs.Common.{map, refl, sym, ap, subst, ◌∙◌, arith, inl, inr, Some, None}
 use Rattle.std.specs.Prelude.{IsTrue}
 use Rattle.std.proofs.lemmas.Bool.{cases_lt, lt-ltb}
@@ -22,7 +22,7 @@ use Rattle.keep_edit_spec.specs.EndEdits.{EndEdit, IsAtEnd, LetsEdit, end_change
 use Rattle.keep_edit_spec.specs.InsertKinds.{Added, IsAfterAs, added_as, kind_of, table_of}
 use Rattle.keep_edit_spec.specs.Laws.{IsEditable}
 use Rattle.keep_edit_spec.specs.Look.{keys_in}
-use Rattle.keep_edit_spec.specs.Runs.{ComesInOrder, IsNoSecond, IsPlain, IsSeenStill, IsStillPlaced, LeavesAlone}
+use Rattle.keep_edit_spec.specs.Runs.{ComesInOrder, IsNoSecond, IsSeenStill, IsStillPlaced, LeavesAlone}
 use Rattle.keep_edit_spec.specs.Runs.{MakesChange, PassesTable, StaysPlaced, is_header, is_insert, is_new_after, seen}
 use Rattle.keep_edit_spec.specs.TextChanges.{TextChange, change_at, moved_by}
 use Rattle.keep_edit_spec.specs.declared.line_kind.LineKind.{LineKind}
@@ -35,6 +35,7 @@ use Rattle.keep_edit_spec.proofs.Lists.MadeChanges.{within_text}
 use Rattle.keep_edit_spec.proofs.Lists.StillMakes.{still_makes}
 use Rattle.keep_edit_spec.proofs.Lists.TextsAfter.{PutsChange, made_puts}
 use Rattle.keep_edit_spec.proofs.Rename.RenamedParts.{strip_self}
+use Rattle.keep_edit_spec.specs.FirstNewline.{HasFirst}
 
 -- An edit and one at the end of the text, in either order.
 pub record IsSwapped (profile : Profile) (limit : ℕ) (s : Document) (e : Edit) (c : TextChange) (t : EndEdit)
@@ -160,10 +161,10 @@ module _ (profile : Profile) (limit : ℕ) (s : Document) (e : Edit) (c : TextCh
   adds = header_or_line profile limit s t h.fine h.ends
 
   -- the one at the end after the other
-  module _ (plain : IsPlain (text s)) (new : IsPlain c.new) where
+  module _ (line : Option (List ℕ)) (has : HasFirst line s) (still : HasFirst line (edited_document s e)) where
     placed_after : IsStillPlaced s e c t.edit d
     placed_after = (
-      λ after. (same_newline profile limit s e c puts h.fine plain new, λ line. inl (h.clear line)),
+      λ after. (same_newline profile limit s e c puts h.fine line has still, λ other. inl (h.clear other)),
       in_order_after s e c t.edit d t.new h.other h.lets h.first,
     )
 
@@ -249,10 +250,11 @@ made_there profile limit s e c t h = elim (cases_lt c.at (length (text s))) [
 pub swap_end : (profile : Profile) (limit : ℕ) (s : Document) (e : Edit) (c : TextChange) (t : EndEdit)
     → IsEditable profile limit s → IsAtEnd profile limit s t → MakesChange profile limit s e c
     → is_header e ≡ false → LeavesAlone t.seen (seen s e) → LetsEdit s e c t
-    → IsPlain (text s) → IsPlain c.new → (is_insert e ≡ false → c.at + c.size ≢ length (text s))
+    → (line : Option (List ℕ)) → HasFirst line s → HasFirst line (edited_document s e)
+    → (is_insert e ≡ false → c.at + c.size ≢ length (text s))
     → (c.at ≡ length (text s) → is_header t.edit ≡ true)
     → IsSwapped profile limit s e c t
-swap_end profile limit s e c t fine ends makes other left lets plain new clear first =
+swap_end profile limit s e c t fine ends makes other left lets line has still clear first =
     let h : MayComeFirst profile limit s e c t = record {
       fine = fine;
       ends = ends;
@@ -264,7 +266,7 @@ swap_end profile limit s e c t fine ends makes other left lets plain new clear f
       first = first;
     } in
     let there : IsMadeThere profile limit s e c t.edit = made_there profile limit s e c t h in
-    let again : IsAtEnd profile limit (edited_document s e) t = at_end_again profile limit s e c t h plain new in
+    let again : IsAtEnd profile limit (edited_document s e) t = at_end_again profile limit s e c t h line has still in
     record {
       ends = again;
       makes = there.0;

@@ -296,7 +296,7 @@ valid_clear profile path r l h = by l.comment h.comment
         clear_when (IsLine profile) (is_own path r l.content) _
         (record { before = h.before; content = tt; after = refl; comment = g })
 
-valid_empty : (profile : Profile) → IsLine profile empty_line
+pub valid_empty : (profile : Profile) → IsLine profile empty_line
 valid_empty profile = record { before = tt; content = tt; after = refl; comment = tt }
 
 valid_prefix : (profile : Profile) (n : ℕ) (es : List Ended) (last : Line) → AllByRecursion (IsEnded profile) es

@@ -1,23 +1,23 @@
 use Rattle.std.proofs.Common.{◌≡◌, ◌∙◌, All, ap, eqb-true, false, inl, inr, length, subst, sym, true}
 use Rattle.std.specs.Prelude.{◌==◌}
 use Rattle.std.proofs.lemmas.Bool.{and_parts}
-use Rattle.keep_edit_spec.specs.Runs.{IsPlain}
-use Rattle.keep_edit_spec.specs.TextChanges.{TextChange}
 use Rattle.keep_edit_spec.proofs.Shared.{all_with}
 use Rattle.keep_edit_plan.specs.Reading.{ProfiledText}
 use Rattle.keep_edit_plan.specs.TextEdits.{change_of}
+use Rattle.keep_edit_runs.specs.Newlines.{IsNewlineOf, LeavesHere}
 use Rattle.keep_edit_runs.specs.Runs.{IsKeptBehind}
 use Rattle.keep_edit_runs.proofs.before.Before.add_behind.Goals as goal
 use Rattle.keep_edit_runs.proofs.before.Before.add_behind.Goals.{else-eq, else-place-self-via-else-place-self}
 use Rattle.keep_edit_runs.proofs.before.Before.add_behind.Goals.{else-place-self-via-then-place-self+else-has_appended}
-use Rattle.keep_edit_runs.proofs.before.Before.add_behind.Goals.{else-is_plain, then-eq, then-is_plain}
+use Rattle.keep_edit_runs.proofs.before.Before.add_behind.Goals.{else-is_left_by, then-eq, then-is_left_by}
 
 pub returns-then-keep_behind-clause-added : goal.returns-then-keep_behind-clause-added
 returns-then-keep_behind-clause-added c = λ added.
+    let newline = subst (λ (d : ProfiledText). IsNewlineOf d c.self.inside.newline) c.self.view_is c.self.invariant.1 in
     let line = c.in-Some.line in
     let (beside, is) = c.add.ensures.changes added in
-    elim c.if-is_plain.branch [
-      | then-is_plain w ↦ elim c.if-eq.branch [
+    elim c.if-is_left_by.branch [
+      | then-is_left_by w ↦ elim c.if-eq.branch [
         | then-eq u ↦ record {
           line = line;
           alone = c.in-Some.ensures;
@@ -33,22 +33,25 @@ returns-then-keep_behind-clause-added c = λ added.
               (sym c.eq.ensures ∙ u.if-eq.true)).0;
           kept = subst (IsKeptBehind c.args.lines.now c.args.so_far.now.changes c.args.outline c.args.place.start)
               (sym w.lines-is) (w.keep_behind.ensures (sym w.value-is ∙ c.if-keep_behind.true));
-          plain = subst IsPlain u.as_str.ensures.value (u.is_plain.ensures.0 (sym u.value-is ∙ w.if-is_plain.true));
+          leaves = newline.changes (change_of line) (u.is_left_by.ensures (sym u.value-is ∙ w.if-is_left_by.true));
           beside = beside;
           changes_are = is;
         }
         | else-eq u ↦ absurd
-            (let both : false ≡ true = sym u.if-eq.false ∙ sym u.value-is ∙ w.if-is_plain.true in cc)
+            (let both : false ≡ true = sym u.if-eq.false ∙ sym u.value-is ∙ w.if-is_left_by.true in cc)
       ]
-      | else-is_plain w ↦ absurd
-          (let both : false ≡ true = sym w.if-is_plain.false ∙ sym w.value-is ∙ c.if-keep_behind.true in cc)
+      | else-is_left_by w ↦ absurd
+          (let both : false ≡ true = sym w.if-is_left_by.false ∙ sym w.value-is ∙ c.if-keep_behind.true in cc)
     ]
 
-pub returns-then-keep_behind-clause-plain : goal.returns-then-keep_behind-clause-plain
-returns-then-keep_behind-clause-plain c = λ added yes.
-    let (before, its) = c.add.ensures.plain added yes in
+pub returns-then-keep_behind-clause-newline : goal.returns-then-keep_behind-clause-newline
+returns-then-keep_behind-clause-newline c = λ added yes.
+    let now = c.args.self.now in
+    let newline = subst (λ (d : ProfiledText). IsNewlineOf d c.self.inside.newline) c.self.view_is c.self.invariant.1 in
+    let line = change_of c.in-Some.line in
+    let (before, its) = c.add.ensures.newline added yes in
     let (beside, is) = c.add.ensures.changes added in (
       before,
-      λ all. subst (All (λ (d : TextChange). IsPlain d.new)) (sym is)
-          (all_with (λ (d : TextChange). IsPlain d.new) c.args.so_far.now.changes (change_of c.in-Some.line) all its),
+      λ all. subst (All (LeavesHere now)) (sym is)
+          (all_with (LeavesHere now) c.args.so_far.now.changes line all (newline.changes line its)),
     )

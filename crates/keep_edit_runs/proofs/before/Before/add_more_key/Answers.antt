@@ -18,7 +18,7 @@ use Rattle.keep_edit_runs.proofs.before.Before.add_more_key.Goals as goal
 
 -- the run when its change is planned
 then_is : (old left : KindsRun) (planner : ProfiledText) → left ≡ with_paths old old.paths left.left
-    → record left { planner = planner } ≡ planned old old.opened planner left.left old.is_text_plain
+    → record left { planner = planner } ≡ planned old old.opened planner left.left
 then_is old left planner is = ap (λ (r : KindsRun). record r { planner = planner }) is
 
 pub lets_key-requires-clause-key : goal.lets_key-requires-clause-key
@@ -62,10 +62,10 @@ returns-clause-added c = λ yes.
       added = subst (λ (l : Option LineKind).
           IsAddedBehind now.text old.lines old.so_far.changes o (change_of made.change) l new.lines new.so_far.changes)
           last
-          (behind_as now old then new old.opened planner left.left old.is_text_plain is o made.change made.line added);
-      outlines = outlines_as now old then new old.opened planner left.left old.is_text_plain is o made.change made.line
+          (behind_as now old then new old.opened planner left.left is o made.change made.line added);
+      outlines = outlines_as now old then new old.opened planner left.left is o made.change made.line
           added;
-      gone = gone_as now old then new old.opened planner left.left old.is_text_plain is o made.change made.line added;
+      gone = gone_as now old then new old.opened planner left.left is o made.change made.line added;
     }
 
 pub returns-clause-lets : goal.returns-clause-lets
@@ -85,9 +85,9 @@ returns-clause-run c = λ yes.
     let made = c.in-Some.made in
     let is = then_is old left planner rest in
     let (run, none) = c.requires.run in
-    run_last now old then c.add_last.new.run old.opened planner left.left old.is_text_plain is o made.change made.line
+    run_last now old then c.add_last.new.run old.opened planner left.left is o made.change made.line
     (c.add_last.ensures.added yes) c.args.edit.now
-    (on_planned old then old.opened planner left.left old.is_text_plain is now run
-    (c.change_by_itself.ensures.planner ∙ ap (λ (r : KindsRun). r.planner) rest ∙ run.planner) run.text)
-    (alone_as old then old.opened planner left.left old.is_text_plain is o
+    (on_planned old then old.opened planner left.left is now run
+    (c.change_by_itself.ensures.planner ∙ ap (λ (r : KindsRun). r.planner) rest ∙ run.planner))
+    (alone_as old then old.opened planner left.left is o
     (c.lets_key.ensures.alone c.if-not-lets_key.false)) none

@@ -5,7 +5,7 @@ use Rattle.std.specs.Prelude.{IfSome}
 use Rattle.keep_edit_plan.specs.Reading.{ProfiledText}
 use Rattle.keep_edit_plan.specs.TextEdits.{change_of}
 use Rattle.keep_edit_plan.specs.declared.edit.Edit.{Edit}
-use Rattle.keep_edit_runs.specs.KindsRun.{IsPlacedAmong, with_paths, with_text}
+use Rattle.keep_edit_runs.specs.KindsRun.{IsPlacedAmong, with_paths}
 use Rattle.keep_edit_runs.specs.MoreKeys.{MakesTable}
 use Rattle.keep_edit_runs.specs.Runs.{IsSeenAs, MakesInRunHere, outline}
 use Rattle.keep_edit_runs.specs.declared.at_once.AtOnce.{AtOnce}
@@ -18,14 +18,11 @@ use Rattle.keep_edit_runs.proofs.MoreKeySteps.{behind_as, gone_as, outlines_as, 
 use Rattle.keep_edit_runs.proofs.SameRuns.{alone_as, on_planned, planned}
 use Rattle.keep_edit_runs.proofs.before.Before.add_plainly.Goals as goal
 
--- the run when the edit's place is kept
-then_is : (old left then : KindsRun) (opened : OpenValues) (planner : ProfiledText)
+-- the run when the edit's change is planned
+then_is : (old left : KindsRun) (opened : OpenValues) (planner : ProfiledText)
     → left ≡ with_paths old old.paths left.left
-    → then ≡ with_text (record left { opened = opened; planner = planner }) then.is_text_plain
-    → then ≡ planned old opened planner left.left then.is_text_plain
-then_is old left then opened planner is is_then =
-    is_then
-    ∙ ap (λ (r : KindsRun). record r { opened = opened; planner = planner; is_text_plain = then.is_text_plain }) is
+    → record left { opened = opened; planner = planner } ≡ planned old opened planner left.left
+then_is old left opened planner is = ap (λ (r : KindsRun). record r { opened = opened; planner = planner }) is
 
 pub returns-clause-added : goal.returns-clause-added
 returns-clause-added c = λ yes.
@@ -36,11 +33,11 @@ returns-clause-added c = λ yes.
     let rest = c.is_left_alone.ensures.rest in
     let opened = c.change_in_run.new.opened in
     let planner = c.change_in_run.new.planner in
-    let then = c.keeps_place_in.new.run in
+    let then : KindsRun = record left { opened = opened; planner = planner } in
     let new = c.add_last.new.run in
     let o = c.of-outline.result in
     let made = c.in-Some.made in
-    let is = then_is old left then opened planner rest c.keeps_place_in.ensures.rest in
+    let is = then_is old left opened planner rest in
     let added = c.add_last.ensures.added yes in
     record {
       outline = o;
@@ -49,12 +46,12 @@ returns-clause-added c = λ yes.
       makes = subst (λ a. MakesInRunHere now x a made.change made.line) (sym c.of-outline.ensures)
           c.in-Some.ensures.made;
       alone = c.is_left_alone.ensures.alone c.if-not-is_left_alone.false;
-      placed = subst (λ (s : AtOnce). IsPlacedAmong now.text s.changes o (change_of made.change).at)
-          (ap (λ (r : KindsRun). r.so_far) rest) (c.keeps_place_in.ensures.placed c.if-not-keeps_place_in.false);
-      added = behind_as now old then new opened planner left.left then.is_text_plain is o made.change made.line added;
-      outlines = outlines_as now old then new opened planner left.left then.is_text_plain is o made.change made.line
+      placed = subst (λ (s : AtOnce). IsPlacedAmong now s.changes o (change_of made.change).at)
+          (ap (λ (r : KindsRun). r.so_far) rest) (c.keeps_place_in.ensures c.if-not-keeps_place_in.false);
+      added = behind_as now old then new opened planner left.left is o made.change made.line added;
+      outlines = outlines_as now old then new opened planner left.left is o made.change made.line
           added;
-      gone = gone_as now old then new opened planner left.left then.is_text_plain is o made.change made.line added;
+      gone = gone_as now old then new opened planner left.left is o made.change made.line added;
       makes_table = λ t table.
           let (given, (own, (seen, last))) =
           subst (λ (result : Option NewTable).
@@ -77,15 +74,14 @@ returns-clause-run c = λ yes.
     let rest = c.is_left_alone.ensures.rest in
     let opened = c.change_in_run.new.opened in
     let planner = c.change_in_run.new.planner in
-    let then = c.keeps_place_in.new.run in
+    let then : KindsRun = record left { opened = opened; planner = planner } in
     let o = c.of-outline.result in
     let made = c.in-Some.made in
-    let is = then_is old left then opened planner rest c.keeps_place_in.ensures.rest in
+    let is = then_is old left opened planner rest in
     let (run, none) = c.requires.run in
-    run_last now old then c.add_last.new.run opened planner left.left then.is_text_plain is o made.change made.line
+    run_last now old then c.add_last.new.run opened planner left.left is o made.change made.line
     (c.add_last.ensures.added yes) c.args.edit.now
-    (on_planned old then opened planner left.left then.is_text_plain is now run
-    (c.change_in_run.ensures.planner ∙ ap (λ (r : KindsRun). r.planner) rest ∙ run.planner)
-    c.keeps_place_in.ensures.text)
-    (alone_as old then opened planner left.left then.is_text_plain is o
+    (on_planned old then opened planner left.left is now run
+    (c.change_in_run.ensures.planner ∙ ap (λ (r : KindsRun). r.planner) rest ∙ run.planner))
+    (alone_as old then opened planner left.left is o
     (c.is_left_alone.ensures.alone c.if-not-is_left_alone.false)) none

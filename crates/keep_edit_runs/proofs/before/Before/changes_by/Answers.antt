@@ -3,7 +3,9 @@ use Rattle.std.proofs.Common.{subst₂, ◌∙◌, arith}
 use Rattle.std.proofs.lemmas.List.Elements.{All-append, All-nil, All-weaker}
 use Rattle.keep_edit_spec.specs.TextChanges.{TextChange}
 use Rattle.keep_edit_plan.specs.TextEdits.{change_of}
+use Rattle.keep_edit_plan.specs.Reading.{ProfiledText}
 use Rattle.keep_edit_runs.specs.Again.{outlines_of}
+use Rattle.keep_edit_runs.specs.Newlines.{IsNewlineOf}
 use Rattle.keep_edit_runs.specs.Runs.{LeavesAlone, MakesInRunHere, outlined}
 use Rattle.keep_edit_runs.specs.Seen.{IsSeen}
 use Rattle.keep_edit_runs.specs.declared.outline.Outline.{Outline}
@@ -12,6 +14,7 @@ use Rattle.keep_edit_runs.proofs.AheadSteps.{more_ahead}
 use Rattle.keep_edit_runs.proofs.FollowSteps.{more_following}
 use Rattle.keep_edit_runs.proofs.InPlaceSteps.{more_before}
 use Rattle.keep_edit_runs.proofs.KindLaws.{placed_of_kind}
+use Rattle.keep_edit_runs.proofs.NewlineSteps.{allow_here}
 use Rattle.keep_edit_runs.proofs.RunSteps.{AreMadeTo, all_made, all_within, more_changes, no_changes}
 use Rattle.keep_edit_runs.proofs.SeenLaws.{more_seen}
 use Rattle.keep_edit_runs.proofs.before.Before.changes_by.Goals as goal
@@ -108,6 +111,7 @@ loop-number-preserved-in-Some c =
     let seen_then = IsSeen c.loop-number.keys in
     let seen_now = IsSeen c.allow_again.new.self in
     let (so_far, seen, plans) = c.loop-number.invariant in
+    let newline = subst (λ (d : ProfiledText). IsNewlineOf d c.self.inside.newline) c.self.view_is c.self.invariant.1 in
     let low : number < length edits = omega (arith, c.loop-number-test.true, c.min-end.ensures) in
     let one : suc number ≡ number + 1 = omega arith in
     let put = c.put_again.ensures.changes c.if-not-put_again.false in
@@ -116,7 +120,8 @@ loop-number-preserved-in-Some c =
           (sym pushed)
           (made_once_more edits first number now outlines changes new c.loop-number.lines x x a seen_then so_far
           low (sym c.index-edits-number.is) c.in-Some.ensures.again
-          (c.allow_again.ensures.allowed c.if-not-allow_again.false)
+          (allow_here now c.self.inside.newline newline seen_then a
+          (c.allow_again.ensures.allowed c.if-not-allow_again.false))
           (c.put_again.ensures.lines c.if-not-put_again.false) seen put),
       subst (All seen_now) (sym pushed)
           (All-append seen_now outlines (outlines_of a)
@@ -154,7 +159,7 @@ loop-number-preserved c =
     subst (λ a. MakesInRunHere now x a change made.line) (sym c.of-outline.ensures)
     c.in-Some-change_in_run.ensures.made in
     let placed =
-    placed_of_kind c.keep_alone.new.self outlines now.text changes o (change_of change).at still here in
+    placed_of_kind c.keep_alone.new.self outlines now changes o (change_of change).at still here in
     let longer : AreMadeTo edits first (suc number) now (outlines ++ o ∷ []) new next =
     elim (c.add_in_order.ensures.added c.if-not-add_in_order.false) [
       | inl behind ↦

@@ -6,16 +6,19 @@ use Rattle.keep_edit_spec.specs.ElementRuns.{IsElsewhere, changed_path}
 use Rattle.keep_edit_plan.specs.Reading.{ProfiledText}
 use Rattle.keep_edit_runs.specs.GoneBetween.{RemovesElementHere}
 use Rattle.keep_edit_runs.specs.KindsRun.{LetsChange, with_gone}
+use Rattle.keep_edit_runs.specs.Newlines.{IsNewlineOf, LeavesBy}
 use Rattle.keep_edit_runs.specs.Runs.{outlined}
 use Rattle.keep_edit_runs.specs.declared.gone_between.GoneBetween.{GoneBetween}
 use Rattle.keep_edit_runs.specs.declared.kinds_run.KindsRun.{KindsRun}
 use Rattle.keep_edit_runs.specs.declared.tail.Tail.{Tail}
 use Rattle.keep_edit_runs.proofs.ElementArrays.{element_here, removed_path}
+use Rattle.keep_edit_runs.proofs.NewlineSteps.{lets_here}
 use Rattle.keep_edit_runs.proofs.before.Before.element_by.Goals as goal
 
 pub returns-clause-found : goal.returns-clause-found
 returns-clause-found c =
     let now = c.args.self.now in
+    let newline = subst (λ (d : ProfiledText). IsNewlineOf d c.self.inside.newline) c.self.view_is c.self.invariant.1 in
     let old = c.args.run.now in
     let x = c.args.edit.now in
     let path = c.in-Remove.path in
@@ -36,9 +39,12 @@ returns-clause-found c =
       arrays = kept.arrays;
       elsewhere = kept.elsewhere;
       tail = subst (λ a. All (λ o. IsElsewhere a (outlined o)) old.tail.outlines.items) here kept.tail;
-      lets = subst₂ (λ (l : Tail) (d : ProfiledText).
-          LetsChange l.blocks.items (length d.text) (remove removes.header.path) change) c.keep_array.ensures.tail
-          c.self.view_is (c.lets_section.ensures c.if-not-lets_section.false removes.header.path);
+      lets = lets_here now c.self.inside.newline newline old.tail.blocks.items (length now.text)
+          (remove removes.header.path) change
+          (subst₂ (λ (l : Tail) (d : ProfiledText).
+          LetsChange (LeavesBy c.self.inside.newline) l.blocks.items (length d.text) (remove removes.header.path)
+          change) c.keep_array.ensures.tail c.self.view_is
+          (c.lets_section.ensures c.if-not-lets_section.false removes.header.path));
       seen = record {
         edits = kept.seen.edits;
         arrays = kept.seen.arrays;

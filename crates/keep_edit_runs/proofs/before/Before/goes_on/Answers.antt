@@ -1,7 +1,10 @@
 -- What the edit does it does to the run as it was, whatever was opened and planned before.
 use Rattle.std.proofs.Common.{◌∙◌, inl, inr, subst, sym}
+use Rattle.keep_edit_plan.specs.Reading.{ProfiledText}
 use Rattle.keep_edit_runs.specs.KindsRun.{AddsAny, IsRunOn, IsUnchanged}
+use Rattle.keep_edit_runs.specs.Newlines.{IsNewlineOf}
 use Rattle.keep_edit_runs.specs.declared.kinds_run.KindsRun.{KindsRun}
+use Rattle.keep_edit_runs.proofs.NewlineSteps.{does_here}
 use Rattle.keep_edit_runs.proofs.SameRuns.{added_as, unchanged_as}
 use Rattle.keep_edit_runs.proofs.before.Before.goes_on.Goals as goal
 use Rattle.keep_edit_runs.proofs.before.Before.goes_on.Goals.{else-is_empty, then-is_empty+in_default}
@@ -15,7 +18,10 @@ returns-then-is_of_element-clause-done c = λ taken. record {
 
 pub returns-in-Some-clause-done : goal.returns-in-Some-clause-done
 returns-in-Some-clause-done c = λ done.
-    let does = c.put_again.ensures.done done in
+    let newline = subst (λ (d : ProfiledText). IsNewlineOf d c.self.inside.newline) c.self.view_is c.self.invariant.1 in
+    let does =
+    does_here c.args.self.now c.self.inside.newline newline _ c.in-Some.again c.put_again.new.self
+    (c.put_again.ensures.done done) in
     record {
       edit = c.index-edits-number.result;
       here = sym c.index-edits-number.is;
@@ -39,7 +45,8 @@ returns-in-Some-clause-done c = λ done.
 pub returns-in-Some-clause-run : goal.returns-in-Some-clause-run
 returns-in-Some-clause-run c = λ done.
     let run = c.requires.run in
-    c.put_again.ensures.run c.args.self.now
+    let newline = subst (λ (d : ProfiledText). IsNewlineOf d c.self.inside.newline) c.self.view_is c.self.invariant.1 in
+    c.put_again.ensures.run c.args.self.now newline
     (record {
       seen = record {
         edits = run.seen.edits;
@@ -47,8 +54,7 @@ returns-in-Some-clause-run c = λ done.
         tail = run.seen.tail;
         elements = run.seen.elements;
       };
-      text = run.text;
-      plain = run.plain;
+      newline = run.newline;
       planner = c.again-again.ensures.planner ∙ run.planner;
     }) done
 
@@ -72,8 +78,7 @@ add_to-requires-clause-run c =
               tail = run.seen.tail;
               elements = run.seen.elements;
             };
-            text = run.text;
-            plain = run.plain;
+            newline = run.newline;
             planner = w.again-again.ensures.planner ∙ run.planner;
           })
       | else-is_empty w ↦ subst (IsRunOn c.args.self.now) (sym w.run-is) run
@@ -92,7 +97,7 @@ returns-clause-done c = λ added.
       by = inl (elim c.if-is_empty.branch [
         | then-is_empty+in_default w ↦
             added_as old c.if-is_empty.run w.again-again.new.opened w.again-again.new.planner old.left
-            old.is_text_plain w.run-is now x new adds
+            w.run-is now x new adds
         | else-is_empty w ↦ subst (λ (run : KindsRun). AddsAny now run x new) w.run-is adds
       ]);
     }
@@ -104,6 +109,6 @@ returns-clause-refused c = λ refused.
     elim c.if-is_empty.branch [
       | then-is_empty+in_default w ↦
           unchanged_as c.args.run.now c.if-is_empty.run w.again-again.new.opened w.again-again.new.planner
-          c.args.run.now.left c.args.run.now.is_text_plain w.run-is new same
+          c.args.run.now.left w.run-is new same
       | else-is_empty w ↦ subst (λ (run : KindsRun). IsUnchanged run new) w.run-is same
     ]

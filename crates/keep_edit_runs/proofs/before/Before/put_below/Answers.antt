@@ -52,7 +52,7 @@ returns-clause-put c = λ put.
             text = bytes;
             written = text.written block.block
                 (numbered there block.before block.after block.block number block.is block.number);
-            plain = text.plain;
+            leaves = text.leaves;
             lines = subst (λ (table : List Part).
                 IsTableBelow old.lines (change_of t).at table c.keep_below.new.self) same
                 (c.keep_below.ensures w.if-keep_below.true);

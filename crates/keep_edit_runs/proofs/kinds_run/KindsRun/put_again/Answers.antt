@@ -2,10 +2,10 @@
 -- the place of one of theirs, and its paths are known then.
 use Rattle.std.proofs.Common.{◌≡◌, ◌⊎◌, ◌∙◌, ◌++◌, [], All, List, ap, false, get_or, inl, inr, subst, sym, true}
 use Rattle.std.proofs.lemmas.List.Elements.{All-append, All-nil, All-weaker}
-use Rattle.keep_edit_spec.specs.Runs.{IsPlain}
-use Rattle.keep_edit_spec.specs.TextChanges.{TextChange}
-use Rattle.keep_edit_runs.specs.Again.{IsPutAgain, LetsAgain, outlines_of}
+use Rattle.keep_edit_plan.specs.TextEdits.{change_of}
+use Rattle.keep_edit_runs.specs.Again.{IsPutAgain, LetsAgain, edit_of, outlines_of}
 use Rattle.keep_edit_runs.specs.KindsRun.{IsRunOn}
+use Rattle.keep_edit_runs.specs.Newlines.{LeavesHere}
 use Rattle.keep_edit_runs.specs.Runs.{LeavesAlone}
 use Rattle.keep_edit_runs.specs.SeenPaths.{IsSeen}
 use Rattle.keep_edit_runs.specs.declared.added_lines.AddedLines.{AddedLines}
@@ -51,7 +51,7 @@ returns-then-allow_again-clause-done c = λ done.
     ]
 
 pub returns-then-allow_again-clause-run : goal.returns-then-allow_again-clause-run
-returns-then-allow_again-clause-run c = λ now run done.
+returns-then-allow_again-clause-run c = λ now newline run done.
     let a = c.args.again in
     let old = c.args.self.now in
     let new = c.put_again.new.self in
@@ -81,12 +81,12 @@ returns-then-allow_again-clause-run c = λ now run done.
                   (none_apart old.tail.outlines.items (outlines_of a)
                   (c.lets_again.ensures.none w.if-lets_again.true)));
             };
-            text = run.text;
-            plain = λ yes.
-                let (before, its) = c.put_again.ensures.plain done yes in
-                each_put (λ (d : TextChange). IsPlain d.new) a old.so_far.changes new.changes
+            newline = λ yes.
+                let (before, its) = c.put_again.ensures.newline done yes in
+                each_put (LeavesHere now) a old.so_far.changes new.changes
                 (subst (λ (s : AtOnce). IsPutAgain a s.changes new.changes) same (c.put_again.ensures.changes done))
-                (run.plain (sym (ap (λ (s : AtOnce). s.are_plain) same) ∙ before)) its;
+                (run.newline (sym (ap (λ (s : AtOnce). s.leave_newline) same) ∙ before))
+                (newline.changes (change_of (edit_of a)) its);
             planner = run.planner;
           })
       | else-lets_again w ↦ absurd
