@@ -123,14 +123,15 @@ class Run:
         return nests
 
     def dotted(self):
-        """New keys of tables that dotted keys make, in most lists of one for each line; now and then of a table that an insert of
-        several keys made, which half of the lists have, or of anything else; rarely a key that was given before. In a third of the
-        lists keys of what holds these tables come between, at the ends of bodies; in a third of them many are set later."""
+        """New keys of tables that dotted keys make, in two fifths of the lists of one for each line, else of all on its way; now and
+        then of a table that an insert of several keys made, which half of the lists have, or of anything else; rarely a key that was
+        given before. In a third of the lists keys of what holds these tables come between, at the ends of bodies; in a third of them
+        many are set later."""
         random, edits, given = self.random, [], []
         nests, several, later = self.with_dotted(), random.choice((0, 0.3)), random.choice((0, 0, 0.4))
         if not nests:
             return self.inserts()
-        is_one_each = random.random() < 0.7
+        is_one_each = random.random() < 0.4
         tables = [path for nest in nests for path in ([random.choice(nest)] if is_one_each else nest)]
         tables = random.sample(tables, random.choice((1, len(tables), len(tables))))
         tables += random.choice(([], [], [b"", b"dot", b"dots[0]"]))

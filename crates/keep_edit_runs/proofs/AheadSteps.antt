@@ -8,27 +8,28 @@
 -- Theorems: `more_ahead`; `each_ahead`: what holds of each change holds with one more before others; `made_there`: the
 -- insert makes such a change in the document after the edits.
 use Rattle.std.proofs.Common.{[], ◌≡◌, ◌≢◌, ◌<◌, ◌+◌, ◌∷◌, ◌++◌, ℕ, suc, Bool, List, take, length, get_or, refl, sym}
-use Rattle.std.proofs.Common.{ap, subst, ◌∙◌, All, IsUtf8, inl, inr, None, Option, Some, eqb-true, false, true, zero}
-use Rattle.std.proofs.Common.{arith}
-use Rattle.std.specs.Prelude.{◌⊎◌, ◌==◌, Any, IsTrue, if◌then◌else◌}
+use Rattle.std.proofs.Common.{ap, subst, subst₂, ◌∙◌, All, IsUtf8, inl, inr, None, Option, Some, eqb-true, false, true}
+use Rattle.std.proofs.Common.{arith, zero}
+use Rattle.std.specs.Prelude.{◌⊎◌, ◌==◌, ◌&&◌, nat_lt, Any, IsTrue, if◌then◌else◌}
 use Rattle.std.specs.List.{AllByRecursion, count_by, list_any}
 use Rattle.std.proofs.lemmas.List.Elements.{All-cons, All-head, All-nil, All-tail, All-weaker}
 use Rattle.std.proofs.lemmas.Str.{IsUtf8-string_bytes}
 use Rattle.keep_types.specs.declared.leaf.Profile.{Profile}
 use Rattle.keep_types.specs.declared.leaf.Profile.TheVariants.{Wide}
 use Rattle.keep_syntax.specs.Tree.{Document, Value, text}
-use Rattle.keep_path.specs.Path.{Part}
+use Rattle.keep_path.specs.Path.{Part, without_last}
 use Rattle.keep_edit_spec.specs.AddedLines.{first_new}
 use Rattle.keep_edit_spec.specs.Changed.{put}
-use Rattle.keep_edit_spec.specs.InsertKinds.{Added, AddsAs, IsAfterLine, IsHeaderAt, added_as, kind_of}
+use Rattle.keep_edit_spec.specs.DottedLines.{IsAtOrBelow}
+use Rattle.keep_edit_spec.specs.InsertKinds.{Added, AddsAs, IsAfterAs, IsAfterLine, IsHeaderAt, added_as, kind_of}
 use Rattle.keep_edit_spec.specs.InsertKinds.{table_of}
 use Rattle.keep_edit_spec.specs.declared.line_kind.LineKind.{LineKind}
 use Rattle.keep_edit_spec.specs.declared.line_kind.LineKind.TheVariants.{LastInBody, OfDotted, WithHeader}
 use Rattle.keep_edit_spec.specs.Edits as law
 use Rattle.keep_edit_spec.specs.Edits.{edited_document, place}
 use Rattle.keep_edit_spec.specs.Laws.{IsGivenValue, IsLawfulEdit}
-use Rattle.keep_edit_spec.specs.LinesAhead.{ComesAhead, IsRunAhead, behind, comes_before, comes_behind, is_end_at}
-use Rattle.keep_edit_spec.specs.LinesAhead.{is_headed_at, lines_behind}
+use Rattle.keep_edit_spec.specs.LinesAhead.{ComesAhead, IsRunAhead, behind, comes_before, comes_behind, is_above}
+use Rattle.keep_edit_spec.specs.LinesAhead.{is_above_at, is_below, is_end_at, is_headed_at, lines_behind, table_in}
 use Rattle.keep_edit_spec.specs.Look.{keys_in}
 use Rattle.keep_edit_spec.specs.Refusals.{refusal}
 use Rattle.keep_edit_spec.specs.RenameLists.{AllowsKey, IsRenameIn}
@@ -44,7 +45,8 @@ use Rattle.keep_edit_plan.specs.TextEdits.{IsChangeIn, IsPutAhead, change_of}
 use Rattle.keep_edit_plan.specs.declared.edit.Edit.{Edit}
 use Rattle.keep_edit_plan.specs.declared.text_edit.TextEdit.{TextEdit}
 use Rattle.keep_edit_runs.specs.AddedLines.{IsCountBehind, IsCounted, IsHeaderKnown, IsKnownAt, PassesHeaderAt}
-use Rattle.keep_edit_runs.specs.AddedLines.{brought_at, line_of, lines_by, lines_known_behind}
+use Rattle.keep_edit_runs.specs.AddedLines.{brought_at, is_shorter, is_shorter_at, line_of, lines_by}
+use Rattle.keep_edit_runs.specs.AddedLines.{lines_known_behind, table_by}
 use Rattle.keep_edit_runs.specs.Lists.{AreMade, IsEdit}
 use Rattle.keep_edit_runs.specs.Newlines.{LeavesHere}
 use Rattle.keep_edit_plan.specs.Reading.{IsTextOfTree, ProfiledText, limit}
@@ -57,6 +59,7 @@ use Rattle.keep_edit_runs.proofs.AheadLists.{ahead, its_line_ahead, line_ahead, 
 use Rattle.keep_edit_runs.proofs.AheadLists.{lines_counted_ahead, made_all_ahead, rename_ahead, seen_ahead}
 use Rattle.keep_edit_runs.proofs.AheadLists.{seen_counted_ahead, set_ahead}
 use Rattle.keep_edit_runs.proofs.HeaderLaws.{table_passed}
+use Rattle.keep_edit_runs.proofs.LengthLaws.{below_shorter, count_alike, not_below}
 use Rattle.keep_edit_runs.proofs.LineLaws.{lets_known, lets_no_header, with_header}
 use Rattle.keep_edit_runs.proofs.MadeMore.{more_made}
 use Rattle.keep_edit_runs.proofs.NewlineSteps.{leave_here}
@@ -98,12 +101,52 @@ pub record IsInsertThere (profile : Profile) (before now : Document) (e a : law.
 
 -- ---- how many come behind
 
+-- a line there comes after that of this table, or before it
+abbrev IsInOrder : List Part → ℕ → Added → Added → Type 0
+IsInOrder table at line l =
+    IsAfterLine l line ⊎ ((l.at ≡ at) × (comes_before line.kind table l.kind (table_of l) ≡ true))
+
+-- So one of a table above it is one of a table with fewer steps.
+above_is_shorter : (table : List Part) (at : ℕ) (line : Added) → line.kind ≡ OfDotted → line.at ≡ at
+    → table_of line ≡ table → (l : Added) → IsInOrder table at line l
+    → is_above_at table at l ≡ is_shorter_at (length table) at l
+above_is_shorter table at line kind there its l order = by (l.at == at) l.kind refl refl
+  where
+    as_dotted : IsAfterLine l line → IsAfterAs OfDotted l line
+    as_dotted = subst (λ (k : LineKind). IsAfterAs k l line) kind
+
+    of_dotted : l.at ≡ at → l.kind ≡ OfDotted → IsInOrder table at line l
+        → is_below table (table_of l) ≡ nat_lt (length (table_of l)) (length table)
+    of_dotted same of (inl after) =
+        let within : IsAtOrBelow (table_of l) table =
+        subst (IsAtOrBelow (table_of l)) its (as_dotted after (same ∙ sym there)).1 in
+        not_below table (table_of l) within
+    of_dotted same of (inr (here, before)) =
+        below_shorter table (table_of l)
+        (subst₂ (λ (a b : LineKind). comes_before a table b (table_of l) ≡ true) kind of before)
+
+    by : (b : Bool) (k : LineKind) → (l.at == at) ≡ b → l.kind ≡ k
+        → (b && is_above table k (table_of l)) ≡ (b && is_shorter (length table) k (table_of l))
+    by false k same of = refl
+    by true OfDotted same of = of_dotted (eqb-true l.at at same) of order
+    by true LastInBody same of = refl
+    by true WithHeader same of = refl
+
 -- as many as are known
 lines_known : (adds : AddedLines) (lines : List Added) (es : List law.Edit) → IsCounted adds lines es
-    → (kind : LineKind) (at : ℕ) → lines_known_behind adds kind at ≡ lines_behind kind at lines
-lines_known adds lines es counts OfDotted at = omega (arith, counts.ends at, counts.headed at)
-lines_known adds lines es counts LastInBody at = sym (counts.headed at)
-lines_known adds lines es counts WithHeader at = refl
+    → (kind : LineKind) (table : List Part) (at : ℕ)
+    → (kind ≡ OfDotted → All (λ l. is_above_at table at l ≡ is_shorter_at (length table) at l) lines)
+    → lines_known_behind adds kind table at ≡ lines_behind kind table at lines
+lines_known adds lines es counts OfDotted table at alike =
+    omega (
+      arith,
+      counts.shorter (length table) at,
+      count_alike (is_above_at table at) (is_shorter_at (length table) at) lines (alike refl),
+      counts.ends at,
+      counts.headed at,
+    )
+lines_known adds lines es counts LastInBody table at alike = sym (counts.headed at)
+lines_known adds lines es counts WithHeader table at alike = refl
 
 -- ---- one more
 
@@ -207,13 +250,22 @@ module _ (s : Document) (edits : List Edit) (n : ℕ) (old now : ProfiledText) (
       not_at_end {b = true} is =
           absurd (other (eqb-true c.at (length now.text) is ∙ ap length read.reads.spelled))
 
+  abbrev table : List Part
+  table = table_in before path
+
+  -- each line comes after it or before it
+  in_order : All (λ l. IsAfterLine l its_line
+      ⊎ ((l.at ≡ c.at) × (comes_before kept.kind table l.kind (table_of l) ≡ true))) (lines_of before h.ms)
+  in_order =
+      All-weaker (IsKnownAt adds)
+      (λ l. IsAfterLine l its_line ⊎ ((l.at ≡ c.at) × (comes_before kept.kind table l.kind (table_of l) ≡ true)))
+      (λ l known. subst (λ (own : Added). IsAfterLine l own
+      ⊎ ((l.at ≡ c.at) × (comes_before kept.kind (table_of own) l.kind (table_of l) ≡ true))) line_is
+      (kept.after l known)) (lines_of before h.ms) h.lines
+
   comes : ComesAhead before h.ms kept.kind its_line c
   comes = record {
-    after = All-weaker (IsKnownAt adds)
-        (λ l. IsAfterLine l its_line ⊎ ((l.at ≡ c.at) × (comes_before kept.kind l.kind ≡ true)))
-        (λ l known. subst (λ (own : Added). IsAfterLine l own
-        ⊎ ((l.at ≡ c.at) × (comes_before kept.kind l.kind ≡ true))) line_is (kept.after l known))
-        (lines_of before h.ms) h.lines;
+    after = in_order;
     lets = All-weaker (IsHeaderKnown adds) (LetsTable its_line)
         (λ f known. subst (λ (own : Added). LetsTable own f) line_is (kept.lets f known)) es h.headers_known;
     passed = λ other. All-weaker (IsKnownAt adds) (λ l. IsHeaderAt c.at l → All (LetsTable l) es) (passed other)
@@ -241,7 +293,7 @@ module _ (s : Document) (edits : List Edit) (n : ℕ) (old now : ProfiledText) (
 
   -- whether an edit comes behind the line
   abbrev comes_later : MadeEdit → Bool
-  comes_later = comes_behind before kept.kind c.at
+  comes_later = comes_behind before kept.kind table c.at
 
   abbrev ms : List MadeEdit
   ms = ahead comes_later h.ms one
@@ -253,19 +305,33 @@ module _ (s : Document) (edits : List Edit) (n : ℕ) (old now : ProfiledText) (
       (document_after before ms)
   goes_on = run_is_known now.profile limit before ms (editable now before read) r.still
 
+  table_is : table_by (outlined o) ≡ table
+  table_is = ap table_by kept.is ∙ ap without_last (sym insert_is.first_is)
+
+  alike_counted : kept.kind ≡ OfDotted
+      → All (λ l. is_above_at table c.at l ≡ is_shorter_at (length table) c.at l) (lines_of before h.ms)
+  alike_counted dotted =
+      All-weaker
+      (λ l. IsAfterLine l its_line ⊎ ((l.at ≡ c.at) × (comes_before kept.kind table l.kind (table_of l) ≡ true)))
+      (λ l. is_above_at table c.at l ≡ is_shorter_at (length table) c.at l)
+      (λ l order. above_is_shorter table c.at its_line (insert_is.kind_of_it ∙ dotted) refl refl l
+      (subst (λ (k : LineKind). IsAfterLine l its_line
+      ⊎ ((l.at ≡ c.at) × (comes_before k table l.kind (table_of l) ≡ true))) (sym insert_is.kind_of_it) order))
+      (lines_of before h.ms) in_order
+
   -- as many come behind it as are counted
-  many : length it.put.behind ≡ length (behind before kept.kind c.at h.ms)
+  many : length it.put.behind ≡ length (behind before kept.kind table c.at h.ms)
   many =
       it.put.many
-      ∙ subst (λ (own : Option LineKind). IsCountBehind adds own c.at (c.at == length now.text) it.count) kept.line_is
-      it.count_is
+      ∙ subst₂ (λ (own : Option LineKind) (q : List Part).
+      IsCountBehind adds q own c.at (c.at == length now.text) it.count) kept.line_is table_is it.count_is
       ∙ ap (λ (k : ℕ). k + (if c.at == length now.text then adds.appended else 0))
-      (lines_known adds (lines_of before h.ms) es h.counts kept.kind c.at)
-      ∙ ap (λ (bytes : List ℕ). lines_behind kept.kind c.at (lines_of before h.ms)
+      (lines_known adds (lines_of before h.ms) es h.counts kept.kind table c.at alike_counted)
+      ∙ ap (λ (bytes : List ℕ). lines_behind kept.kind table c.at (lines_of before h.ms)
       + (if c.at == length bytes then adds.appended else 0)) read.reads.spelled
-      ∙ ap (λ (k : ℕ). lines_behind kept.kind c.at (lines_of before h.ms)
+      ∙ ap (λ (k : ℕ). lines_behind kept.kind table c.at (lines_of before h.ms)
       + (if c.at == length (text before) then k else 0)) (sym h.counts.appended)
-      ∙ sym (counts_behind before kept.kind c.at h.ms)
+      ∙ sym (counts_behind before kept.kind table c.at h.ms)
 
   new_is : new ≡ changes_of ms
   new_is =
@@ -353,6 +419,13 @@ module _ (s : Document) (edits : List Edit) (n : ℕ) (old now : ProfiledText) (
 
   counts : IsCounted next_adds (lines_of before ms) (seen_of before ms)
   counts = record {
+    shorter = λ most i. omega (
+      arith,
+      lines_counted_ahead before comes_later one h.ms (is_shorter_at most i),
+      h.counts.shorter most i,
+      kept.counts.shorter most i,
+      its_counted (is_shorter_at most i),
+    );
     ends = λ i. omega (
       arith,
       lines_counted_ahead before comes_later one h.ms (is_end_at i),

@@ -36,7 +36,8 @@ use Rattle.keep_edit_spec.proofs.Shared.{run_is_known}
 use Rattle.keep_edit_plan.proofs.Shared.{editable}
 use Rattle.keep_edit_plan.specs.TextEdits.{IsChangeIn}
 use Rattle.keep_edit_plan.specs.declared.edit.Edit.{Edit}
-use Rattle.keep_edit_runs.specs.AddedLines.{IsCounted, IsHeaderKnown, IsKnownAt, brought_at, line_of, lines_by}
+use Rattle.keep_edit_runs.specs.AddedLines.{IsCounted, IsHeaderKnown, IsKnownAt, brought_at, is_shorter_at, line_of}
+use Rattle.keep_edit_runs.specs.AddedLines.{lines_by}
 use Rattle.keep_edit_runs.specs.Lists.{AreMade, IsEdit}
 use Rattle.keep_edit_plan.specs.Reading.{IsTextOfTree, ProfiledText, limit}
 use Rattle.keep_edit_runs.specs.Runs.{IsKnownThen, IsLineKept, IsRenamedBy, IsRunTo, IsSetBy}
@@ -256,6 +257,16 @@ module _ (s : Document) (edits : List Edit) (n : ℕ) (old now : ProfiledText) (
 
       counts : IsCounted next_adds (lines_of before ms) (seen_of before ms)
       counts = record {
+        shorter = λ most i. omega (
+          arith,
+          ap (count_by (is_shorter_at most i)) lines_are,
+          counted_more (is_shorter_at most i) its_line (lines_of before r.others),
+          counted_more (is_shorter_at most i) its_line [],
+          ap (count_by (is_shorter_at most i)) lines_same,
+          h.counts.shorter most i,
+          kept.counts.shorter most i,
+          its_counted (is_shorter_at most i),
+        );
         ends = λ i. omega (
           arith,
           ap (count_by (is_end_at i)) lines_are,

@@ -42,7 +42,8 @@ use Rattle.keep_edit_plan.specs.declared.edit.Edit.{Edit}
 use Rattle.keep_edit_plan.specs.declared.edit.Edit.TheVariants as edit
 use Rattle.keep_edit_plan.specs.declared.text_edit.TextEdit.{TextEdit}
 use Rattle.keep_edit_runs.specs.AddedLines.{HasTable, IsCounted, IsHeaderKnown, IsKnownAs, IsKnownAt, brought_at}
-use Rattle.keep_edit_runs.specs.Counts.{count_at}
+use Rattle.keep_edit_runs.specs.AddedLines.{is_shorter, is_shorter_at}
+use Rattle.keep_edit_runs.specs.Counts.{count_at, shorter_at}
 use Rattle.keep_edit_runs.specs.Lists.{AreMade, IsEdit}
 use Rattle.keep_edit_runs.specs.Newlines.{LeavesHere}
 use Rattle.keep_edit_runs.specs.Runs.{IsAddedFollowing, IsKeptBehind, IsRenamedBy, IsRunTo, IsSetBy, LeavesAlone}
@@ -293,6 +294,20 @@ module _ (s : Document) (edits : List Edit) (n : ℕ) (old now : ProfiledText) (
   -- and counted with those that come there
   line_counted : IsCounted next_adds (lines_of before ms) (seen_of before ms)
   line_counted = record {
+    shorter = λ most i.
+        let its : one_if ((t.at == i) && is_shorter most its_line.kind (table_of its_line)) ≡ 0 =
+        subst (λ (k : LineKind). one_if ((t.at == i) && is_shorter most k (table_of its_line)) ≡ 0) (sym kind)
+        (no_end (t.at == i)) in
+        let same : shorter_at next_adds.dotted.lengths most i ≡ shorter_at adds.dotted.lengths most i =
+        as_before (λ (next : AddedLines).
+        shorter_at next.dotted.lengths most i ≡ shorter_at adds.dotted.lengths most i) refl in
+        omega (
+          arith,
+          counted_more (is_shorter_at most i) its_line (lines_of before h.ms),
+          its,
+          h.counts.shorter most i,
+          same,
+        );
     ends = λ i.
         let its : one_if ((t.at == i) && is_last_in_body its_line.kind) ≡ 0 =
         subst (λ (k : LineKind). one_if ((t.at == i) && is_last_in_body k) ≡ 0) (sym kind) (no_end (t.at == i)) in

@@ -9,8 +9,10 @@ mod SeenPathLaws
 mod KnownLaws
 mod HeaderLaws
 mod KindLaws
+mod LengthLaws
 mod CountLaws
 mod LineLaws
+mod DottedLaws
 mod NewlineLaws
 mod NewlineSteps
 mod InRuns

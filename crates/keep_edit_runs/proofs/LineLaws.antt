@@ -1,48 +1,54 @@
 -- One line more, among those that edits of a list add which are made at once.
 --
 -- At another byte all is as it was (`known_still`). At this one the end of a body comes after all lines but one with a
--- header; a line of a table that dotted keys make after lines of that table alone, as there are no others; and a header
+-- header; a line of a table that dotted keys make after lines of that table and those below it, as there are no others:
+-- of two tables there one is that of the other or below it (`before_or_after`), and none has fewer steps; and a header
 -- after all other lines, as the first of its table. No appended header goes through its table, and none that is
 -- appended later is of the table. A line that comes where others have to come behind it comes before those alone: a
--- line of a table that dotted keys make before ends of bodies and headers, an end of a body before a header, and each
--- before headers that are appended.
+-- line of a table that dotted keys make before those of tables above it, ends of bodies and headers, an end of a body
+-- before a header, and each before headers that are appended.
 --
 -- Theorems: `end_kept`, `table_kept`, `header_kept`, `appended_kept`, `none_kept`; `end_ahead`, `table_ahead`,
 -- `header_ahead`: before what comes behind; `brought_same`, `headers_stay`, `lets_known`, `with_header`: of headers;
--- `others_by`: of what is kept.
-use Rattle.std.proofs.Common.{◌≡◌, ◌≢◌, ◌≤◌, ◌<◌, ◌∙◌, ◌==◌, ℕ, Bool, true, false, List, Option, Some, None, refl, sym}
-use Rattle.std.proofs.Common.{ap, subst, arith, eqb-true, inl, inr, map}
-use Rattle.std.specs.Prelude.{◌⊎◌}
+-- `by_number`, `others_by`: of what is kept.
+use Rattle.std.proofs.Common.{◌≡◌, ◌≢◌, ◌≤◌, ◌<◌, ◌+◌, ◌∙◌, ◌==◌, ℕ, Bool, true, false, List, [], ◌∷◌, ◌++◌, Option}
+use Rattle.std.proofs.Common.{Some, None, refl, sym, ap, ap₂, cond, subst, arith, eqb-true, inl, inr, length}
+use Rattle.std.proofs.Common.{length-append, map}
+use Rattle.std.specs.Prelude.{◌⊎◌, ◌&&◌, nat_lt}
 use Rattle.std.specs.List.{list_any}
-use Rattle.std.proofs.lemmas.Bool.{eq-eqb}
+use Rattle.std.proofs.lemmas.Bool.{eq-eqb, lt-ltb}
 use Rattle.keep_path.specs.Path.{Part, key, without_last}
 use Rattle.keep_edit_spec.specs.Edits as law
 use Rattle.keep_edit_spec.specs.InsertKinds.{Added, IsAfterLine, table_of}
-use Rattle.keep_edit_spec.specs.LinesAhead.{comes_before}
+use Rattle.keep_edit_spec.specs.DottedLines.{IsAtOrBelow}
+use Rattle.keep_edit_spec.specs.LinesAhead.{comes_before, is_below}
 use Rattle.keep_edit_spec.specs.Runs as runs
 use Rattle.keep_edit_spec.specs.Runs.{IsNoSecond, LetsTable, PassesBy, PassesTable, takes_up_to}
 use Rattle.keep_edit_spec.specs.TextChanges.{TextChange}
+use Rattle.keep_edit_spec.proofs.Shared.{below_more, left_below}
 use Rattle.keep_edit_spec.specs.declared.line_kind.LineKind.{LineKind}
 use Rattle.keep_edit_spec.specs.declared.line_kind.LineKind.TheVariants.{LastInBody, OfDotted, WithHeader}
-use Rattle.keep_edit_runs.specs.AddedLines.{HasTable, IsAloneKept, IsAppendedKept, IsCountedMore, IsEndKept, IsEndMore}
-use Rattle.keep_edit_runs.specs.AddedLines.{IsHeaderKept, IsHeaderKnown, IsKnownAs, IsKnownAt, IsSameOfHeaders}
-use Rattle.keep_edit_runs.specs.AddedLines.{IsTableKept, PassesHeaderAt, brought_at, dotted_at, line_of}
-use Rattle.keep_edit_runs.specs.Counts.{count_at}
+use Rattle.keep_edit_runs.specs.AddedLines.{HasTable, IsAppendedKept, IsCountedMore, IsEndKept, IsEndMore, IsHeaderKept}
+use Rattle.keep_edit_runs.specs.AddedLines.{IsHeaderKnown, IsKnownAs, IsKnownAt, IsSameOfHeaders, IsTableKept}
+use Rattle.keep_edit_runs.specs.AddedLines.{IsTableMore, PassesHeaderAt, brought_at, line_of}
+use Rattle.keep_edit_runs.specs.Counts.{count_at, shorter_at}
+use Rattle.keep_edit_runs.specs.DottedTables.{HasTableAt, IsDottedAt}
 use Rattle.keep_edit_runs.specs.Runs.{IsBroughtThen, IsKeptAhead, IsKnownThen, IsLineKept, IsNoSecondOf}
 use Rattle.keep_edit_runs.specs.Runs.{no_value, outlined}
 use Rattle.keep_edit_runs.specs.SeenHeaders.{HasHeader, HasMore, HasTableOf}
 use Rattle.keep_edit_runs.specs.declared.added_lines.AddedLines.{AddedLines}
 use Rattle.keep_edit_runs.specs.declared.counts.Counts.{Counts}
+use Rattle.keep_edit_runs.specs.declared.dotted_tables.DottedTables.{DottedTables}
 use Rattle.keep_edit_runs.specs.declared.outline.Outline.{Outline}
-use Rattle.keep_edit_runs.proofs.CountLaws.{counted, header_counted, insert_counted, no_fewer, none_counted, some_here}
-use Rattle.keep_edit_runs.proofs.CountLaws.{uncounted}
+use Rattle.keep_edit_runs.proofs.CountLaws.{counted, counted_table, header_counted, insert_counted, no_fewer}
+use Rattle.keep_edit_runs.proofs.CountLaws.{none_counted, same_tables, some_here, uncounted}
 use Rattle.keep_edit_runs.proofs.HeaderLaws.{header_differs, header_still, more_of_same, table_passed}
 
 -- ---- lines that were known
 
 -- where there are no fewer lines, and all tables are still there
 known_still : (old new : AddedLines) → ((n : ℕ) → count_at old.ends n ≤ count_at new.ends n)
-    → ((n : ℕ) (q : List Part) → dotted_at old n ≡ Some q → dotted_at new n ≡ Some q)
+    → ((n : ℕ) (q : List Part) → IsDottedAt old.dotted n q → IsDottedAt new.dotted n q)
     → ((n : ℕ) (q : List Part) → brought_at old n ≡ Some q → brought_at new n ≡ Some q)
     → ((q : List Part) → HasTable old q → HasTable new q) → HasMore old.headers new.headers
     → (l : Added) → IsKnownAt old l → IsKnownAt new l
@@ -55,7 +61,7 @@ known_still old new ends dotted brought tables more l known = by l.kind known
         (brought l.at (table_of l) h, (tables (table_of l) has, (first, more.brought (table_of l) one)))
 
 -- what holds where two numbers are one, and where they are not
-by_number : {P : Type 0} (n at : ℕ) → (n ≡ at → P) → (n ≢ at → P) → P
+pub by_number : {P : Type 0} (n at : ℕ) → (n ≡ at → P) → (n ≢ at → P) → P
 by_number {P = P} n at same other = by (n == at) refl
   where
     by : (b : Bool) → (n == at) ≡ b → P
@@ -63,8 +69,8 @@ by_number {P = P} n at same other = by (n == at) refl
     by false e = other (λ is. (let both : false ≡ true = sym e ∙ eq-eqb n at is in absurd cc))
 
 -- the same tables of dotted keys, and as many ends
-dotted_same : (old new : AddedLines) → new.dotted ≡ old.dotted → (n : ℕ) → dotted_at new n ≡ dotted_at old n
-dotted_same old new same n = ap (λ dotted. dotted_at (record old { dotted = dotted }) n) same
+dotted_same : (old new : DottedTables) → new ≡ old → (n : ℕ) (q : List Part) → IsDottedAt old n q → IsDottedAt new n q
+dotted_same old new same n q = subst (λ (tables : DottedTables). IsDottedAt tables n q) (sym same)
 
 ends_same : (old new : AddedLines) → new.ends ≡ old.ends → (n : ℕ) → count_at old.ends n ≤ count_at new.ends n
 ends_same old new same n =
@@ -80,7 +86,7 @@ module _ (old new : AddedLines) (same : IsSameOfHeaders old new) where
   headers_same = more_of_same old.headers new.headers same.headers
 
   others_stay : ((n : ℕ) → count_at old.ends n ≤ count_at new.ends n)
-      → ((n : ℕ) (q : List Part) → dotted_at old n ≡ Some q → dotted_at new n ≡ Some q)
+      → ((n : ℕ) (q : List Part) → IsDottedAt old.dotted n q → IsDottedAt new.dotted n q)
       → (l : Added) → IsKnownAt old l → IsKnownAt new l
   others_stay ends dotted =
       known_still old new ends dotted (λ n q h. brought_same n ∙ h)
@@ -176,13 +182,13 @@ lets_known added l passes (law.rename p name) h = tt
 module _ (old : AddedLines) (at : ℕ) (new : AddedLines) (k : IsEndMore old at new) where
   end_others : (l : Added) → IsKnownAt old l → IsKnownAt new l
   end_others =
-      others_stay old new k.same (no_fewer old.ends new.ends at k.one) (λ n q h. dotted_same old new k.dotted n ∙ h)
+      others_stay old new k.same (no_fewer old.ends new.ends at k.one) (dotted_same old.dotted new.dotted k.dotted)
 
   end_counted : (x : Outline) (first : List Part) → outlined x ≡ law.insert first no_value
       → IsCountedMore old (outlined x) at (Some LastInBody) new
   end_counted x first is =
-      insert_counted old x first at LastInBody new is (counted old.ends new.ends at k.one)
-      (uncounted old.headed new.headed at k.same.headed) k.same.appended
+      insert_counted old x first at LastInBody new is (same_tables old.dotted new.dotted at k.dotted)
+      (counted old.ends new.ends at k.one) (uncounted old.headed new.headed at k.same.headed) k.same.appended
 
 pub end_kept : (old : AddedLines) (changes : List TextChange) (x : Outline) (first : List Part) (at : ℕ)
     (new : AddedLines) → outlined x ≡ law.insert first no_value → IsEndKept old at new
@@ -208,47 +214,88 @@ end_kept old changes x first at new is k = record {
 
 -- ---- a line of a table that dotted keys make
 
-module _ (old : AddedLines) (at : ℕ) (table : List Part) (new : AddedLines) (k : IsAloneKept old at table new) where
-  -- the lines of such tables there are of this one
-  same_table : (n : ℕ) (q : List Part) → n ≡ at → dotted_at old n ≡ Some q → q ≡ table
-  same_table n q same h = elim k.free [
-    | inl none ↦ absurd (let both : None ≡ Some q = sym none ∙ here_is in cc)
-    | inr own ↦ (let both : Some q ≡ Some table = sym here_is ∙ own in cc)
-  ]
-    where
-      here_is : dotted_at old at ≡ Some q
-      here_is = subst (λ (m : ℕ). dotted_at old m ≡ Some q) same h
+-- Two paths with which one begins: the first is the second or below it, or the second is below the first.
+on_one : (q table more rest : List Part) → q ++ more ≡ table ++ rest
+    → IsAtOrBelow q table ⊎ ((p : Part) × ((ps : List Part) × (table ≡ q ++ p ∷ ps)))
+on_one q [] more rest same = inl (q, refl)
+on_one [] (p ∷ table) more rest same = inr (p, (table, refl))
+on_one (x ∷ q) (p ∷ table) more rest same =
+    let first : x ≡ p = cc in
+    let later : q ++ more ≡ table ++ rest = cc in
+    elim (on_one q table more rest later) [
+      | inl (left, is) ↦ inl (left, ap₂ (λ (a : Part) (l : List Part). a ∷ l) first is)
+      | inr (a, (rest, is)) ↦ inr (a, (rest, ap₂ (λ (b : Part) (l : List Part). b ∷ l) (sym first) is))
+    ]
 
-  tables_stay : (n : ℕ) (q : List Part) → dotted_at old n ≡ Some q → dotted_at new n ≡ Some q
-  tables_stay n q h =
-      by_number n at
-      (λ same. ap (λ (m : ℕ). dotted_at new m) same ∙ k.here
-      ∙ ap (λ (p : List Part). Some p) (sym (same_table n q same h)))
-      (λ other. k.others n other ∙ h)
+module _ (old : AddedLines) (at : ℕ) (table : List Part) (new : AddedLines) (k : IsTableMore old at table new) where
+  tables_stay : (n : ℕ) (q : List Part) → IsDottedAt old.dotted n q → IsDottedAt new.dotted n q
+  tables_stay n q h = record {
+    there = k.dotted.others n q h.there;
+    counted = λ most less. omega (arith, h.counted most less, k.dotted.one most n);
+  }
+
+  table_here : IsDottedAt new.dotted at table
+  table_here = record {
+    there = k.dotted.here;
+    counted = λ most less.
+        (let one : shorter_at new.dotted.lengths most at ≡ 1 + shorter_at old.dotted.lengths most at =
+        k.dotted.one most at
+        ∙ ap₂ (λ (b c : Bool). cond (b && c) 1 0 + shorter_at old.dotted.lengths most at) (eq-eqb at at refl)
+        (lt-ltb (length table) most less) in
+        omega (arith, one));
+  }
 
   table_others : (l : Added) → IsKnownAt old l → IsKnownAt new l
   table_others = others_stay old new k.same (ends_same old new k.ends) tables_stay
 
-  -- a line of such a table that is there is of this one
-  table_after : (l : Added) → IsKnownAs OfDotted old l → l.at ≡ at → table_of l ≡ table
-  table_after l h same = same_table l.at (table_of l) same h
+  -- The table of a line there is this one or below it, or this one is below that.
+  before_or_after : (q : List Part) → HasTableAt old.dotted at q → IsAtOrBelow q table ⊎ (is_below table q ≡ true)
+  before_or_after q h =
+      let (longest, (is, (more, on))) = k.dotted.others at q h in
+      let (other, (its, (rest, own))) = k.dotted.here in
+      let both : Some longest ≡ Some other = sym is ∙ its in
+      let same : longest ≡ other = cc in
+      elim (on_one q table more rest (sym on ∙ same ∙ own)) [
+        | inl within ↦ inl within
+        | inr (p, (ps, far)) ↦ inr (left_below table q p ps far)
+      ]
 
   table_counted : (x : Outline) (first : List Part) → outlined x ≡ law.insert first no_value
-      → IsCountedMore old (outlined x) at (Some OfDotted) new
-  table_counted x first is =
-      insert_counted old x first at OfDotted new is (uncounted old.ends new.ends at k.ends)
-      (uncounted old.headed new.headed at k.same.headed) k.same.appended
+      → table ≡ without_last first → IsCountedMore old (outlined x) at (Some OfDotted) new
+  table_counted x first is table_is =
+      insert_counted old x first at OfDotted new is
+      (λ most n. counted_table old.dotted new.dotted at table k.dotted.one most n
+      ∙ ap (λ (p : List Part). (0 + cond ((at == n) && nat_lt (length p) most) 1 0)
+      + shorter_at old.dotted.lengths most n) table_is)
+      (uncounted old.ends new.ends at k.ends) (uncounted old.headed new.headed at k.same.headed) k.same.appended
 
--- where none ends a body, and none has a header
+-- Where no line has fewer steps, each is of this table or below it.
+table_after : (old : AddedLines) (at : ℕ) (table : List Part) (new : AddedLines) → IsTableKept old at table new
+    → (l : Added) → IsKnownAs OfDotted old l → l.at ≡ at → IsAtOrBelow (table_of l) table
+table_after old at table new k l h same =
+    elim (before_or_after old at table new k.more (table_of l)
+    (subst (λ (n : ℕ). HasTableAt old.dotted n (table_of l)) same h.there)) [
+      | inl within ↦ within
+      | inr below ↦
+          (let (p, (ps, far)) = below_more table (table_of l) below in
+          let some : 0 < shorter_at old.dotted.lengths (length table) at =
+          subst (λ (n : ℕ). 0 < shorter_at old.dotted.lengths (length table) n) same
+          (h.counted (length table)
+          (omega (arith, ap length far, length-append (table_of l) (p ∷ ps)))) in
+          absurd (omega (arith, some, k.shortest)))
+    ]
+
+-- so it is where none ends a body, and none has a header
 only_table : (old : AddedLines) (at : ℕ) (table : List Part) (new : AddedLines) → IsTableKept old at table new
-    → (l : Added) → IsKnownAt old l → l.at ≡ at → (l.kind ≡ OfDotted) × (table_of l ≡ table)
+    → (l : Added) → IsKnownAt old l → l.at ≡ at → (l.kind ≡ OfDotted) × IsAtOrBelow (table_of l) table
 only_table old at table new k l known same = by l.kind refl known
   where
-    by : (kind : LineKind) → l.kind ≡ kind → IsKnownAs kind old l → (l.kind ≡ OfDotted) × (table_of l ≡ table)
+    by : (kind : LineKind) → l.kind ≡ kind → IsKnownAs kind old l
+        → (l.kind ≡ OfDotted) × IsAtOrBelow (table_of l) table
     by LastInBody is h =
         let some : 0 < count_at old.ends at = subst (λ (n : ℕ). 0 < count_at old.ends n) same h in
         absurd (omega (arith, some, k.endless))
-    by OfDotted is h = (is, table_after old at table new k.alone l h same)
+    by OfDotted is h = (is, table_after old at table new k l h same)
     by WithHeader is h = absurd (none_there old at l k.free known is same)
 
 pub table_kept : (old : AddedLines) (changes : List TextChange) (x : Outline) (first table : List Part) (at : ℕ)
@@ -256,8 +303,8 @@ pub table_kept : (old : AddedLines) (changes : List TextChange) (x : Outline) (f
     → list_any (takes_up_to at) changes ≡ false → IsTableKept old at table new
     → IsLineKept old changes x at (Some OfDotted) new
 table_kept old changes x first table at new is table_is clear k = record {
-  others = table_others old at table new k.alone;
-  headers = headers_stay old new (headers_same old new k.alone.same);
+  others = table_others old at table new k.more;
+  headers = headers_stay old new (headers_same old new k.more.same);
   own = λ path kind same line.
       let own : law.insert first no_value ≡ law.insert path no_value = sym is ∙ same in
       let path_is : first ≡ path = cc in
@@ -267,13 +314,14 @@ table_kept old changes x first table at new is table_is clear k = record {
         stays = λ differs. clear;
         passed = λ e known. lets_headless (line_of path at OfDotted) (λ headed. absurd cc) e;
         after = λ l known same_at.
-            let (of, there) = only_table old at table new k l known same_at in (of, there ∙ its);
-        here = k.alone.here ∙ ap (λ (p : List Part). Some p) its;
+            let (of, there) = only_table old at table new k l known same_at in
+            (of, subst (IsAtOrBelow (table_of l)) its there);
+        here = subst (IsDottedAt new.dotted at) its (table_here old at table new k.more);
       });
-  brought = brought_then old new k.alone.same x at (Some OfDotted);
-  follower = k.alone.same.follower;
-  counts = table_counted old at table new k.alone x first is;
-  tables = tables_still old new (headers_same old new k.alone.same);
+  brought = brought_then old new k.more.same x at (Some OfDotted);
+  follower = k.more.same.follower;
+  counts = table_counted old at table new k.more x first is table_is;
+  tables = tables_still old new (headers_same old new k.more.same);
   passes = λ l known. no_header (outlined x) (ap runs.is_header is) l;
   header = unheaded new (outlined x) (ap runs.is_header is);
 }
@@ -283,7 +331,7 @@ table_kept old changes x first table at new is table_is clear k = record {
 module _ (old : AddedLines) (at : ℕ) (table : List Part) (new : AddedLines) (k : IsHeaderKept old at table new) where
   header_others : (l : Added) → IsKnownAt old l → IsKnownAt new l
   header_others =
-      known_still old new (ends_same old new k.ends) (λ n q h. dotted_same old new k.dotted n ∙ h) brought_still k.more
+      known_still old new (ends_same old new k.ends) (dotted_same old.dotted new.dotted k.dotted) brought_still k.more
       k.brought.more
     where
       brought_still : (n : ℕ) (q : List Part) → brought_at old n ≡ Some q → brought_at new n ≡ Some q
@@ -322,8 +370,8 @@ module _ (old : AddedLines) (at : ℕ) (table : List Part) (new : AddedLines) (k
   header_counted_more : (x : Outline) (first : List Part) → outlined x ≡ law.insert first no_value
       → IsCountedMore old (outlined x) at (Some WithHeader) new
   header_counted_more x first is =
-      insert_counted old x first at WithHeader new is (uncounted old.ends new.ends at k.ends)
-      (counted old.headed new.headed at k.one) k.appended
+      insert_counted old x first at WithHeader new is (same_tables old.dotted new.dotted at k.dotted)
+      (uncounted old.ends new.ends at k.ends) (counted old.headed new.headed at k.one) k.appended
 
 pub header_kept : (old : AddedLines) (changes : List TextChange) (x : Outline) (first table : List Part) (at : ℕ)
     (new : AddedLines) → outlined x ≡ law.insert first no_value → table ≡ without_last first
@@ -356,7 +404,15 @@ header_kept old changes x first table at new is table_is clear k = record {
 -- l comes before such a line, or behind it
 abbrev AfterOrBefore : LineKind → List Part → ℕ → Added → Type 0
 AfterOrBefore kind first at l =
-    IsAfterLine l (line_of first at kind) ⊎ ((l.at ≡ at) × (comes_before kind l.kind ≡ true))
+    IsAfterLine l (line_of first at kind)
+    ⊎ ((l.at ≡ at) × (comes_before kind (without_last first) l.kind (table_of l) ≡ true))
+
+-- by the kind of l
+ahead_by : (kind of : LineKind) (first : List Part) (l : Added) → l.kind ≡ of
+    → comes_before kind (without_last first) of (table_of l) ≡ true
+    → comes_before kind (without_last first) l.kind (table_of l) ≡ true
+ahead_by kind of first l its =
+    subst (λ (k : LineKind). comes_before kind (without_last first) k (table_of l) ≡ true) (sym its)
 
 -- one that ends a body
 pub end_ahead : (old : AddedLines) (changes : List TextChange) (x : Outline) (first : List Part) (at : ℕ)
@@ -385,14 +441,14 @@ end_ahead old changes x first at is_at_end new is passed clear k = record {
     by l LastInBody its = inl (λ there headed. (let both : LastInBody ≡ WithHeader = sym its ∙ headed in absurd cc))
     by l OfDotted its = inl (λ there headed. (let both : OfDotted ≡ WithHeader = sym its ∙ headed in absurd cc))
     by l WithHeader its =
-        by_number l.at at (λ there. inr (there, ap (comes_before LastInBody) its))
+        by_number l.at at (λ there. inr (there, ahead_by LastInBody WithHeader first l its refl))
         (λ other. inl (λ there headed. other there))
 
 -- one of a table that dotted keys make
 pub table_ahead : (old : AddedLines) (changes : List TextChange) (x : Outline) (first table : List Part) (at : ℕ)
     (is_at_end : Bool) (new : AddedLines) → outlined x ≡ law.insert first no_value → table ≡ without_last first
     → (is_at_end ≡ false → PassesHeaderAt old at) → list_any (takes_up_to at) changes ≡ false
-    → IsAloneKept old at table new → IsKeptAhead old changes x at (Some OfDotted) is_at_end new
+    → IsTableMore old at table new → IsKeptAhead old changes x at (Some OfDotted) is_at_end new
 table_ahead old changes x first table at is_at_end new is table_is passed clear k = record {
   passed = passed;
   clear = clear;
@@ -402,22 +458,33 @@ table_ahead old changes x first table at is_at_end new is table_is passed clear 
   line_is = refl;
   lets = λ e known. lets_headless (line_of first at OfDotted) (λ headed. absurd cc) e;
   after = λ l known. by l l.kind refl known;
-  here = k.here ∙ ap (λ (p : List Part). Some p) table_is;
+  here = subst (IsDottedAt new.dotted at) table_is (table_here old at table new k);
   others = table_others old at table new k;
   headers = headers_stay old new (headers_same old new k.same);
   brought = brought_then old new k.same x at (Some OfDotted);
   follower = k.same.follower;
-  counts = table_counted old at table new k x first is;
+  counts = table_counted old at table new k x first is table_is;
   tables = tables_still old new (headers_same old new k.same);
 }
   where
     by : (l : Added) (kind : LineKind) → l.kind ≡ kind → IsKnownAs kind old l → AfterOrBefore OfDotted first at l
     by l LastInBody its h =
-        by_number l.at at (λ there. inr (there, ap (comes_before OfDotted) its))
+        by_number l.at at (λ there. inr (there, ahead_by OfDotted LastInBody first l its refl))
         (λ other. inl (λ there. absurd (other there)))
-    by l OfDotted its h = inl (λ there. (its, table_after old at table new k l h there ∙ table_is))
+    by l OfDotted its h =
+        by_number l.at at
+        (λ there. elim (before_or_after old at table new k (table_of l)
+        (subst (λ (n : ℕ). HasTableAt old.dotted n (table_of l)) there h.there)) [
+          | inl within ↦ inl (λ same. (its, subst (IsAtOrBelow (table_of l)) table_is within))
+          | inr below ↦ inr (
+            there,
+            ahead_by OfDotted OfDotted first l its
+                (subst (λ (p : List Part). is_below p (table_of l) ≡ true) table_is below),
+          )
+        ])
+        (λ other. inl (λ there. absurd (other there)))
     by l WithHeader its h =
-        by_number l.at at (λ there. inr (there, ap (comes_before OfDotted) its))
+        by_number l.at at (λ there. inr (there, ahead_by OfDotted WithHeader first l its refl))
         (λ other. inl (λ there. absurd (other there)))
 
 -- one with a header, before those that are appended
@@ -467,14 +534,15 @@ pub appended_kept : (old : AddedLines) (changes : List TextChange) (x : Outline)
     → IsLineKept old changes x at line new
 appended_kept old changes x at line keys new appends k = record {
   others = known_still old new (ends_same old new ends_are)
-      (λ n q h. dotted_same old new (ap (λ (a : AddedLines). a.dotted) k.rest) n ∙ h) (λ n q h. brought_are n ∙ h)
+      (dotted_same old.dotted new.dotted (ap (λ (a : AddedLines). a.dotted) k.rest)) (λ n q h. brought_are n ∙ h)
       (λ q. subst (λ tables. HasTable (record old { tables = tables }) q)
       (sym (ap (λ (a : AddedLines). a.tables) k.rest))) k.appends.more;
   headers = headers_stay old new k.appends.more;
   own = λ first kind is its. absurd (no_insert appends is);
   brought = λ n table is. inl (sym (brought_are n) ∙ is);
   follower = ap (λ (a : AddedLines). a.has_follower) k.rest;
-  counts = header_counted old x at line new (λ first is. no_insert appends is) (is_one appends) ends_are
+  counts = header_counted old x at line new (λ first is. no_insert appends is) (is_one appends)
+      (ap (λ (a : AddedLines). a.dotted) k.rest) ends_are
       (ap (λ (a : AddedLines). a.headed) k.rest) k.one;
   tables = tables_still old new k.appends.more;
   passes = λ l known. by l appends (λ headed. header_differs old.headers keys (table_of l)

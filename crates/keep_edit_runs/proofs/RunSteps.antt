@@ -54,7 +54,7 @@ use Rattle.keep_edit_plan.proofs.Shared.{change_in, editable, one_tree}
 use Rattle.keep_edit_plan.specs.TextEdits.{IsChangeIn, change_of}
 use Rattle.keep_edit_plan.specs.declared.edit.Edit.{Edit}
 use Rattle.keep_edit_plan.specs.declared.text_edit.TextEdit.{TextEdit}
-use Rattle.keep_edit_runs.specs.AddedLines.{IsCounted, IsHeaderKnown, IsKnownAt, brought_at, lines_by}
+use Rattle.keep_edit_runs.specs.AddedLines.{IsCounted, IsHeaderKnown, IsKnownAt, brought_at, is_shorter_at, lines_by}
 use Rattle.keep_edit_runs.specs.Lists.{IsEdit, AreMade}
 use Rattle.keep_edit_runs.specs.Newlines.{LeavesHere}
 use Rattle.keep_edit_plan.specs.Reading.{limit, IsTextOfTree, ProfiledText}
@@ -455,6 +455,12 @@ module _ (before : Document) (es : List law.Edit) (changes : List TextChange) (l
   pub counted_with : IsCounted adds lines es → (f : law.Edit) → runs.seen before f ≡ a → IsOfKind before f line
       → IsCounted next_adds (with_line before f c lines) (runs.seen before f ∷ es)
   counted_with counts f same of = record {
+    shorter = λ most n. omega (
+      arith,
+      line_counted (is_shorter_at most n) f same of,
+      counts.shorter most n,
+      kept.counts.shorter most n,
+    );
     ends = λ n. omega (arith, line_counted (is_end_at n) f same of, counts.ends n, kept.counts.ends n);
     headed = λ n. omega (arith, line_counted (is_headed_at n) f same of, counts.headed n, kept.counts.headed n);
     appended =

@@ -41,7 +41,7 @@ use Rattle.keep_edit_plan.proofs.Shared.{change_in, editable}
 use Rattle.keep_edit_plan.specs.TextEdits.{HasChange, IsChangeIn, IsReplaced, change_of}
 use Rattle.keep_edit_plan.specs.declared.edit.Edit.{Edit}
 use Rattle.keep_edit_plan.specs.declared.text_edit.TextEdit.{TextEdit}
-use Rattle.keep_edit_runs.specs.AddedLines.{IsCounted, IsHeaderKnown, IsKnownAt}
+use Rattle.keep_edit_runs.specs.AddedLines.{IsCounted, IsHeaderKnown, IsKnownAt, is_shorter_at}
 use Rattle.keep_edit_runs.specs.Lists.{AreMade, IsEdit}
 use Rattle.keep_edit_plan.specs.Reading.{limit, IsTextOfTree, ProfiledText}
 use Rattle.keep_edit_runs.specs.Runs.{IsRunTo, SetsAgainHere, changed_text}
@@ -108,6 +108,7 @@ pub counted_too : (added : AddedLines) (old new : List Added) (es others : List 
     → count_by runs.is_header es ≡ count_by runs.is_header others → IsCounted added old es
     → IsCounted added new others
 counted_too added old new es others same as_many counts = record {
+  shorter = λ most n. ap (count_by (is_shorter_at most n)) (sym same) ∙ counts.shorter most n;
   ends = λ n. ap (count_by (is_end_at n)) (sym same) ∙ counts.ends n;
   headed = λ n. ap (count_by (is_headed_at n)) (sym same) ∙ counts.headed n;
   appended = sym as_many ∙ counts.appended;

@@ -89,7 +89,12 @@ module _ (adds : AddedLines) (more : SeenHeaders) (on : HasMore adds.headers mor
       by WithHeader (here, (has, (first, one))) = (here, (has, (first, on.brought (table_of l) one)))
 
   same_counts : (lines : List Added) (es : List law.Edit) → IsCounted adds lines es → IsCounted next lines es
-  same_counts lines es h = record { ends = h.ends; headed = h.headed; appended = h.appended }
+  same_counts lines es h = record {
+    shorter = h.shorter;
+    ends = h.ends;
+    headed = h.headed;
+    appended = h.appended;
+  }
 
   module _ (s : Document) (edits : List Edit) (n : ℕ) (old now : ProfiledText) (before : Document)
       (outlines : List Outline) (changes : List TextChange) where

@@ -8,6 +8,7 @@ pub mod SeenPaths
 pub mod ValueAfter
 pub mod Again
 pub mod SeenHeaders
+pub mod DottedTables
 pub mod AddedLines
 pub mod GoneBetween
 pub mod KindsRun

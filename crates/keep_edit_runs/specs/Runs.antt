@@ -14,7 +14,7 @@ use Rattle.keep_edit_spec.specs.BroughtHeaders.{BringsLine}
 use Rattle.keep_edit_spec.specs.AddedItems.{AddsNextItem, IsItemRun, item_path}
 use Rattle.keep_edit_spec.specs.Edits as law
 use Rattle.keep_edit_spec.specs.EntryEdits.{MakesSet}
-use Rattle.keep_edit_spec.specs.InsertKinds.{Added, IsAfterLine, IsHeaderAt, kind_of}
+use Rattle.keep_edit_spec.specs.InsertKinds.{Added, IsAfterLine, IsHeaderAt, kind_of, table_of}
 use Rattle.keep_edit_spec.specs.Laws.{IsEditable}
 use Rattle.keep_edit_spec.specs.LinesAhead.{comes_before}
 use Rattle.keep_edit_spec.specs.LinesInPlace.{IsPutBefore}
@@ -33,7 +33,7 @@ use Rattle.keep_edit_spec.specs.declared.line_kind.LineKind.TheVariants.{LastInB
 use Rattle.keep_edit_plan.specs.Headers.{key_texts}
 use Rattle.keep_edit_plan.specs.TextEdits.{HasChange, IsPutAhead, MakesChangeHere, change_of}
 use Rattle.keep_edit_runs.specs.AddedLines.{IsCountBehind, IsCounted, IsCountedMore, IsHeaderKnown, IsKnownAt}
-use Rattle.keep_edit_runs.specs.AddedLines.{PassesHeaderAt, brought_at, line_of}
+use Rattle.keep_edit_runs.specs.AddedLines.{PassesHeaderAt, brought_at, line_of, table_by}
 use Rattle.keep_edit_runs.specs.Counts.{IsOneMore}
 use Rattle.keep_edit_plan.specs.Answers.{IsSpanOf}
 use Rattle.keep_edit_runs.specs.Gone.{IsGoneWith}
@@ -169,7 +169,8 @@ pub record IsKeptAhead (old : AddedLines) (changes : List TextChange) (x : Outli
   pub line_is : line ≡ Some kind
   pub lets : (e : law.Edit) → IsHeaderKnown old e → LetsTable (line_of first at kind) e
   pub after : (l : Added) → IsKnownAt old l
-      → IsAfterLine l (line_of first at kind) ⊎ ((l.at ≡ at) × (comes_before kind l.kind ≡ true))
+      → IsAfterLine l (line_of first at kind)
+      ⊎ ((l.at ≡ at) × (comes_before kind (without_last first) l.kind (table_of l) ≡ true))
   pub here : IsKnownAt new (line_of first at kind)
   pub others : (l : Added) → IsKnownAt old l → IsKnownAt new l
   pub headers : (e : law.Edit) → IsHeaderKnown old e → IsHeaderKnown new e
@@ -192,7 +193,7 @@ pub record IsAddedAhead (now : ProfiledText) (old : AddedLines) (changes : List 
     (c : TextChange) (line : Option LineKind) (new : AddedLines) (with_it : List TextChange) : Type 0 where
   pub kept : IsKeptAhead old changes x c.at line (c.at == length now.text) new
   pub count : ℕ
-  pub count_is : IsCountBehind old line c.at (c.at == length now.text) count
+  pub count_is : IsCountBehind old (table_by (outlined x)) line c.at (c.at == length now.text) count
   pub some : 0 < count
   pub put : IsPutAhead changes c count with_it
   pub leaves : LeavesHere now c

@@ -4,15 +4,17 @@
 //! Of lines that come at one byte those of a table that dotted keys make come first, then those that end a body, then
 //! one with a header, and lines of the header's table behind it; and all come before headers that are appended at the
 //! end of the text. A line that comes later than others there comes behind those of its kind and before the next kind.
-//! Two tables that dotted keys make have no lines at one byte, and two headers don't come to one. A header that is
-//! appended is none of a table whose header came with a line, and goes through no table whose header comes later.
-ghost use Rattle.std.specs.Prelude.{◌≡◌, ℕ, [], IfSome, IsTrue, List, None, false};
+//! Of tables that dotted keys make lines of those with more steps come first; each is on the way to the longest there.
+//! Two headers don't come to one byte. A header that is appended is none of a table whose header came with a line, and
+//! goes through no table whose header comes later.
+ghost use Rattle.std.specs.Prelude.{◌≡◌, ℕ, [], IfSome, IsTrue, List, None, false, length};
 ghost use Rattle.keep_edit_plan.specs.Headers.{key_texts};
 ghost use Rattle.keep_edit_plan.specs.TextEdits.{change_of};
-ghost use Rattle.keep_edit_runs.specs.AddedLines.{IsAloneKept, IsAppendedKept, IsCountBehind, IsCounted, IsEndKept};
-ghost use Rattle.keep_edit_runs.specs.AddedLines.{IsHeaderKept, IsHeaderLast, IsKnownAt, IsTableBelow, IsTableKept};
-ghost use Rattle.keep_edit_runs.specs.AddedLines.{PassesHeaderAt, brought_at};
-ghost use Rattle.keep_edit_runs.specs.Runs.{IsKeptAhead, IsKeptBehind, IsLineKept, IsOfBrought};
+ghost use Rattle.keep_edit_runs.specs.AddedLines.{IsAppendedKept, IsCountBehind, IsCounted, IsEndKept, IsHeaderKept};
+ghost use Rattle.keep_edit_runs.specs.AddedLines.{IsHeaderLast, IsKnownAt, IsTableBelow, IsTableKept, PassesHeaderAt};
+ghost use Rattle.keep_edit_runs.specs.AddedLines.{brought_at, table_by};
+ghost use Rattle.keep_edit_runs.specs.Counts.{shorter_at};
+ghost use Rattle.keep_edit_runs.specs.Runs.{IsKeptAhead, IsKeptBehind, IsLineKept, IsOfBrought, outlined};
 ghost use Rattle.keep_edit_runs.specs.SeenHeaders.{HasAppended};
 ghost use Rattle.keep_path.specs.Path.{Part};
 ghost use Rattle.keep_edit_spec.specs.InsertKinds.{Added};
@@ -20,6 +22,7 @@ ghost use Rattle.keep_edit_spec.specs.InsertKinds.{Added};
 use crate::alike::is_same;
 use crate::at_once::{AtOnce, RunEdit};
 use crate::counts::Counts;
+use crate::dotted_tables::DottedTables;
 use crate::outline::{Outline, Steps};
 use crate::seen::number_of;
 use crate::seen_headers::SeenHeaders;
@@ -30,8 +33,8 @@ use std::collections::{HashMap, HashSet};
 /// The lines that edits add, and the headers that they append.
 #[derive(Drop)]
 pub struct AddedLines<'a> {
-    /// The table of the lines at a byte that dotted keys make.
-    dotted: HashMap<usize, Steps<'a>>,
+    /// The tables of lines that dotted keys make.
+    dotted: DottedTables<'a>,
     /// How many lines at a byte end a body.
     ends: Counts,
     /// The table whose header comes at a byte, with its line, behind the lines there.
@@ -57,7 +60,7 @@ impl<'a> AddedLines<'a> {
         ensures headers { (path : List Part) → ¬ HasAppended result.headers path }
     {
         AddedLines {
-            dotted: HashMap::new(alloc),
+            dotted: DottedTables::new(alloc),
             ends: Counts::new(alloc),
             brought: HashMap::new(alloc),
             headed: Counts::new(alloc),
@@ -93,8 +96,9 @@ impl<'a> AddedLines<'a> {
     /// Keeps the line that an edit adds where lines and headers come that have to come behind it, after these edits, so
     /// that it comes before them. Returns whether it is kept: not if the edits take the byte before it; nor where a
     /// header appended among them is of the table of a header that comes there with a line, or goes through it, unless
-    /// all come at the end of the text; nor one of another table that dotted keys make than that of lines there; nor
-    /// one with a header, by the same as in `keep_line`; nor any where memory was refused.
+    /// all come at the end of the text; nor one of a table that dotted keys make which is neither the longest of lines
+    /// there, nor on the way to that, nor below it; nor one with a header, by the same as in `keep_line`; nor any where
+    /// memory was refused.
     pub fn keep_ahead(
         &mut self,
         so_far: &AtOnce,
@@ -112,7 +116,7 @@ impl<'a> AddedLines<'a> {
         match (outline, edit.line) {
             (Outline::Insert(_), Some(LineKind::LastInBody)) => self.ends.add(at),
             (Outline::Insert(first), Some(LineKind::OfDotted)) => {
-                self.keep_alone(at, first.parent())
+                self.dotted.add(at, first.parent())
             }
             (Outline::Insert(first), Some(LineKind::WithHeader)) => {
                 self.keep_header(at, first.parent())
@@ -185,18 +189,37 @@ impl<'a> AddedLines<'a> {
 
     /// How many lines and headers have to come behind the line that an edit adds, at its byte; 0 if it adds none. None
     /// where they are too many to be counted.
-    pub fn count_behind(&self, edit: &RunEdit, is_at_end: bool) -> Option<usize>
-        ensures { IfSome result
-            (IsCountBehind self.now edit.now.line (change_of edit.now.change).at is_at_end) }
+    pub fn count_behind(
+        &self,
+        outline: &Outline<'a>,
+        edit: &RunEdit,
+        is_at_end: bool,
+    ) -> Option<usize>
+        ensures { IfSome result (IsCountBehind self.now (table_by (outlined outline.now)) edit.now.line
+            (change_of edit.now.change).at is_at_end) }
     {
         let at = edit.change.place.start;
         let lines = match edit.line {
-            Some(LineKind::OfDotted) => self.ends.at(at).checked_add(self.headed.at(at))?,
+            Some(LineKind::OfDotted) => self
+                .count_above(outline, at)?
+                .checked_add(self.ends.at(at))?
+                .checked_add(self.headed.at(at))?,
             Some(LineKind::LastInBody) => self.headed.at(at),
             Some(LineKind::WithHeader) => 0,
             None => return Some(0),
         };
         lines.checked_add(if is_at_end { self.appended } else { 0 })
+    }
+
+    /// How many lines at a byte are of tables with fewer steps than that into which an insert adds a line.
+    fn count_above(&self, outline: &Outline<'a>, at: usize) -> Option<usize>
+        ensures { IfSome result (λ count. count ≡ shorter_at self.now.dotted.lengths
+            (length (table_by (outlined outline.now))) at) }
+    {
+        match outline {
+            Outline::Insert(first) => self.dotted.count_shorter(at, &first.parent()),
+            _ => None,
+        }
     }
 
     /// Whether no header comes with a line at a byte, or no header that is appended among these edits is of its table
@@ -233,23 +256,14 @@ impl<'a> AddedLines<'a> {
         !self.has_header_at(at) && self.ends.add(at)
     }
 
-    /// Keeps a table as the one of the lines at a byte that dotted keys make. Returns whether it is: it is not where
-    /// there are others, or lines that end a body, or a header, nor where memory was refused.
+    /// Keeps a line of a table that dotted keys make, behind all at a byte. Returns whether it is kept: it is not where
+    /// there are lines of tables with fewer steps, or of any that is neither on the way to its own nor below it, or
+    /// lines that end a body, or a header, nor where memory was refused.
     fn keep_table(&mut self, at: usize, table: Steps<'a>) -> bool
         ensures { IsTrue result → IsTableKept self.old at table.entry self.new }
     {
-        !self.has_header_at(at) && self.ends.at(at) == 0 && self.keep_alone(at, table)
-    }
-
-    /// Keeps a table as the one of the lines at a byte that dotted keys make. Returns whether it is: it is not where
-    /// there is another, nor where memory was refused.
-    fn keep_alone(&mut self, at: usize, table: Steps<'a>) -> bool
-        ensures { IsTrue result → IsAloneKept self.old at table.entry self.new }
-    {
-        match self.dotted.get(&at) {
-            Some(other) => is_same(other, &table),
-            None => self.dotted.insert(at, table).is_ok(),
-        }
+        let is_last = matches!(self.dotted.count_shorter(at, &table), Some(0));
+        is_last && !self.has_header_at(at) && self.ends.at(at) == 0 && self.dotted.add(at, table)
     }
 
     /// Keeps that the header of a table comes at a byte. Returns whether it is kept: a second one there, or of that

@@ -1,6 +1,6 @@
-//! How many lines come at each byte.
-ghost use Rattle.std.specs.Prelude.{◌≡◌, ℕ, IsTrue};
-ghost use Rattle.keep_edit_runs.specs.Counts.{IsOneMore, count_at};
+//! How many lines come at each byte, and of which lengths their tables are.
+ghost use Rattle.std.specs.Prelude.{◌≡◌, ◌<◌, ℕ, IfSome, IsTrue, length};
+ghost use Rattle.keep_edit_runs.specs.Counts.{IsOneMore, IsOneOfLength, count_at, shorter_at};
 
 use std::alloc::Global;
 use std::collections::HashMap;
@@ -39,5 +39,62 @@ impl Counts {
             Some(more) => self.counts.insert(at, more).is_ok(),
             None => false,
         }
+    }
+}
+
+/// How many lines come at each byte, by the lengths of their tables.
+#[derive(Drop)]
+pub struct LengthCounts {
+    /// Those of each length, from 0 on.
+    counts: Vec<Counts>,
+    alloc: Global,
+}
+
+impl LengthCounts {
+    /// None yet. It takes no memory.
+    pub fn new(alloc: Global) -> LengthCounts
+        ensures { (most at : ℕ) → shorter_at result most at ≡ 0 }
+    {
+        LengthCounts {
+            counts: Vec::new(alloc),
+            alloc,
+        }
+    }
+
+    /// How many at a byte have fewer steps than so many. None where they are too many to be counted.
+    pub fn shorter(&self, at: usize, most: usize) -> Option<usize>
+        ensures { IfSome result (λ count. count ≡ shorter_at self.now most at) }
+    {
+        let counts = self.counts.as_slice();
+        let mut sum: usize = 0;
+        for number in 0..most.min(counts.len()) {
+            sum = sum.checked_add(counts[number].at(at))?;
+        }
+        Some(sum)
+    }
+
+    /// Counts one more of a length at a byte. Returns whether it is counted: it is not where memory was refused.
+    pub fn add(&mut self, at: usize, length: usize) -> bool
+        ensures { IsTrue result → IsOneOfLength self.old length at self.new }
+    {
+        if !self.reach(length) {
+            return false;
+        }
+        match self.counts.get_mut(length) {
+            Some(counts) => counts.add(at),
+            None => false,
+        }
+    }
+
+    /// Has counts of a length, too. Returns whether it has; not where memory was refused.
+    fn reach(&mut self, length: usize) -> bool
+        ensures { (most at : ℕ) → shorter_at self.new most at ≡ shorter_at self.old most at }
+    {
+        for _ in self.counts.len()..length.saturating_add(1) {
+            if self.counts.push(Counts::new(self.alloc)).is_err() {
+                return false;
+            }
+        }
+        true
     }
 }

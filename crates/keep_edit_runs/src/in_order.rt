@@ -43,7 +43,7 @@ impl Before<'_> {
             return is_none_gone && self.add_behind(so_far, lines, number, edit, outline, place);
         }
         let is_at_end = place.start == self.text.len();
-        match lines.count_behind(&made, is_at_end) {
+        match lines.count_behind(&outline, &made, is_at_end) {
             Some(0) if so_far.comes_before(&outline, &made) => {
                 is_none_gone
                     && lines.keep_line(so_far, &outline, &made)

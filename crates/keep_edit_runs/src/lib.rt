@@ -17,6 +17,7 @@ mod alike;
 mod at_once;
 mod before;
 mod counts;
+mod dotted_tables;
 mod filled;
 mod filled_tables;
 mod gone;

@@ -40,6 +40,7 @@ pub mod SetAfterRemove
 pub mod AddsAgain
 pub mod AheadOfHeader
 pub mod AheadOfEnd
+pub mod AheadOfAbove
 pub mod AheadOfAppended
 pub mod InsertAfterRemove
 pub mod RenameAfterRemove

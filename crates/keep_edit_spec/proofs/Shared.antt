@@ -130,6 +130,7 @@ pub use Rattle.keep_edit_spec.proofs.Remove.RemoveSectionPlace.{none_some}
 pub use Rattle.keep_edit_spec.proofs.Lists.ElementRunLaws.{element_run_goes_on, element_run_goes_on_by_entry}
 pub use Rattle.keep_edit_spec.proofs.Lists.ElementRunLaws.{element_run_goes_on_without, run_is_element_run}
 pub use Rattle.keep_edit_spec.proofs.Lists.BehindCounts.{counts_behind}
+pub use Rattle.keep_edit_spec.proofs.Lists.BehindLine.{below_more, left_below}
 pub use Rattle.keep_edit_spec.proofs.Lists.BehindHeaders.{follows_now, made_now}
 pub use Rattle.keep_edit_spec.proofs.Lists.EndBelow.{end_goes_on_below}
 pub use Rattle.keep_edit_spec.proofs.Lists.EndEdits.{end_comes_after_entry, end_comes_later}

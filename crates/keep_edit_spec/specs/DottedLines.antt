@@ -1,6 +1,6 @@
 -- Inserts of a list that add lines, at the ends of bodies and to tables which dotted keys make: each is known by the
 -- first document alone, as long as the first new keys of all have other paths, and of lines that come to one place the
--- later one ends its body, or both are of one table.
+-- later one ends its body, or is of the same table as the earlier one, or of one above that.
 use Rattle.std.specs.Prelude.{◌≡◌, ◌≢◌, ℕ, ◌≤◌, suc, Bool, true, false, List, ◌∷◌, ◌++◌, length, map, Some, None}
 use Rattle.std.specs.Prelude.{IsUtf8}
 use Rattle.std.specs.List.{AllByRecursion}
@@ -50,6 +50,10 @@ StillAdds dotted profile limit s now path value c =
 
 -- ---- two inserts
 
+-- the path is that one, or begins with it
+abbrev pub IsAtOrBelow : List Part → List Part → Type 0
+IsAtOrBelow path above = (more : List Part) × (path ≡ above ++ more)
+
 -- A line that is added: the path of its first new key, the byte at which it comes, and whether it is one of a table
 -- that dotted keys make.
 pub record AddedAt : Type 0 where
@@ -60,10 +64,11 @@ pub record AddedAt : Type 0 where
 abbrev pub added_at : Document → List Part → TextChange → Bool → AddedAt
 added_at s path c dotted = record { first = first_new s path; at = c.at; dotted = dotted }
 
--- Where the lines come to one place, the later one ends its body, or both are of one table that dotted keys make: so
--- the later line comes after the earlier one.
+-- Where the lines come to one place, the later one ends its body, or dotted keys make the tables of both, and the table
+-- of the earlier one is that of the later, or below it: so the later line comes after the earlier one.
 abbrev pub IsAfter : AddedAt → AddedAt → Type 0
-IsAfter l m = m.dotted ≡ true → l.at ≡ m.at → (l.dotted ≡ true) × (without_last l.first ≡ without_last m.first)
+IsAfter l m =
+    m.dotted ≡ true → l.at ≡ m.at → (l.dotted ≡ true) × IsAtOrBelow (without_last l.first) (without_last m.first)
 
 -- The lines are of two first new keys, and in order where they come to one place.
 pub record AreInOrder (l m : AddedAt) : Type 0 where

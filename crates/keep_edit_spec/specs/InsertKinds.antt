@@ -8,7 +8,7 @@ use Rattle.keep_meaning.specs.Marks.{start}
 use Rattle.keep_meaning.specs.Meaning.{lines, mentions_in}
 use Rattle.keep_edit_spec.specs.AddedLines.{AddsLine, first_new}
 use Rattle.keep_edit_spec.specs.BroughtHeaders.{BringsHeader}
-use Rattle.keep_edit_spec.specs.DottedLines.{AddsDotted}
+use Rattle.keep_edit_spec.specs.DottedLines.{AddsDotted, IsAtOrBelow}
 use Rattle.keep_edit_spec.specs.Edits.{end_of}
 use Rattle.keep_edit_spec.specs.Lines.{last_line, leads_dotted}
 use Rattle.keep_edit_spec.specs.Look.{holder}
@@ -62,10 +62,11 @@ abbrev pub table_of : Added → List Part
 table_of l = without_last l.first
 
 -- Where two lines come to one place, the later one comes after the earlier: behind a header comes neither a line nor a
--- header, and before a line of a table that dotted keys make only one of that table. And no table gets two headers.
+-- header, and before a line of a table that dotted keys make only one of that table, or of such a table below it. And
+-- no table gets two headers.
 abbrev pub IsAfterAs : LineKind → Added → Added → Type 0
 IsAfterAs LastInBody l m = l.at ≡ m.at → l.kind ≢ WithHeader
-IsAfterAs OfDotted l m = l.at ≡ m.at → (l.kind ≡ OfDotted) × (table_of l ≡ table_of m)
+IsAfterAs OfDotted l m = l.at ≡ m.at → (l.kind ≡ OfDotted) × IsAtOrBelow (table_of l) (table_of m)
 IsAfterAs WithHeader l m = l.kind ≡ WithHeader → (l.at ≢ m.at) × (table_of l ≢ table_of m)
 
 abbrev pub IsAfterLine : Added → Added → Type 0

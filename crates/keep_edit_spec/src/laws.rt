@@ -184,12 +184,13 @@ pub fn lines_come_before()
 {}
 
 /// A line that comes to a byte at which earlier edits of such a list brought what has to come behind it comes before
-/// that: a line of a table that dotted keys make before one at the end of the body, both before a header that came with
-/// its line, and any line before a header that was appended at the end of the text. The list goes on by it as if those
-/// had come last.
+/// that: a line of a table that dotted keys make before one of such a table above that and one at the end of the body,
+/// all before a header that came with its line, and any line before a header that was appended at the end of the text.
+/// The list goes on by it as if those had come last.
 pub fn lines_come_ahead()
     ensures header { ahead.StillAddsAhead }
     ensures line { ahead.StillAddsAheadOfEnd }
+    ensures above { ahead.StillAddsAheadOfAbove }
     ensures table { ahead.StillAddsAheadOfTable }
     ensures element { ahead.StillAddsAheadOfElement }
     ensures run { ahead.RunGoesOnAhead }

@@ -28,8 +28,8 @@ use Rattle.keep_edit_spec.specs.InsertKinds.{table_of}
 use Rattle.keep_edit_spec.specs.Insertion.{keyed_text}
 use Rattle.keep_edit_spec.specs.Laws.{IsEditable}
 use Rattle.keep_edit_spec.specs.Lines.{content_text, new_line, newline_of}
-use Rattle.keep_edit_spec.specs.LinesAhead.{StillAddsAheadOfElement, StillAddsAheadOfEnd, StillAddsAheadOfTable}
-use Rattle.keep_edit_spec.specs.LinesAhead.{comes_before, comes_behind}
+use Rattle.keep_edit_spec.specs.LinesAhead.{StillAddsAheadOfAbove, StillAddsAheadOfElement, StillAddsAheadOfEnd}
+use Rattle.keep_edit_spec.specs.LinesAhead.{StillAddsAheadOfTable, comes_before, comes_behind, is_below, table_in}
 use Rattle.keep_edit_spec.specs.Look.{holder}
 use Rattle.keep_edit_spec.specs.Refusals.{refusal}
 use Rattle.keep_edit_spec.specs.RunLists.{AreAtOnce, FollowsHeader, MadeEdit, MakesInPlace, changes_of, document_after}
@@ -47,6 +47,7 @@ use Rattle.keep_edit_spec.proofs.EditLaws.{change_put}
 use Rattle.keep_edit_spec.proofs.Insert.LineBefore.{new_line_text}
 use Rattle.keep_edit_spec.proofs.Lists.AheadOfHeader.{adds_ahead}
 use Rattle.keep_edit_spec.proofs.Lists.BehindHeaders.{any_rest, made_now, not_both}
+use Rattle.keep_edit_spec.proofs.Lists.BehindLine.{before_header}
 use Rattle.keep_edit_spec.proofs.Lists.BroughtTexts.{more_than_line}
 use Rattle.keep_edit_spec.proofs.Lists.DottedLine as dotted
 use Rattle.keep_edit_spec.proofs.Lists.HeaderLines.{newline_again}
@@ -131,11 +132,14 @@ module _ (profile : Profile) (limit : ℕ) (s : Document) (fine : IsEditable pro
   abbrev line : Added
   line = added_as s path c
 
+  abbrev table : List Part
+  table = table_in s path
+
   abbrev IsBehind : MadeEdit → Type 0
-  IsBehind m = comes_behind s kind c.at m ≡ true
+  IsBehind m = comes_behind s kind table c.at m ≡ true
 
   abbrev IsBefore : MadeEdit → Type 0
-  IsBefore m = comes_behind s kind c.at m ≡ false
+  IsBefore m = comes_behind s kind table c.at m ≡ false
 
   none : c.size ≡ 0
   none = (added profile limit s path value c (kind, adds)).adds
@@ -145,6 +149,13 @@ module _ (profile : Profile) (limit : ℕ) (s : Document) (fine : IsEditable pro
       → (m.change.at ≡ c.at) × (m.change.size ≡ 0)
   comes_there m ms behind h = by m.edit behind h.0
     where
+      same_byte : (other : List Part)
+          → ((m.change.at == c.at) && comes_before kind table (kind_of s other) (table_in s other)) ≡ true
+          → m.change.at ≡ c.at
+      same_byte other is =
+          eqb-true m.change.at c.at
+          (and_parts (m.change.at == c.at) (comes_before kind table (kind_of s other) (table_in s other)) is).0
+
       at_end : (f : Edit) → is_header f ≡ true → is_insert f ≡ false → MakesChange profile limit s f m.change
           → m.change.size ≡ 0 → (c.at == length (text s)) ≡ true → (m.change.at ≡ c.at) × (m.change.size ≡ 0)
       at_end f head other makes none end =
@@ -153,15 +164,15 @@ module _ (profile : Profile) (limit : ℕ) (s : Document) (fine : IsEditable pro
             | inr (it, (none, there)) ↦ (there ∙ sym (eqb-true c.at (length (text s)) end), none)
           ]
 
-      by : (f : Edit) → comes_behind s kind c.at (made f m.change) ≡ true
+      by : (f : Edit) → comes_behind s kind table c.at (made f m.change) ≡ true
           → MakesInPlace profile limit s (seen_of s ms) (changes_of ms) (lines_of s ms) f m.change
           → (m.change.at ≡ c.at) × (m.change.size ≡ 0)
       by (insert other new) is (inl (makes, placed)) = (
-        eqb-true m.change.at c.at (and_parts (m.change.at == c.at) (comes_before kind (kind_of s other)) is).0,
+        same_byte other is,
         (added profile limit s other new m.change makes).adds,
       )
       by (insert other new) is (inr (follows, keeps)) = (
-        eqb-true m.change.at c.at (and_parts (m.change.at == c.at) (comes_before kind (kind_of s other)) is).0,
+        same_byte other is,
         follows.alone.adds,
       )
       by (append_table keys) is (inl (makes, placed)) =
@@ -179,7 +190,7 @@ module _ (profile : Profile) (limit : ℕ) (s : Document) (fine : IsEditable pro
       → MakesChange profile limit now m.edit d → 0 < length d.new
   writes_bytes now editable m behind d makes = by m.edit behind makes
     where
-      by : (f : Edit) → comes_behind s kind c.at (made f m.change) ≡ true → MakesChange profile limit now f d
+      by : (f : Edit) → comes_behind s kind table c.at (made f m.change) ≡ true → MakesChange profile limit now f d
           → 0 < length d.new
       by (insert other new) is (a, h) = adds_bytes profile limit now editable a other new d h
       by (append_table keys) is h =
@@ -300,13 +311,13 @@ module _ (profile : Profile) (limit : ℕ) (s : Document) (fine : IsEditable pro
 
       module _ (less : there.at < its.at) where
         -- the edit of a line comes in order
-        after_line : (other : List Part) → comes_before kind (kind_of s other) ≡ true
+        after_line : (other : List Part) → comes_before kind table (kind_of s other) (table_in s other) ≡ true
             → IsAfterLine (added_as now other its) (added_as now path there)
         after_line other is =
             subst (λ (a : LineKind). IsAfterAs a (added_as now other its) (added_as now path there)) (sym kind_now)
             (by kind is)
           where
-            by : (a : LineKind) → comes_before a (kind_of s other) ≡ true
+            by : (a : LineKind) → comes_before a table (kind_of s other) (table_in s other) ≡ true
                 → IsAfterAs a (added_as now other its) (added_as now path there)
             by LastInBody is = λ same. absurd (omega (arith, less, same))
             by OfDotted is = λ same. absurd (omega (arith, less, same))
@@ -315,11 +326,12 @@ module _ (profile : Profile) (limit : ℕ) (s : Document) (fine : IsEditable pro
         apart : its.at + its.size ≢ there.at
         apart same = omega (arith, less, same)
 
-        placed : (f : Edit) → comes_behind s kind c.at (made f b.change) ≡ true → MakesChange profile limit now f its
-            → LetsTable line (seen s f) → IsStillPlaced now f its e there
+        placed : (f : Edit) → comes_behind s kind table c.at (made f b.change) ≡ true
+            → MakesChange profile limit now f its → LetsTable line (seen s f) → IsStillPlaced now f its e there
         placed (insert other new) is makes passes = (
           λ after. absurd cc,
-          after_line other (and_parts (b.change.at == c.at) (comes_before kind (kind_of s other)) is).1,
+          after_line other
+              (and_parts (b.change.at == c.at) (comes_before kind table (kind_of s other) (table_in s other)) is).1,
         )
         placed (append_table keys) is makes passes = (
           λ after. (
@@ -340,7 +352,7 @@ module _ (profile : Profile) (limit : ℕ) (s : Document) (fine : IsEditable pro
         placed (remove other) is makes passes = absurd cc
 
         -- it leaves that edit alone, too
-        left_back : (f : Edit) → comes_behind s kind c.at (made f b.change) ≡ true
+        left_back : (f : Edit) → comes_behind s kind table c.at (made f b.change) ≡ true
             → LeavesAlone (seen s e) (seen s f) → LeavesAlone (seen s f) (seen s e)
         left_back (insert other new) is apart = λ same. apart (sym same)
         left_back (append_table keys) is apart = apart
@@ -408,29 +420,32 @@ module _ (profile : Profile) (limit : ℕ) (s : Document) (fine : IsEditable pro
     -- ---- right after the others
 
     abbrev IsThere : List Part → Added → Type 0
-    IsThere table l = IsHeaderAt c.at l × (table_of l ≡ table)
+    IsThere own l = IsHeaderAt c.at l × (table_of l ≡ own)
+
+    abbrev IsFirst : Type 0
+    IsFirst = (other : List Part) → comes_before kind table WithHeader other ≡ true
 
     -- none of the others brings a header there
-    none_headed : (table : List Part) → comes_before kind WithHeader ≡ true → (ms : List MadeEdit) → All IsBefore ms
-        → Any (IsThere table) (lines_of s ms) → ⊥
-    none_headed table before [] all any = (let few = any.2 in absurd (omega (arith, few)))
-    none_headed table before (m ∷ ms) all any =
-        by m.edit (none_headed table before ms (All-tail IsBefore m ms all)) (All-head IsBefore m ms all) any
+    none_headed : (own : List Part) → IsFirst → (ms : List MadeEdit) → All IsBefore ms
+        → Any (IsThere own) (lines_of s ms) → ⊥
+    none_headed own before [] all any = (let few = any.2 in absurd (omega (arith, few)))
+    none_headed own before (m ∷ ms) all any =
+        by m.edit (none_headed own before ms (All-tail IsBefore m ms all)) (All-head IsBefore m ms all) any
       where
-        by : (f : Edit) → (Any (IsThere table) (lines_of s ms) → ⊥)
-            → comes_behind s kind c.at (made f m.change) ≡ false
-            → Any (IsThere table) (with_line s f m.change (lines_of s ms)) → ⊥
+        by : (f : Edit) → (Any (IsThere own) (lines_of s ms) → ⊥)
+            → comes_behind s kind table c.at (made f m.change) ≡ false
+            → Any (IsThere own) (with_line s f m.change (lines_of s ms)) → ⊥
         by (insert other new) ih is any =
-            elim (any_rest (IsThere table) (added_as s other m.change) (lines_of s ms) any) [
+            elim (any_rest (IsThere own) (added_as s other m.change) (lines_of s ms) any) [
               | inl ((at, head), _) ↦ comes at head is
               | inr more ↦ ih more
             ]
           where
             comes : m.change.at ≡ c.at → kind_of s other ≡ WithHeader
-                → ((m.change.at == c.at) && comes_before kind (kind_of s other)) ≡ false → ⊥
+                → ((m.change.at == c.at) && comes_before kind table (kind_of s other) (table_in s other)) ≡ false → ⊥
             comes at head is =
-                let both : ((m.change.at == c.at) && comes_before kind (kind_of s other)) ≡ true =
-                rw (eq-eqb m.change.at c.at at, head, before) refl in
+                let both : ((m.change.at == c.at) && comes_before kind table (kind_of s other) (table_in s other))
+                ≡ true = rw (eq-eqb m.change.at c.at at, head, before (table_in s other)) refl in
                 absurd cc
         by (set other new) ih is any = ih any
         by (rename other name) ih is any = ih any
@@ -459,16 +474,27 @@ module _ (profile : Profile) (limit : ℕ) (s : Document) (fine : IsEditable pro
             × IsSeenStill others (edited_document others f) e
 
         -- an insert that adds its line there
-        module _ (of_end : StillAddsAheadOfEnd) (other : List Part) (new : Value)
+        module _ (of_above : StillAddsAheadOfAbove) (of_end : StillAddsAheadOfEnd) (other : List Part) (new : Value)
             (is_now : MakesChange profile limit others (insert other new) here)
             (seen_now : IsSeenStill s others (insert other new)) (apart : first_new s path ≢ first_new s other) where
           differs : first_new others other ≢ first_new others path
           differs same = apart (sym ih.seen.0 ∙ sym same ∙ seen_now.0)
 
-          ahead_of_line : (a k : LineKind) → comes_before a k ≡ true → AddsAs a profile limit others path value there
-              → kind_of s other ≡ k
+          -- the tables of both
+          tables_now : is_below table (table_in s other) ≡ true
+              → is_below (table_in others path) (table_in others other) ≡ true
+          tables_now below =
+              subst₂ (λ (p q : List Part). is_below (without_last p) (without_last q) ≡ true) (sym ih.seen.0)
+              (sym seen_now.0) below
+
+          ahead_of_line : (a k : LineKind) → comes_before a table k (table_in s other) ≡ true
+              → AddsAs a profile limit others path value there → kind_of s other ≡ k
               → AddsAs a profile limit (edited_document others (insert other new)) path value there
               × IsSeenStill others (edited_document others (insert other new)) e
+          ahead_of_line OfDotted OfDotted is its own =
+              of_above profile limit others other new here path value there others_run.editable
+              (as_of_kind OfDotted profile limit others other new here (seen_now.1 ∙ own) is_now) its (tables_now is)
+              differs same_place
           ahead_of_line OfDotted LastInBody is its own =
               of_end profile limit others other new here path value there others_run.editable
               (as_of_kind LastInBody profile limit others other new here (seen_now.1 ∙ own) is_now) its differs
@@ -481,45 +507,41 @@ module _ (profile : Profile) (limit : ℕ) (s : Document) (fine : IsEditable pro
               adds_ahead profile limit others other new here LastInBody path value there others_run.editable
               (as_of_kind WithHeader profile limit others other new here (seen_now.1 ∙ own) is_now) its
               (λ same. absurd cc) differs same_place
-          ahead_of_line OfDotted OfDotted is its own = absurd cc
           ahead_of_line LastInBody OfDotted is its own = absurd cc
           ahead_of_line LastInBody LastInBody is its own = absurd cc
           ahead_of_line WithHeader k is its own = absurd cc
 
-        -- a line comes before one with a header, if it comes before any
-        before_header : (a k : LineKind) → comes_before a k ≡ true → comes_before a WithHeader ≡ true
-        before_header OfDotted k is = refl
-        before_header LastInBody k is = refl
-        before_header WithHeader k is = absurd cc
-
         -- so it follows none of the others
         follows_none : (other : List Part) (new : Value)
-            → ((b.change.at == c.at) && comes_before kind (kind_of s other)) ≡ true
+            → ((b.change.at == c.at) && comes_before kind table (kind_of s other) (table_in s other)) ≡ true
             → FollowsHeader profile limit s (lines_of s rest) other new b.change → ⊥
         follows_none other new is f =
             none_headed (holder other (mentions_in s))
-            (before_header kind (kind_of s other)
-            (and_parts (b.change.at == c.at) (comes_before kind (kind_of s other)) is).1) rest before
+            (λ with_it. before_header kind (kind_of s other) table (table_in s other) with_it
+            (and_parts (b.change.at == c.at) (comes_before kind table (kind_of s other) (table_in s other)) is).1) rest
+            before
             (subst
             (λ (n : ℕ). Any (λ l. IsHeaderAt n l × (table_of l ≡ holder other (mentions_in s))) (lines_of s rest))
             (comes_there b rest behind h).0 f.header)
 
-        ahead_of_first : StillAddsAheadOfEnd → StillAddsAheadOfTable → StillAddsAheadOfElement → ComesFirst b.edit
-        ahead_of_first of_end of_table of_element =
+        ahead_of_first : StillAddsAheadOfAbove → StillAddsAheadOfEnd → StillAddsAheadOfTable → StillAddsAheadOfElement
+            → ComesFirst b.edit
+        ahead_of_first of_above of_end of_table of_element =
             by b.edit behind lets h.0 h.1.0 (left b [] behind lets h g ih)
           where
             passes : (keys : List (List ℕ)) → PassesBy keys (first_new s path) → PassesBy keys (first_new others path)
             passes keys = subst (PassesBy keys) (sym ih.seen.0)
 
-            by : (f : Edit) → comes_behind s kind c.at (made f b.change) ≡ true → LetsTable line (seen s f)
+            by : (f : Edit) → comes_behind s kind table c.at (made f b.change) ≡ true → LetsTable line (seen s f)
                 → MakesInPlace profile limit s (seen_of s rest) (changes_of rest) (lines_of s rest) f b.change
                 → All (λ x. LeavesAlone x (seen s f)) (seen_of s rest) → LeavesAlone (seen s e) (seen s f)
                 → ComesFirst f
             by (insert other new) is its (inl (makes, placed)) alone apart =
                 let (is_now, seen_now) =
                 others_run.later (insert other new) b.change makes alone h.1.1.0 placed in
-                ahead_of_line of_end other new is_now seen_now apart kind (kind_of s other)
-                (and_parts (b.change.at == c.at) (comes_before kind (kind_of s other)) is).1 ih.makes refl
+                ahead_of_line of_above of_end other new is_now seen_now apart kind (kind_of s other)
+                (and_parts (b.change.at == c.at) (comes_before kind table (kind_of s other) (table_in s other)) is).1
+                ih.makes refl
             by (insert other new) is its (inr (follows, keeps)) alone apart =
                 absurd (follows_none other new is follows)
             by (append_table keys) is its (inl (makes, placed)) alone apart =
@@ -538,8 +560,8 @@ module _ (profile : Profile) (limit : ℕ) (s : Document) (fine : IsEditable pro
 
     -- ---- after all that come behind
 
-    module _ (of_end : StillAddsAheadOfEnd) (of_table : StillAddsAheadOfTable) (of_element : StillAddsAheadOfElement)
-        (put_ahead_of : PutAheadOf) (before : All IsBefore rest) where
+    module _ (of_above : StillAddsAheadOfAbove) (of_end : StillAddsAheadOfEnd) (of_table : StillAddsAheadOfTable)
+        (of_element : StillAddsAheadOfElement) (put_ahead_of : PutAheadOf) (before : All IsBefore rest) where
       -- one more, in front of which the line comes
       one_more : (b : MadeEdit) (bs : List MadeEdit) (behind : IsBehind b) → All IsBehind bs
           → (lets : LetsTable line (seen s b.edit)) (h : AreAtOnce profile limit s ((b ∷ bs) ++ rest))
@@ -569,7 +591,7 @@ module _ (profile : Profile) (limit : ℕ) (s : Document) (fine : IsEditable pro
           let its : LetsTable line (seen s b.edit) = All-head (LetsTable line) (seen s b.edit) (seen_of s rest) lets in
           let ih : IsAhead [] = ahead_of_none h.1.1.1 g.1.1.1 in
           one_more b [] behind (All-tail IsBehind b [] all) its h g ih
-          (ahead_of_first b behind before its h g ih of_end of_table of_element)
+          (ahead_of_first b behind before its h g ih of_above of_end of_table of_element)
       ahead_of_all (b ∷ d ∷ bs) all lets h g =
           let behind : IsBehind b = All-head IsBehind b (d ∷ bs) all in
           let more : All IsBehind (d ∷ bs) = All-tail IsBehind b (d ∷ bs) all in
@@ -604,17 +626,18 @@ pub record IsMadeAhead (profile : Profile) (limit : ℕ) (s : Document) (path : 
 
 pub documents_ahead : (profile : Profile) (limit : ℕ) (s : Document) (path : List Part) (value : Value)
     (kind : LineKind) (c : TextChange) (bs rest : List MadeEdit)
-    → StillAddsAheadOfEnd → StillAddsAheadOfTable → StillAddsAheadOfElement → PutAheadOf
+    → StillAddsAheadOfAbove → StillAddsAheadOfEnd → StillAddsAheadOfTable → StillAddsAheadOfElement → PutAheadOf
     → IsEditable profile limit s → AddsAs kind profile limit s path value c
-    → All (λ b. comes_behind s kind c.at b ≡ true) bs → All (λ m. comes_behind s kind c.at m ≡ false) rest
+    → All (λ b. comes_behind s kind (table_in s path) c.at b ≡ true) bs
+    → All (λ m. comes_behind s kind (table_in s path) c.at m ≡ false) rest
     → All (LetsTable (added_as s path c)) (seen_of s (bs ++ rest))
     → AreAtOnce profile limit s (bs ++ rest) → AreAtOnce profile limit s (bs ++ made (insert path value) c ∷ rest)
     → IsMadeAhead profile limit s path value kind c bs rest
-documents_ahead profile limit s path value kind c bs rest of_end of_table of_element put_ahead_of fine adds all before
-    lets h g =
+documents_ahead profile limit s path value kind c bs rest of_above of_end of_table of_element put_ahead_of fine adds
+    all before lets h g =
     let there : IsAhead profile limit s fine path value kind c adds rest bs =
-    ahead_of_all profile limit s fine path value kind c adds rest of_end of_table of_element put_ahead_of before bs all
-    lets h g in
+    ahead_of_all profile limit s fine path value kind c adds rest of_above of_end of_table of_element put_ahead_of
+    before bs all lets h g in
     record {
       allowed = change_allowed profile limit (document_after s (bs ++ rest)) (insert path value)
           (moved_past (changes_of rest) c) (kind, there.makes);

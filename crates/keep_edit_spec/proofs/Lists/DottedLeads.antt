@@ -1,13 +1,14 @@
 -- Through which tables the line leads that an insert adds to a table which dotted keys make.
 --
 -- Its key goes by the keys on the way to the holder, and by the new ones (DottedLine). So it leads through the holder
--- (`own_leads`). If it leads through another node, that is on the way, since a longer one would begin with the path of
--- the first new key. Then the line before it, whose key goes by the same keys, leads through the node, too: so the last
--- that does is no earlier line (`past_before`).
+-- (`own_leads`), and through the tables above that in its body (`leads_above`). If it leads through another node, that
+-- is on the way (`through`), since a longer one would begin with the path of the first new key. So it is not below the
+-- holder (`below_fails`); and the line before it, whose key goes by the same keys, leads through the node, too: so the
+-- last that does is no earlier line (`past_before`).
 --
--- Theorems: `own_leads`, `past_before`.
+-- Theorems: `at_own`; `own_leads`, `leads_above`, `past_before`, `below_fails`.
 use Rattle.std.proofs.Common.{◌≡◌, ℕ, ◌≤◌, true, false, List, [], ◌∷◌, ◌++◌, length, map, take, drop, refl, sym}
-use Rattle.std.proofs.Common.{ap, ap₂, subst, ◌∙◌, append_assoc, Option, Some, ◌⊎◌, inl, inr}
+use Rattle.std.proofs.Common.{ap, ap₂, subst, ◌∙◌, append_assoc, length-append, arith, Option, Some, ◌⊎◌, inl, inr}
 use Rattle.std.proofs.lemmas.List.{append-nil, map-append}
 use Rattle.keep_types.specs.declared.leaf.Profile.{Profile}
 use Rattle.keep_syntax.specs.Tree.{Written, Gap, Content, Value, Line, Document, blank, keyval, header, element}
@@ -15,7 +16,7 @@ use Rattle.keep_path.specs.Path.{Part, key}
 use Rattle.keep_meaning.specs.Marks.{Mention, Reading, below, start}
 use Rattle.keep_meaning.specs.Meaning.{keyed_mentions, keys_of, lines, mentions_in, reading_after_lines}
 use Rattle.keep_meaning.specs.Nodes.{is_dotted, is_node}
-use Rattle.keep_edit_spec.specs.DottedLines.{AddsDotted}
+use Rattle.keep_edit_spec.specs.DottedLines.{AddsDotted, IsAtOrBelow}
 use Rattle.keep_edit_spec.specs.Edits.{name_with}
 use Rattle.keep_edit_spec.specs.Lines.{last_line, leads_dotted, reading_at}
 use Rattle.keep_edit_spec.specs.Look.{holder, keys_in}
@@ -83,6 +84,21 @@ either_first (x ∷ xs) (y ∷ ys) t u ts us e =
           inr (m.0, (let tail : ys ≡ xs ++ t ∷ m.0 = m.1 in let whole : y ∷ ys ≡ x ∷ (xs ++ t ∷ m.0) = cc in whole))
     ]
 
+-- Keys, as parts of a path, that begin with others.
+begins_with : (xs ys : List (List ℕ)) (more : List Part) → map key xs ≡ map key ys ++ more → xs ≡ ys ++ keys_in more
+begins_with xs [] more is = sym (keys_of_map xs) ∙ ap keys_in is
+begins_with [] (y ∷ ys) more is = absurd cc
+begins_with (x ∷ xs) (y ∷ ys) more is =
+    let same : x ≡ y = cc in
+    let rest : map key xs ≡ map key ys ++ more = cc in
+    ap₂ (λ (k : List ℕ) (ks : List (List ℕ)). k ∷ ks) same (begins_with xs ys more rest)
+
+-- ---- tables
+
+-- a path is at itself
+pub at_own : (path above : List Part) → path ≡ above → IsAtOrBelow path above
+at_own path above same = ([], same ∙ sym (append-nil above))
+
 -- ---- an insert that adds a line
 
 module _ (profile : Profile) (limit : ℕ) (s : Document) (path : List Part) (value : Value) (c : TextChange)
@@ -141,6 +157,23 @@ module _ (profile : Profile) (limit : ℕ) (s : Document) (path : List Part) (va
       (subst (λ (ks : List (List ℕ)). SomeOf (IsMentioned is_dotted (map key on_way)) (keyed_mentions ks []))
       (sym means) said)))
 
+  -- It leads through a table above that, in the same body.
+  pub leads_above : (b : List Part) (g : List ℕ) (gs : List (List ℕ)) → b ≡ body ++ map key (g ∷ gs) → IsAtOrBelow a b
+      → leads_dotted b r x ≡ true
+  leads_above b g gs is (more, far) =
+      let both : map key on_way ≡ map key (g ∷ gs) ++ more =
+      sym (drop_prefix_parts body (map key on_way))
+      ∙ ap (drop (length body))
+      (sym before.whole ∙ far ∙ ap (λ (p : List Part). p ++ more) is ∙ append_assoc body (map key (g ∷ gs)) more)
+      ∙ drop_prefix_parts body (map key (g ∷ gs) ++ more) in
+      let way : on_way ≡ g ∷ (gs ++ keys_in more) = begins_with on_way (g ∷ gs) more both in
+      subst (λ (p : List Part). leads_dotted p r x ≡ true)
+      (ap (λ (p : List Part). p ++ map key (g ∷ gs)) before.at_body ∙ sym is)
+      (leads_shorter g gs (keys_in more) r x
+      (subst (λ (p : List Part). leads_dotted p r x ≡ true)
+      (before.whole ∙ ap₂ (λ (p : List Part) (ks : List (List ℕ)). p ++ map key ks) (sym before.at_body) way)
+      own_leads))
+
   -- ---- and another node
 
   module _ (b : List Part) (node : is_node b ms ≡ true) (j : ℕ)
@@ -183,8 +216,11 @@ module _ (profile : Profile) (limit : ℕ) (s : Document) (path : List Part) (va
         (unsaid profile limit s path value (dotted_keys profile limit s path value c h)) (map key z) in
         absurd cc
 
-    pub past_before : leads_dotted b r x ≡ true → h.number ≤ j
-    past_before leads =
+    -- where it leads
+    through : leads_dotted b r x ≡ true
+        → (g : List ℕ) × ((gs : List (List ℕ)) × ((b ≡ body ++ map key (g ∷ gs))
+        × ((back : List (List ℕ)) × (on_way ≡ g ∷ (gs ++ back)))))
+    through leads =
         let u = some_unbelow is_dotted r.body b (keyed_mentions written [])
         (has_some is_dotted b (map (below r.body) (keyed_mentions written [])) leads) in
         let g : Continues keys u.0 =
@@ -193,6 +229,27 @@ module _ (profile : Profile) (limit : ℕ) (s : Document) (path : List Part) (va
         let is : b ≡ body ++ map key (g.first ∷ g.prefix) =
         u.1.0 ∙ ap₂ (λ (p q : List Part). p ++ q) before.at_body g.path in
         elim (either_first on_way (g.first ∷ g.prefix) h.text g.next h.more g.more g.whole) [
-          | inl m ↦ on_way_past g.first g.prefix m.0 is m.1
+          | inl m ↦ (g.first, (g.prefix, (is, (m.0, m.1))))
           | inr m ↦ absurd (none_longer m.0 (is ∙ ap (λ (ks : List (List ℕ)). body ++ map key ks) m.1))
         ]
+
+    pub past_before : leads_dotted b r x ≡ true → h.number ≤ j
+    past_before leads =
+        let (g, (gs, (is, (back, goes)))) = through leads in on_way_past g gs back is goes
+
+    -- not one below its table
+    pub below_fails : (p : Part) (ps : List Part) → b ≡ a ++ p ∷ ps → leads_dotted b r x ≡ true → ⊥
+    below_fails p ps below leads =
+        let (g, (gs, (is, (back, goes)))) = through leads in
+        let long : a ≡ b ++ map key back =
+        before.whole ∙ ap (λ (ks : List (List ℕ)). body ++ map key ks) goes
+        ∙ ap (λ (q : List Part). body ++ q) (map-append key (g ∷ gs) back)
+        ∙ sym (append_assoc body (map key (g ∷ gs)) (map key back))
+        ∙ ap (λ (q : List Part). q ++ map key back) (sym is) in
+        absurd (omega (
+          arith,
+          ap length long,
+          length-append b (map key back),
+          ap length below,
+          length-append a (p ∷ ps),
+        ))

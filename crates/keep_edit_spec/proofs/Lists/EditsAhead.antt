@@ -19,7 +19,8 @@ use Rattle.keep_path.specs.Path.{Part}
 use Rattle.keep_edit_spec.specs.Edits.{Edit, append_element, append_table, insert, remove, rename, set}
 use Rattle.keep_edit_spec.specs.InsertKinds.{Added, AddsAs, IsAfterAs, IsAfterLine, added_as, kind_of, table_of}
 use Rattle.keep_edit_spec.specs.Laws.{IsEditable}
-use Rattle.keep_edit_spec.specs.LinesAhead.{ComesAhead, before, behind, comes_before, comes_behind, with_ahead}
+use Rattle.keep_edit_spec.specs.LinesAhead.{ComesAhead, before, behind, comes_before, comes_behind, table_in}
+use Rattle.keep_edit_spec.specs.LinesAhead.{with_ahead}
 use Rattle.keep_edit_spec.specs.Look.{keys_in}
 use Rattle.keep_edit_spec.specs.RunLists.{AreAtOnce, MadeEdit, changes_of, lines_of, made, seen_of}
 use Rattle.keep_edit_spec.specs.Runs.{IsBeforeHeaders, IsNoSecond, LeavesAlone, LetsTable, PassesBy, is_header}
@@ -27,7 +28,7 @@ use Rattle.keep_edit_spec.specs.Runs.{is_insert, seen, takes_up_to, with_line}
 use Rattle.keep_edit_spec.specs.TextChanges.{IsBeside, TextChange}
 use Rattle.keep_edit_spec.specs.declared.line_kind.LineKind.{LineKind}
 use Rattle.keep_edit_spec.specs.declared.line_kind.LineKind.TheVariants.{LastInBody, OfDotted, WithHeader}
-use Rattle.keep_edit_spec.proofs.Lists.BehindLine.{IsBehind, IsNotBehind, ends_elsewhere}
+use Rattle.keep_edit_spec.proofs.Lists.BehindLine.{IsBehind, IsNotBehind, below_is, ends_elsewhere}
 use Rattle.keep_edit_spec.proofs.Lists.GatheredEdits.{gathered, is_free, none, put_below}
 use Rattle.keep_edit_spec.proofs.Lists.LineKinds.{kind_is}
 use Rattle.keep_edit_spec.proofs.Lists.OneMoreBelow.{IsBelow, IsFree, LetsUnder, free_moved, let_come}
@@ -37,14 +38,14 @@ use Rattle.keep_edit_spec.proofs.Lists.OtherOrder.{of_lines, of_seen, own_lines}
 use Rattle.keep_edit_spec.specs.FirstNewline.{LeavesNewline}
 
 -- A line comes after one that comes before it by their kinds.
-after_before : (l m : Added) → comes_before l.kind m.kind ≡ true → IsAfterLine l m
+after_before : (l m : Added) → comes_before l.kind (table_of l) m.kind (table_of m) ≡ true → IsAfterLine l m
 after_before l m = by l.kind m.kind refl
   where
-    by : (a b : LineKind) → l.kind ≡ a → comes_before a b ≡ true → IsAfterAs b l m
+    by : (a b : LineKind) → l.kind ≡ a → comes_before a (table_of l) b (table_of m) ≡ true → IsAfterAs b l m
     by OfDotted LastInBody is h = λ same head. (let both : OfDotted ≡ WithHeader = sym is ∙ head in absurd cc)
     by OfDotted WithHeader is h = λ head. (let both : OfDotted ≡ WithHeader = sym is ∙ head in absurd cc)
     by LastInBody WithHeader is h = λ head. (let both : LastInBody ≡ WithHeader = sym is ∙ head in absurd cc)
-    by OfDotted OfDotted is h = absurd cc
+    by OfDotted OfDotted is h = λ same. (is, below_is (table_of l) (table_of m) h)
     by LastInBody OfDotted is h = absurd cc
     by LastInBody LastInBody is h = absurd cc
     by WithHeader b is h = absurd cc
@@ -67,11 +68,14 @@ module _ (profile : Profile) (limit : ℕ) (s : Document) (ms : List MadeEdit) (
   abbrev line : Added
   line = added_as s path c
 
+  abbrev table : List Part
+  table = table_in s path
+
   abbrev later : List MadeEdit
-  later = behind s kind c.at ms
+  later = behind s kind table c.at ms
 
   abbrev earlier : List MadeEdit
-  earlier = before s kind c.at ms
+  earlier = before s kind table c.at ms
 
   own_kind : kind_of s path ≡ kind
   own_kind = kind_is kind profile limit s path value c adds
@@ -83,13 +87,13 @@ module _ (profile : Profile) (limit : ℕ) (s : Document) (ms : List MadeEdit) (
   free = is_free profile limit s ms path value kind c fine adds beside ahead
 
   fewer : (P : MadeEdit → Type 0) → All P ms → All P earlier
-  fewer P = All-filter (λ m. not (comes_behind s kind c.at m)) P ms
+  fewer P = All-filter (λ m. not (comes_behind s kind table c.at m)) P ms
 
-  not_behind : All (IsNotBehind s kind c.at) earlier
+  not_behind : All (IsNotBehind s kind table c.at) earlier
   not_behind =
-      All-weaker (λ m. not (comes_behind s kind c.at m) ≡ true) (IsNotBehind s kind c.at)
-      (λ m. none_true (comes_behind s kind c.at m)) earlier
-      (filter_passes (λ m. not (comes_behind s kind c.at m)) ms)
+      All-weaker (λ m. not (comes_behind s kind table c.at m) ≡ true) (IsNotBehind s kind table c.at)
+      (λ m. none_true (comes_behind s kind table c.at m)) earlier
+      (filter_passes (λ m. not (comes_behind s kind table c.at m)) ms)
 
   -- ---- the line over those that don't come behind it
 
@@ -97,12 +101,13 @@ module _ (profile : Profile) (limit : ℕ) (s : Document) (ms : List MadeEdit) (
   ComesAfter l = IsAfterLine l line
 
   abbrev Allowed : Added → Type 0
-  Allowed l = IsAfterLine l line ⊎ ((l.at ≡ c.at) × (comes_before kind l.kind ≡ true))
+  Allowed l = IsAfterLine l line ⊎ ((l.at ≡ c.at) × (comes_before kind table l.kind (table_of l) ≡ true))
 
-  after_one : (m : MadeEdit) → IsNotBehind s kind c.at m → All Allowed (own_lines s m) → All ComesAfter (own_lines s m)
+  after_one : (m : MadeEdit) → IsNotBehind s kind table c.at m → All Allowed (own_lines s m)
+      → All ComesAfter (own_lines s m)
   after_one m = by m.edit
     where
-      by : (f : Edit) → IsNotBehind s kind c.at (made f m.change) → All Allowed (with_line s f m.change [])
+      by : (f : Edit) → IsNotBehind s kind table c.at (made f m.change) → All Allowed (with_line s f m.change [])
           → All ComesAfter (with_line s f m.change [])
       by (insert other more) differs h =
           let its : Added = added_as s other m.change in
@@ -110,8 +115,8 @@ module _ (profile : Profile) (limit : ℕ) (s : Document) (ms : List MadeEdit) (
           (elim (All-head Allowed its [] h) [
             | inl after ↦ after
             | inr (at, first) ↦
-                (let there : (m.change.at == c.at) && comes_before kind (kind_of s other) ≡ true =
-                rw (eq-eqb m.change.at c.at at, first) refl in absurd cc)
+                (let there : (m.change.at == c.at) && comes_before kind table (kind_of s other) (table_in s other)
+                ≡ true = rw (eq-eqb m.change.at c.at at, first) refl in absurd cc)
           ])
           (All-nil ComesAfter)
       by (set other more) differs h = All-nil ComesAfter
@@ -135,12 +140,12 @@ module _ (profile : Profile) (limit : ℕ) (s : Document) (ms : List MadeEdit) (
   before_headers : IsBeforeHeaders (text s) (seen_of s earlier) c.at
   before_headers = by (c.at == length (text s)) refl
     where
-      no_header : c.at ≡ length (text s) → (m : MadeEdit) → IsNotBehind s kind c.at m
+      no_header : c.at ≡ length (text s) → (m : MadeEdit) → IsNotBehind s kind table c.at m
           → is_header (seen s m.edit) ≡ false
       no_header end m differs = which (is_header (seen s m.edit)) refl
         where
           which : (b : Bool) → is_header (seen s m.edit) ≡ b → is_header (seen s m.edit) ≡ false
-          which true is = absurd (ends_elsewhere profile limit s fine kind c zero_size m differs is end)
+          which true is = absurd (ends_elsewhere profile limit s fine kind table c zero_size m differs is end)
           which false is = is
 
       by : (b : Bool) → (c.at == length (text s)) ≡ b → IsBeforeHeaders (text s) (seen_of s earlier) c.at
@@ -148,7 +153,7 @@ module _ (profile : Profile) (limit : ℕ) (s : Document) (ms : List MadeEdit) (
           inl
           (list_any_none is_header (seen_of s earlier)
           (by_seen s (λ f. is_header f ≡ false) earlier
-          (All-weaker (IsNotBehind s kind c.at) (λ m. is_header (seen s m.edit) ≡ false)
+          (All-weaker (IsNotBehind s kind table c.at) (λ m. is_header (seen s m.edit) ≡ false)
           (no_header (eqb-true c.at (length (text s)) is)) earlier not_behind)))
       by false is = inr (λ same. (let there = eq-eqb c.at (length (text s)) same in absurd cc))
 
@@ -179,7 +184,7 @@ module _ (profile : Profile) (limit : ℕ) (s : Document) (ms : List MadeEdit) (
 
   -- ---- and below those that do
 
-  below : (b : MadeEdit) → IsBehind s kind c.at b → LetsTable line (seen s b.edit)
+  below : (b : MadeEdit) → IsBehind s kind table c.at b → LetsTable line (seen s b.edit)
       → IsBelow s (line ∷ []) (seen s e) b.edit b.change
   below b = by b.edit
     where
@@ -190,15 +195,15 @@ module _ (profile : Profile) (limit : ℕ) (s : Document) (ms : List MadeEdit) (
           (λ head same. apart_differ (keys_in (table_of line)) keys (passes head) (sym same))
           (All-nil (IsNoSecond keys))
 
-      by : (f : Edit) → IsBehind s kind c.at (made f b.change) → LetsTable line (seen s f)
+      by : (f : Edit) → IsBehind s kind table c.at (made f b.change) → LetsTable line (seen s f)
           → IsBelow s (line ∷ []) (seen s e) f b.change
       by (insert other more) is lets =
           let its : Added = added_as s other b.change in
-          let first : comes_before kind its.kind ≡ true =
-          (and_parts (b.change.at == c.at) (comes_before kind (kind_of s other)) is).1 in (
+          let first : comes_before kind table its.kind (table_of its) ≡ true =
+          (and_parts (b.change.at == c.at) (comes_before kind table (kind_of s other) (table_in s other)) is).1 in (
             All-cons (λ l. IsAfterLine l its) line []
                 (after_before line its
-                (subst (λ (a : LineKind). comes_before a its.kind ≡ true) (sym own_kind) first))
+                (subst (λ (a : LineKind). comes_before a table its.kind (table_of its) ≡ true) (sym own_kind) first))
                 (All-nil (λ l. IsAfterLine l its)),
             tt,
           )
@@ -210,7 +215,7 @@ module _ (profile : Profile) (limit : ℕ) (s : Document) (ms : List MadeEdit) (
 
   under : All (LetsUnder profile limit s own) later
   under n x few =
-      let test : MadeEdit → Bool = comes_behind s kind c.at in
+      let test : MadeEdit → Bool = comes_behind s kind table c.at in
       let b : MadeEdit = get_or later n x in
       record {
         left = All-filter test (λ m. LeavesAlone (seen s m.edit) (seen s e)) ms
@@ -234,11 +239,12 @@ module _ (profile : Profile) (limit : ℕ) (s : Document) (ms : List MadeEdit) (
     ];
   }
 
-  pub still_ahead : AreAtOnce profile limit s ms → AreAtOnce profile limit s (with_ahead s kind ms (made e c))
+  pub still_ahead : AreAtOnce profile limit s ms
+      → AreAtOnce profile limit s (with_ahead s kind (table_in s path) ms (made e c))
   still_ahead all =
-      let test : MadeEdit → Bool = comes_behind s kind c.at in
-      put_below profile limit s fine kind c zero_size own (λ head. absurd cc) later earlier (filter_passes test ms)
-      under (free_moved s c (own ∷ ms) (own ∷ later ++ earlier)
+      let test : MadeEdit → Bool = comes_behind s kind table c.at in
+      put_below profile limit s fine kind table c zero_size own (λ head. absurd cc) later earlier
+      (filter_passes test ms) under (free_moved s c (own ∷ ms) (own ∷ later ++ earlier)
       (λ P h. All-cons P own (later ++ earlier) (All-head P own ms h) (all_sorted test P ms (All-tail P own ms h)))
       free_with)
       (gathered profile limit s ms path value kind c fine adds beside ahead all).0 over

@@ -19,7 +19,7 @@ use Rattle.keep_edit_spec.specs.Edits.{Edit, append_element, append_table, inser
 use Rattle.keep_edit_spec.specs.InsertKinds.{Added, AddsAs, IsAfterAs, IsAfterLine, IsHeaderAt, added_as, kind_of}
 use Rattle.keep_edit_spec.specs.InsertKinds.{table_of}
 use Rattle.keep_edit_spec.specs.Laws.{IsEditable}
-use Rattle.keep_edit_spec.specs.LinesAhead.{ComesAhead, before, behind, comes_behind}
+use Rattle.keep_edit_spec.specs.LinesAhead.{ComesAhead, before, behind, comes_behind, table_in}
 use Rattle.keep_edit_spec.specs.Look.{holder, keys_in}
 use Rattle.keep_edit_spec.specs.RunLists.{AreAtOnce, FollowsHeader, MadeEdit, MakesInPlace, changes_of, lines_of, made}
 use Rattle.keep_edit_spec.specs.RunLists.{seen_of}
@@ -118,7 +118,7 @@ module _ (profile : Profile) (limit : ℕ) (s : Document) where
 -- ---- an edit that does not come behind a line, over one that does
 
 module _ (profile : Profile) (limit : ℕ) (s : Document) (fine : IsEditable profile limit s) (kind : LineKind)
-    (c : TextChange) (none : c.size ≡ 0) where
+    (table : List Part) (c : TextChange) (none : c.size ≡ 0) where
   -- a header that it appends passes by the header that the other brings, if the line is not at the end
   abbrev PassesBehind : MadeEdit → MadeEdit → Type 0
   PassesBehind m b =
@@ -196,14 +196,16 @@ module _ (profile : Profile) (limit : ℕ) (s : Document) (fine : IsEditable pro
             (All-weaker (λ l. IsAfterLine l line) (λ l. l.kind ≡ WithHeader → table_of l ≢ table_of line)
             (λ l h is. (subst (λ (a : LineKind). IsAfterAs a l line) head h is).1) (lines_of s ms) after)
 
-  module _ (m b : MadeEdit) (ms : List MadeEdit) (is : IsBehind s kind c.at b) (differs : IsNotBehind s kind c.at m)
-      (passes : PassesBehind m b) (side : IsBeside m.change c) (over : IsOver profile limit s m (b ∷ ms))
+  module _ (m b : MadeEdit) (ms : List MadeEdit) (is : IsBehind s kind table c.at b)
+      (differs : IsNotBehind s kind table c.at m) (passes : PassesBehind m b) (side : IsBeside m.change c)
+      (over : IsOver profile limit s m (b ∷ ms))
       (first : IsOver profile limit s b ms) where
     there : b.change.at ≡ c.at
-    there = (at_byte profile limit s fine kind c none b (seen_of s ms) (changes_of ms) (lines_of s ms) is first.0).0
+    there =
+        (at_byte profile limit s fine kind table c none b (seen_of s ms) (changes_of ms) (lines_of s ms) is first.0).0
 
     apart : b.change.at ≢ m.change.at
-    apart same = elsewhere profile limit s fine kind c none m b ms is differs side over (sym same ∙ there)
+    apart same = elsewhere profile limit s fine kind table c none m b ms is differs side over (sym same ∙ there)
 
     below : MakesChange profile limit s b.edit b.change → IsBelow s (own_lines s m) (seen s m.edit) b.edit b.change
     below makes = by b.edit b.change is there apart over (placed makes first.0) passes
@@ -215,14 +217,14 @@ module _ (profile : Profile) (limit : ℕ) (s : Document) (fine : IsEditable pro
         placed own (inr (follows, keeps)) =
             absurd (not_both profile limit s (lines_of s ms) b.edit b.change own follows)
 
-        by : (e : Edit) (d : TextChange) → IsBehind s kind c.at (made e d) → d.at ≡ c.at → d.at ≢ m.change.at
+        by : (e : Edit) (d : TextChange) → IsBehind s kind table c.at (made e d) → d.at ≡ c.at → d.at ≢ m.change.at
             → IsOver profile limit s m (made e d ∷ ms)
             → KeepsPlace s (seen_of s ms) (changes_of ms) (lines_of s ms) e d → PassesBehind m (made e d)
             → IsBelow s (own_lines s m) (seen s m.edit) e d
         by (insert other more) d it at far all place pass =
             let its : Added = added_as s other d in (
               after_own m other more d ms far all place.0.after,
-              lets_line its (seen s m.edit) at (ends_elsewhere profile limit s fine kind c none m differs)
+              lets_line its (seen s m.edit) at (ends_elsewhere profile limit s fine kind table c none m differs)
                   (λ before. All-head (λ l. IsHeaderAt c.at l → LetsTable l (seen s m.edit)) its [] (pass before)),
             )
         by (append_table keys) d it at far all place pass =
@@ -245,18 +247,18 @@ module _ (profile : Profile) (limit : ℕ) (s : Document) (fine : IsEditable pro
   AreUnder m b = LetsUnder profile limit s m b × (b.change.at ≢ m.change.at)
 
   -- each lets it be under it, and so it is over the others
-  each_under : (m : MadeEdit) → IsNotBehind s kind c.at m → IsBeside m.change c → (bs rest : List MadeEdit)
-      → All (IsBehind s kind c.at) bs → All (PassesBehind m) bs → IsOver profile limit s m (bs ++ rest)
+  each_under : (m : MadeEdit) → IsNotBehind s kind table c.at m → IsBeside m.change c → (bs rest : List MadeEdit)
+      → All (IsBehind s kind table c.at) bs → All (PassesBehind m) bs → IsOver profile limit s m (bs ++ rest)
       → AreAtOnce profile limit s (bs ++ rest)
       → All (AreUnder m) bs × IsOver profile limit s m rest
   each_under m differs side [] rest is passes over all = (All-nil (AreUnder m), over)
   each_under m differs side (b ∷ bs) rest is passes over all =
-      let one : IsBehind s kind c.at b = All-head (IsBehind s kind c.at) b bs is in
+      let one : IsBehind s kind table c.at b = All-head (IsBehind s kind table c.at) b bs is in
       let pass : PassesBehind m b = All-head (PassesBehind m) b bs passes in
       let first : IsOver profile limit s b (bs ++ rest) = over_of profile limit s b (bs ++ rest) all in
       let far : b.change.at ≢ m.change.at = apart m b (bs ++ rest) one differs pass side over first in
       let (under, last) =
-      each_under m differs side bs rest (All-tail (IsBehind s kind c.at) b bs is)
+      each_under m differs side bs rest (All-tail (IsBehind s kind table c.at) b bs is)
       (All-tail (PassesBehind m) b bs passes) (over_fewer profile limit s m b (bs ++ rest) far over) all.1.1.1 in (
         All-cons (AreUnder m) b bs (lets_under m b (bs ++ rest) one differs pass side over first, far) under,
         last,
@@ -264,7 +266,7 @@ module _ (profile : Profile) (limit : ℕ) (s : Document) (fine : IsEditable pro
 
   -- an edit below some that come behind the line
   pub put_below : (m : MadeEdit) → (is_header (seen s m.edit) ≡ true → c.at ≢ length (text s))
-      → (bs rest : List MadeEdit) → All (IsBehind s kind c.at) bs → All (LetsUnder profile limit s m) bs
+      → (bs rest : List MadeEdit) → All (IsBehind s kind table c.at) bs → All (LetsUnder profile limit s m) bs
       → IsFree s c (m ∷ bs ++ rest)
       → AreAtOnce profile limit s (bs ++ rest) → IsOver profile limit s m rest
       → AreAtOnce profile limit s (bs ++ m ∷ rest)
@@ -275,19 +277,19 @@ module _ (profile : Profile) (limit : ℕ) (s : Document) (fine : IsEditable pro
       let swapped : IsFree s c (b ∷ m ∷ ms) = free_moved s c (m ∷ b ∷ ms) (b ∷ m ∷ ms) (λ P. swap P m b ms) free in
       joined profile limit s b more
       (over_moved profile limit s (m ∷ ms) more (λ P. down P m bs rest) (λ P. up P m bs rest) b
-      (over_more profile limit s fine kind c none b m ms (All-head (IsBehind s kind c.at) b bs is) swapped ends
-      (All-head (LetsUnder profile limit s m) b bs under) (over_of profile limit s b ms all)))
-      (put_below m ends bs rest (All-tail (IsBehind s kind c.at) b bs is)
+      (over_more profile limit s fine kind table c none b m ms (All-head (IsBehind s kind table c.at) b bs is) swapped
+      ends (All-head (LetsUnder profile limit s m) b bs under) (over_of profile limit s b ms all)))
+      (put_below m ends bs rest (All-tail (IsBehind s kind table c.at) b bs is)
       (All-tail (LetsUnder profile limit s m) b bs under)
       (free_moved s c (b ∷ m ∷ ms) (m ∷ ms) (λ P. All-tail P b (m ∷ ms)) swapped) all.1.1.1 over)
 
   -- ---- all of them
 
   abbrev later : List MadeEdit → List MadeEdit
-  later = behind s kind c.at
+  later = behind s kind table c.at
 
   abbrev earlier : List MadeEdit → List MadeEdit
-  earlier = before s kind c.at
+  earlier = before s kind table c.at
 
   abbrev gathered_of : List MadeEdit → List MadeEdit
   gathered_of ms = later ms ++ earlier ms
@@ -304,14 +306,14 @@ module _ (profile : Profile) (limit : ℕ) (s : Document) (fine : IsEditable pro
   over_gathered : (m : MadeEdit) (ms : List MadeEdit) → IsOver profile limit s m ms
       → IsOver profile limit s m (gathered_of ms)
   over_gathered m ms =
-      let test : MadeEdit → Bool = comes_behind s kind c.at in
+      let test : MadeEdit → Bool = comes_behind s kind table c.at in
       over_moved profile limit s ms (gathered_of ms) (λ P. all_sorted test P ms) (λ P. of_sorted test P ms) m
 
   -- by induction: one that doesn't come behind the line goes below those that do
   gather : (ms : List MadeEdit) → IsFree s c ms → ArePassed ms → AreAtOnce profile limit s ms → IsGathered ms
   gather [] free passed all = (tt, refl)
   gather (m ∷ ms) free passed all =
-      by (comes_behind s kind c.at m) refl
+      by (comes_behind s kind table c.at m) refl
       (gather ms (free_moved s c (m ∷ ms) ms (λ P. All-tail P m ms) free)
       (λ far.
       (let Passed : List Edit → Added → Type 0 = λ edits l. IsHeaderAt c.at l → All (LetsTable l) edits in
@@ -320,7 +322,7 @@ module _ (profile : Profile) (limit : ℕ) (s : Document) (fine : IsEditable pro
       (lines_before (Passed (seen_of s (m ∷ ms))) s m.edit m.change (lines_of s ms) (passed far)))) all.1.1.1)
     where
       test : MadeEdit → Bool
-      test = comes_behind s kind c.at
+      test = comes_behind s kind table c.at
 
       over : IsOver profile limit s m (gathered_of ms)
       over = over_gathered m ms (over_of profile limit s m ms all)
@@ -335,15 +337,15 @@ module _ (profile : Profile) (limit : ℕ) (s : Document) (fine : IsEditable pro
           (lines_before (λ l. IsHeaderAt c.at l → All (LetsTable l) (seen_of s (m ∷ ms))) s m.edit m.change
           (lines_of s ms) (passed far)))) n x few
 
-      goes_below : IsNotBehind s kind c.at m → IsGathered ms
+      goes_below : IsNotBehind s kind table c.at m → IsGathered ms
           → AreAtOnce profile limit s (later ms ++ m ∷ earlier ms)
           × (changes_of (later ms ++ m ∷ earlier ms) ≡ changes_of (m ∷ ms))
       goes_below is (at_once, same) =
-          let are : All (IsBehind s kind c.at) (later ms) = filter_passes test ms in
+          let are : All (IsBehind s kind table c.at) (later ms) = filter_passes test ms in
           let (under, last) =
           each_under m is (All-head (λ x. IsBeside x.change c) m ms free.beside) (later ms) (earlier ms) are passes over
           at_once in (
-            put_below m (ends_elsewhere profile limit s fine kind c none m is) (later ms) (earlier ms) are
+            put_below m (ends_elsewhere profile limit s fine kind table c none m is) (later ms) (earlier ms) are
                 (All-weaker (AreUnder m) (LetsUnder profile limit s m) (λ b h. h.0) (later ms) under)
                 (free_moved s c (m ∷ ms) (m ∷ gathered_of ms)
                 (λ P h. All-cons P m (gathered_of ms) (All-head P m ms h)
@@ -386,6 +388,7 @@ module _ (profile : Profile) (limit : ℕ) (s : Document) (ms : List MadeEdit) (
   }
 
   pub gathered : AreAtOnce profile limit s ms
-      → AreAtOnce profile limit s (behind s kind c.at ms ++ before s kind c.at ms)
-      × (changes_of (behind s kind c.at ms ++ before s kind c.at ms) ≡ changes_of ms)
-  gathered all = gather profile limit s fine kind c none ms is_free ahead.passed all
+      → AreAtOnce profile limit s (behind s kind (table_in s path) c.at ms ++ before s kind (table_in s path) c.at ms)
+      × (changes_of (behind s kind (table_in s path) c.at ms ++ before s kind (table_in s path) c.at ms)
+      ≡ changes_of ms)
+  gathered all = gather profile limit s fine kind (table_in s path) c none ms is_free ahead.passed all

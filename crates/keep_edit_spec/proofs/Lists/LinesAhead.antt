@@ -16,7 +16,8 @@ use Rattle.keep_path.specs.Path.{Part}
 use Rattle.keep_edit_spec.specs.Edits.{Edit, edited_document, insert}
 use Rattle.keep_edit_spec.specs.InsertKinds.{AddsAs, added_as}
 use Rattle.keep_edit_spec.specs.Laws.{IsEditable}
-use Rattle.keep_edit_spec.specs.LinesAhead.{ComesAhead, RunGoesOnAhead, before, behind, comes_behind, with_ahead}
+use Rattle.keep_edit_spec.specs.LinesAhead.{ComesAhead, RunGoesOnAhead, before, behind, comes_behind, table_in}
+use Rattle.keep_edit_spec.specs.LinesAhead.{with_ahead}
 use Rattle.keep_edit_spec.specs.Refusals.{refusal}
 use Rattle.keep_edit_spec.specs.RunLists.{AreAtOnce, MadeEdit, changes_of, document_after, lines_of, made, seen_of}
 use Rattle.keep_edit_spec.specs.Runs.{IsRun, IsSeenStill, LeavesAlone, LetsTable, seen}
@@ -24,6 +25,7 @@ use Rattle.keep_edit_spec.specs.TextChanges.{Follow, IsBeside, TextChange, moved
 use Rattle.keep_edit_spec.specs.declared.line_kind.LineKind.{LineKind}
 use Rattle.keep_edit_spec.proofs.Lists.AheadChanges.{low_before, put_ahead_of, put_before_all}
 use Rattle.keep_edit_spec.proofs.Lists.AheadDocuments.{IsMadeAhead, documents_ahead}
+use Rattle.keep_edit_spec.proofs.Lists.AheadOfAbove.{adds_ahead_of_above}
 use Rattle.keep_edit_spec.proofs.Lists.AheadOfAppended.{adds_ahead_of_element, adds_ahead_of_table}
 use Rattle.keep_edit_spec.proofs.Lists.AheadOfEnd.{adds_ahead_of_end}
 use Rattle.keep_edit_spec.proofs.Lists.BehindLine.{at_byte}
@@ -44,12 +46,15 @@ module _ (profile : Profile) (limit : ℕ) (s : Document) (ms : List MadeEdit) (
   abbrev e : Edit
   e = insert path value
 
+  abbrev table : List Part
+  table = table_in s path
+
   -- those that come behind the line, and the others
   abbrev bs : List MadeEdit
-  bs = behind s kind c.at ms
+  bs = behind s kind table c.at ms
 
   abbrev rest : List MadeEdit
-  rest = before s kind c.at ms
+  rest = before s kind table c.at ms
 
   abbrev sorted : List MadeEdit
   sorted = bs ++ rest
@@ -57,7 +62,7 @@ module _ (profile : Profile) (limit : ℕ) (s : Document) (ms : List MadeEdit) (
   sorted_at_once : AreAtOnce profile limit s sorted × (changes_of sorted ≡ changes_of ms)
   sorted_at_once = gathered profile limit s ms path value kind c fine adds beside ahead all
 
-  still : AreAtOnce profile limit s (with_ahead s kind ms (made e c))
+  still : AreAtOnce profile limit s (with_ahead s kind table ms (made e c))
   still = still_ahead profile limit s ms path value kind c fine adds alone beside ahead all
 
   run_of : (l : List MadeEdit) → AreAtOnce profile limit s l
@@ -71,52 +76,55 @@ module _ (profile : Profile) (limit : ℕ) (s : Document) (ms : List MadeEdit) (
       ((run_of ms all).text ∙ ap (text_with 0 (text s)) (sym sorted_at_once.1)
       ∙ sym (run_of sorted sorted_at_once.0).text)
 
-  all_behind : All (λ b. comes_behind s kind c.at b ≡ true) bs
-  all_behind = filter_passes (comes_behind s kind c.at) ms
+  all_behind : All (λ b. comes_behind s kind table c.at b ≡ true) bs
+  all_behind = filter_passes (comes_behind s kind table c.at) ms
 
-  none_behind : All (λ m. comes_behind s kind c.at m ≡ false) rest
+  none_behind : All (λ m. comes_behind s kind table c.at m ≡ false) rest
   none_behind =
-      All-weaker (λ m. not (comes_behind s kind c.at m) ≡ true) (λ m. comes_behind s kind c.at m ≡ false)
-      (λ m. not_true (comes_behind s kind c.at m)) rest (filter_passes (λ m. not (comes_behind s kind c.at m)) ms)
+      All-weaker (λ m. not (comes_behind s kind table c.at m) ≡ true) (λ m. comes_behind s kind table c.at m ≡ false)
+      (λ m. not_true (comes_behind s kind table c.at m)) rest
+      (filter_passes (λ m. not (comes_behind s kind table c.at m)) ms)
 
   lets : All (LetsTable (added_as s path c)) (seen_of s sorted)
   lets =
       let L : Edit → Type 0 = LetsTable (added_as s path c) in
       by_seen s L sorted
-      (all_sorted (comes_behind s kind c.at) (λ m. L (seen s m.edit)) ms (of_seen s L ms ahead.lets))
+      (all_sorted (comes_behind s kind table c.at) (λ m. L (seen s m.edit)) ms (of_seen s L ms ahead.lets))
 
   documents : IsMadeAhead profile limit s path value kind c bs rest
   documents =
-      documents_ahead profile limit s path value kind c bs rest adds_ahead_of_end adds_ahead_of_table
-      adds_ahead_of_element put_ahead_of fine adds all_behind none_behind lets sorted_at_once.0 still
+      documents_ahead profile limit s path value kind c bs rest adds_ahead_of_above adds_ahead_of_end
+      adds_ahead_of_table adds_ahead_of_element put_ahead_of fine adds all_behind none_behind lets sorted_at_once.0
+      still
 
   goes_ahead : (first between last : List TextChange) → changes_of ms ≡ first ++ between ++ last
       → All (λ x. x.at ≡ c.at) between → All (λ x. c.at < x.at) last → 0 < length between
       → length between ≡ length bs
-      → changes_of (with_ahead s kind ms (made e c)) ≡ first ++ c ∷ between ++ last
+      → changes_of (with_ahead s kind table ms (made e c)) ≡ first ++ c ∷ between ++ last
   goes_ahead first between last is there later some many =
       put_before_all bs rest (made e c) places first between last (sorted_at_once.1 ∙ is)
       (low_before 0 c.at first between last (subst (Follow 0) is (run_of ms all).follow) there some) there later many
     where
-      each_there : (l : List MadeEdit) → All (λ b. comes_behind s kind c.at b ≡ true) l
+      each_there : (l : List MadeEdit) → All (λ b. comes_behind s kind table c.at b ≡ true) l
           → AreAtOnce profile limit s (l ++ rest) → All (λ b. b.change.at ≡ c.at) l
       each_there [] h at_once = All-nil (λ b. b.change.at ≡ c.at)
       each_there (b ∷ l) h (makes, (left, (near, more))) =
           All-cons (λ x. x.change.at ≡ c.at) b l
-          (at_byte profile limit s fine kind c (none profile limit s ms path value kind c fine adds beside ahead) b
-          (seen_of s (l ++ rest)) (changes_of (l ++ rest)) (lines_of s (l ++ rest))
-          (All-head (λ x. comes_behind s kind c.at x ≡ true) b l h) makes).0
-          (each_there l (All-tail (λ x. comes_behind s kind c.at x ≡ true) b l h) more)
+          (at_byte profile limit s fine kind table c
+          (none profile limit s ms path value kind c fine adds beside ahead) b (seen_of s (l ++ rest))
+          (changes_of (l ++ rest)) (lines_of s (l ++ rest))
+          (All-head (λ x. comes_behind s kind table c.at x ≡ true) b l h) makes).0
+          (each_there l (All-tail (λ x. comes_behind s kind table c.at x ≡ true) b l h) more)
 
       places : All (λ b. b.change.at ≡ c.at) bs
       places = each_there bs all_behind sorted_at_once.0
 
 pub run_goes_on_ahead : RunGoesOnAhead
 run_goes_on_ahead profile limit s ms path value kind c fine all adds alone beside ahead = record {
-  there = moved_past (changes_of (before s kind c.at ms)) c;
+  there = moved_past (changes_of (before s kind (table_in s path) c.at ms)) c;
   new_is = refl;
   makes = subst (λ (t : Document). AddsAs kind profile limit t path value
-      (moved_past (changes_of (before s kind c.at ms)) c))
+      (moved_past (changes_of (before s kind (table_in s path) c.at ms)) c))
       (sym (same_gathered profile limit s ms path value kind c fine all adds alone beside ahead))
       (documents profile limit s ms path value kind c fine all adds alone beside ahead).makes;
   seen_still = subst (λ (t : Document). IsSeenStill s t (insert path value))

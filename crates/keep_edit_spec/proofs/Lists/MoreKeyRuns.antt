@@ -30,6 +30,7 @@ use Rattle.keep_edit_spec.specs.TextChanges.{IsBeside, TextChange, moved_past, w
 use Rattle.keep_edit_spec.specs.declared.line_kind.LineKind.{LineKind}
 use Rattle.keep_edit_spec.specs.declared.line_kind.LineKind.TheVariants.{LastInBody, OfDotted, WithHeader}
 use Rattle.keep_edit_spec.proofs.Insert.ItemCount.{without_last-snoc}
+use Rattle.keep_edit_spec.proofs.Lists.DottedLeads.{at_own}
 use Rattle.keep_edit_spec.proofs.Lists.DottedLine as dotted
 use Rattle.keep_edit_spec.proofs.Lists.LineKinds.{as_of_kind, kind_is}
 use Rattle.keep_edit_spec.proofs.Lists.MadeChanges.{change_allowed, change_lawful}
@@ -175,9 +176,10 @@ module _ (profile : Profile) (limit : ℕ) (s : Document) (es : List Edit) (chan
           other = λ is. differs (sym first ∙ is ∙ first_too);
           table = λ here at. (
             refl,
-            ap (λ (p : List Part). without_last p) first ∙ without_last-snoc (first_new s path) (key apart.next)
+            at_own (without_last (first_new now other)) (without_last (first_new now another))
+                (ap (λ (p : List Part). without_last p) first ∙ without_last-snoc (first_new s path) (key apart.next)
                 ∙ sym (ap (λ (p : List Part). without_last p) first_too
-                ∙ without_last-snoc (first_new s path) (key apart_too.next)),
+                ∙ without_last-snoc (first_new s path) (key apart_too.next))),
           );
         } in
         let (still, first_still) =

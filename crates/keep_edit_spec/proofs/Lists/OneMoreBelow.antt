@@ -13,6 +13,7 @@ use Rattle.std.proofs.lemmas.List.Elements.{All-cons, All-head, All-tail, All-we
 use Rattle.std.proofs.lemmas.List.Folds.{list_any_none}
 use Rattle.keep_types.specs.declared.leaf.Profile.{Profile}
 use Rattle.keep_syntax.specs.Tree.{Document, text}
+use Rattle.keep_path.specs.Path.{Part}
 use Rattle.keep_meaning.specs.Meaning.{mentions_in}
 use Rattle.keep_edit_spec.specs.Edits.{Edit, append_element, append_table, insert, remove, rename, set}
 use Rattle.keep_edit_spec.specs.InsertKinds.{Added, IsAfterLine, IsHeaderAt, added_as, table_of}
@@ -126,8 +127,8 @@ pub record LetsUnder (profile : Profile) (limit : ℕ) (s : Document) (m b : Mad
 -- ---- over one more
 
 module _ (profile : Profile) (limit : ℕ) (s : Document) (fine : IsEditable profile limit s) (kind : LineKind)
-    (c : TextChange) (none : c.size ≡ 0) where
-  module _ (b m : MadeEdit) (ms : List MadeEdit) (is : IsBehind s kind c.at b) (free : IsFree s c (b ∷ m ∷ ms))
+    (table : List Part) (c : TextChange) (none : c.size ≡ 0) where
+  module _ (b m : MadeEdit) (ms : List MadeEdit) (is : IsBehind s kind table c.at b) (free : IsFree s c (b ∷ m ∷ ms))
       (ends : is_header (seen s m.edit) ≡ true → c.at ≢ length (text s)) (under : LetsUnder profile limit s m b)
       (over : IsOver profile limit s b ms) where
     abbrev edits : List Edit
@@ -140,7 +141,7 @@ module _ (profile : Profile) (limit : ℕ) (s : Document) (fine : IsEditable pro
     lines = lines_of s ms
 
     put_there : (b.change.at ≡ c.at) × (b.change.size ≡ 0)
-    put_there = at_byte profile limit s fine kind c none b (seen_of s ms) (changes_of ms) lines is over.0
+    put_there = at_byte profile limit s fine kind table c none b (seen_of s ms) (changes_of ms) lines is over.0
 
     clear : list_any (takes_up_to b.change.at) changes ≡ false
     clear =
@@ -241,7 +242,7 @@ module _ (profile : Profile) (limit : ℕ) (s : Document) (fine : IsEditable pro
       in_place,
       (
         All-cons (λ f. LeavesAlone f (seen s b.edit)) (seen s m.edit) (seen_of s ms)
-            (left_back profile limit s fine kind c none b (seen s m.edit) is under.left) over.1.0,
+            (left_back profile limit s fine kind table c none b (seen s m.edit) is under.left) over.1.0,
         all_with (λ x. IsBeside x b.change) (changes_of ms) m.change over.1.1 beside,
       ),
     )

@@ -10,7 +10,7 @@
 -- Theorems: `same_newline`; `still_placed`, and without the order `stays_placed`; `stays_behind`: of a line behind a
 -- header that came; `change_placed`: an edit whose change is known changes the text so.
 use Rattle.std.proofs.Common.{◌≡◌, ◌≢◌, ℕ, ◌+◌, ◌<◌, Bool, List, [], ◌∷◌, length, refl, sym, ap, subst, ◌∙◌, arith, All}
-use Rattle.std.proofs.Common.{inl, inr, true, false, not, ◌&&◌, ◌||◌, ◌≤◌, suc}
+use Rattle.std.proofs.Common.{inl, inr, true, false, not, ◌&&◌, ◌||◌, ◌≤◌, suc, subst₂}
 use Rattle.std.specs.Prelude.{IsTrue, ◌==◌, ◌⊎◌}
 use Rattle.std.specs.List.{list_any}
 use Rattle.std.proofs.lemmas.Bool.{eq-eqb, lt-ltb, or_parts, eqb-true}
@@ -25,6 +25,7 @@ use Rattle.keep_edit_spec.specs.Laws.{IsEditable}
 use Rattle.keep_edit_spec.specs.Lines.{newline_of}
 use Rattle.keep_edit_spec.specs.Look.{keys_in}
 use Rattle.keep_edit_spec.specs.AddedLines.{first_new}
+use Rattle.keep_edit_spec.specs.DottedLines.{IsAtOrBelow}
 use Rattle.keep_edit_spec.specs.InsertKinds.{Added, IsAfterAs, IsAfterLine, added_as, is_last_in_body}
 use Rattle.keep_edit_spec.specs.InsertKinds.{kind_of, table_of}
 use Rattle.keep_edit_spec.specs.AppendedHeaders.{AppendsElement, AppendsTable}
@@ -251,7 +252,8 @@ order_now s changes now path other c d follow left right first kind first' kind'
         → IsAfterAs a (added_as now path there) (added_as now other there')
     by LastInBody h = λ same is. h (one same) (sym kind ∙ is)
     by OfDotted h = λ same.
-        let was = h (one same) in (kind ∙ was.0, ap without_last first ∙ was.1 ∙ sym (ap without_last first'))
+        let was = h (one same) in
+        (kind ∙ was.0, subst₂ IsAtOrBelow (sym (ap without_last first)) (sym (ap without_last first')) was.1)
     by WithHeader h = λ is.
         let was = h (sym kind ∙ is) in
         (λ same. was.0 (one same), λ same. was.1 (sym (ap without_last first) ∙ same ∙ ap without_last first'))

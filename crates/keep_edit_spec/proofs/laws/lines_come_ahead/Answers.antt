@@ -1,3 +1,4 @@
+use Rattle.keep_edit_spec.proofs.Lists.AheadOfAbove.{adds_ahead_of_above}
 use Rattle.keep_edit_spec.proofs.Lists.AheadOfAppended.{adds_ahead_of_element, adds_ahead_of_table}
 use Rattle.keep_edit_spec.proofs.Lists.AheadOfEnd.{adds_ahead_of_end}
 use Rattle.keep_edit_spec.proofs.Lists.AheadOfHeader.{adds_ahead}
@@ -10,6 +11,9 @@ returns-clause-header c = adds_ahead
 
 pub returns-clause-line : goal.returns-clause-line
 returns-clause-line c = adds_ahead_of_end
+
+pub returns-clause-above : goal.returns-clause-above
+returns-clause-above c = adds_ahead_of_above
 
 pub returns-clause-table : goal.returns-clause-table
 returns-clause-table c = adds_ahead_of_table
