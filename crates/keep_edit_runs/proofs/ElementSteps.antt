@@ -17,13 +17,12 @@ use Rattle.std.proofs.lemmas.Str.{IsUtf8-string_bytes}
 use Rattle.keep_types.specs.declared.leaf.Profile.{Profile}
 use Rattle.keep_syntax.specs.Tree.{Document, Value, text}
 use Rattle.keep_path.specs.Path.{Part}
-use Rattle.keep_edit_spec.specs.AddedLines.{AddsLine}
 use Rattle.keep_edit_spec.specs.Edits as law
 use Rattle.keep_edit_spec.specs.Edits.{edited_document}
 use Rattle.keep_edit_spec.specs.ElementRuns.{IsElementRun, IsElementRunByEntry, IsElementRunLonger}
 use Rattle.keep_edit_spec.specs.ElementRuns.{IsElsewhere, KeepsPlaceAmong, changed_path}
 use Rattle.keep_edit_spec.specs.EntryEdits.{MakesSet}
-use Rattle.keep_edit_spec.specs.InsertKinds.{Added, added_as, kind_of}
+use Rattle.keep_edit_spec.specs.InsertKinds.{Added, AddsAs, added_as, kind_of}
 use Rattle.keep_edit_spec.specs.Laws.{IsLawfulEdit}
 use Rattle.keep_edit_spec.specs.MoreKeys.{IsOpen}
 use Rattle.keep_edit_spec.specs.Refusals.{refusal}
@@ -32,6 +31,7 @@ use Rattle.keep_edit_spec.specs.Runs.{IsBeforeHeaders, IsInOrder, LeaveNewline, 
 use Rattle.keep_edit_spec.specs.Runs.{MakesChange, with_line}
 use Rattle.keep_edit_spec.specs.TextChanges.{IsBeside, TextChange, with_change}
 use Rattle.keep_edit_spec.specs.declared.line_kind.LineKind.{LineKind}
+use Rattle.keep_edit_spec.specs.declared.line_kind.LineKind.TheVariants.{WithHeader}
 use Rattle.keep_edit_spec.proofs.Shared.{all_with}
 use Rattle.keep_edit_plan.proofs.Shared.{change_in}
 use Rattle.keep_edit_plan.specs.TextEdits.{IsChangeIn, change_of}
@@ -296,20 +296,21 @@ module _ (s : Document) (edits : List Edit) (n : ℕ) (old now : ProfiledText) (
         same_tree longer.run;
   }
 
-  -- further keys go into the table that its dotted keys make, if it is an insert that adds a line at the end of a body
-  pub opened_after : h.paths ≡ [] → (p : List Part) (v : Value) → e ≡ law.insert p v → a ≡ runs.seen before e
-      → IsOfKind before e line → AddsLine now.profile limit before p v c
-      → IsOpen now.profile limit before one_more_among.es (with_change changes c) one_more_among.made.tree p
+  -- further keys go into the table that its dotted keys make, if it is an insert that adds a line without a header
+  pub opened_after : h.paths ≡ [] → (p : List Part) (v : Value) (kind : LineKind) → e ≡ law.insert p v
+      → a ≡ runs.seen before e → IsOfKind before e line → kind ≢ WithHeader
+      → AddsAs kind now.profile limit before p v c
+      → IsOpen now.profile limit before one_more_among.es (with_change changes c) one_more_among.made.tree p kind
   unfolding one_more_among
-  opened_after none p v is same of adds =
+  opened_after none p v kind is same of headless adds =
       let itself : a ≡ runs.seen before (law.insert p v) = same ∙ ap (runs.seen before) is in
       subst₂ (λ (b : law.Edit) (u : Document).
-      IsOpen now.profile limit before (b ∷ h.es) (with_change changes c) u p) (sym itself)
+      IsOpen now.profile limit before (b ∷ h.es) (with_change changes c) u p kind) (sym itself)
       (ap (edited_document t) (sym is) ∙ same_tree)
-      (run_is_open now.profile limit before h.es changes h.lines t p v c
+      (run_is_open now.profile limit before h.es changes h.lines t p v c kind
       (subst (λ (gone : List (List Part)). IsElementRun now.profile limit before h.es changes h.lines gone t) none
       h.run)
-      adds (subst (λ (b : law.Edit). All (λ f. runs.LeavesAlone f b) h.es) itself others) beside
+      headless adds (subst (λ (b : law.Edit). All (λ f. runs.LeavesAlone f b) h.es) itself others) beside
       (subst (λ (f : law.Edit). KeepsPlaceAmong before h.es changes h.lines f c) is (keeps same of)))
 
 -- as it is placed among others between which elements go, it is placed among those between which none does

@@ -20,11 +20,11 @@ use Rattle.keep_types.specs.declared.leaf.Profile.{Profile}
 use Rattle.keep_syntax.specs.Tree.{Document, Value}
 use Rattle.keep_path.specs.Path.{Part, key}
 use Rattle.keep_meaning.specs.Meaning.{mentions_in}
-use Rattle.keep_edit_spec.specs.AddedLines.{AddsLine, first_new}
+use Rattle.keep_edit_spec.specs.AddedLines.{first_new}
 use Rattle.keep_edit_spec.specs.Edits as law
 use Rattle.keep_edit_spec.specs.Edits.{edited_document}
 use Rattle.keep_edit_spec.specs.ElementRuns.{IsElementRun, IsElsewhere, changed_path}
-use Rattle.keep_edit_spec.specs.InsertKinds.{kind_of}
+use Rattle.keep_edit_spec.specs.InsertKinds.{AddsAs, kind_of}
 use Rattle.keep_edit_spec.specs.Look.{holder}
 use Rattle.keep_edit_spec.specs.MoreKeys.{GoOnApart, IsOpen, IsRunInside, inner_line, key_below}
 use Rattle.keep_edit_spec.specs.Runs as runs
@@ -164,22 +164,21 @@ keyed_begins edits first now run h =
 
 -- the edit is that insert, as others see it
 insert_is : (profile : Profile) (s : Document) (e a : law.Edit) (c : TextChange) (line : Option LineKind)
-    (p first : List Part) (v : Value) → e ≡ law.insert p v → plain a ≡ law.insert first no_value
-    → line ≡ Some LastInBody
-    → MakesInRun profile s e a c line
-    → (a ≡ runs.seen s e) × (IsOfKind s e line × AddsLine profile limit s p v c)
-insert_is profile s e a c line p first v is seen last (inl (same, makes, of)) =
-    let here : Some LastInBody ≡ Some (kind_of s p) =
+    (p first : List Part) (v : Value) (of_line : LineKind) → e ≡ law.insert p v
+    → plain a ≡ law.insert first no_value → line ≡ Some of_line → MakesInRun profile s e a c line
+    → (a ≡ runs.seen s e) × (IsOfKind s e line × AddsAs of_line profile limit s p v c)
+insert_is profile s e a c line p first v of_line is seen last (inl (same, makes, of)) =
+    let here : Some of_line ≡ Some (kind_of s p) =
     sym last ∙ subst (λ (f : law.Edit). IsOfKind s f line) is of in
-    let kind : kind_of s p ≡ LastInBody = cc in (
+    let kind : kind_of s p ≡ of_line = cc in (
       same,
       (
         of,
-        as_of_kind LastInBody profile limit s p v c kind
+        as_of_kind of_line profile limit s p v c kind
             (subst (λ (f : law.Edit). MakesChange profile limit s f c) is makes),
       ),
     )
-insert_is profile s e a c line p first v is seen last (inr (holder, value, same, h)) =
+insert_is profile s e a c line p first v of_line is seen last (inr (holder, value, same, h)) =
     absurd (let both : law.set holder no_value ≡ law.insert first no_value = sym (ap plain same) ∙ seen in cc)
 
 -- the first new key of the insert that makes the table, and of a further key's
@@ -229,18 +228,18 @@ module _ (edits : List Edit) (first n : ℕ) (now : ProfiledText) (old new : Kin
                 a adds.makes.is seen c adds.line makes adds.alone.edits adds.alone.elsewhere adds.added.beside
                 adds.placed adds.added.kept adds.added.ends utf8 within;
             opened = λ t is.
-                let (known, (last, (given, (own, of_outline)))) = adds.makes_table t is in
+                let (known, ((last, headless), (given, (own, of_outline)))) = adds.makes_table t is in
                 let (v, text, edit_is) =
                 subst (λ (y : Edit). IsEdit y adds.makes.edit) own adds.makes.is in
                 let (itself, (kind, line)) =
-                insert_is now.profile h.tree adds.makes.edit a c adds.line t.path.now (path_to_new t) v edit_is
+                insert_is now.profile h.tree adds.makes.edit a c adds.line t.path.now (path_to_new t) v t.kind edit_is
                 (seen ∙ of_outline) last makes in
                 opened_after s edits n older now h.tree old.so_far.outlines.items old.so_far.changes old.lines
                 new.lines old.gone.arrays.items old.gone.elements h.read run.to d x lt here adds.outline adds.makes.edit
                 a adds.makes.is seen c adds.line makes adds.alone.edits adds.alone.elsewhere adds.added.beside
                 adds.placed adds.added.kept adds.added.ends utf8 within
-                (paths_none old.gone.arrays.items run.to.paths so_far.empty run.to.of_arrays) t.path.now v edit_is
-                itself kind line;
+                (paths_none old.gone.arrays.items run.to.paths so_far.empty run.to.of_arrays) t.path.now v t.kind
+                edit_is itself kind headless line;
           }
 
       pub behind_more : AreKeyedIn edits first (suc n) now new next
@@ -255,11 +254,11 @@ module _ (s : Document) (edits : List Edit) (n : ℕ) (old now : ProfiledText) (
     (read : IsTextOfTree now before)
     (h : IsElementRunTo s edits n old now before outlines changes adds arrays gone) (none : h.paths ≡ []) (d x : Edit)
     (lt : n < length edits) (here : get_or edits n d ≡ x) (t : NewTable)
-    (is_open : IsOpen now.profile limit before h.es changes h.made.tree t.path.now) (leads : IsNewTable now t)
+    (is_open : IsOpen now.profile limit before h.es changes h.made.tree t.path.now t.kind) (leads : IsNewTable now t)
     (more : IsMoreKey now t x) (o : Outline)
     (o_is : outlined o ≡ law.insert (key_below (path_to_new t) more.apart.next) no_value) (c : TextChange)
     (e : law.Edit) (given : IsEdit x e) (makes : MakesChange now.profile limit before e c)
-    (of : IsOfKind before e (Some LastInBody)) (left : All (λ y. LeavesAlone y o) outlines)
+    (of : IsOfKind before e (Some t.kind)) (left : All (λ y. LeavesAlone y o) outlines)
     (beside : All (λ b. IsBeside b c) changes) (kept : IsLineKept adds changes o c.at (Some LastInBody) next)
     (utf8 : All (λ b. IsUtf8 b.new) (with_change changes c))
     (within : All (IsChangeIn now.text) (with_change changes c)) where
@@ -277,12 +276,12 @@ module _ (s : Document) (edits : List Edit) (n : ℕ) (old now : ProfiledText) (
   abbrev own : law.Edit
   own = law.insert q v
 
-  line : AddsLine now.profile limit before q v c
+  line : AddsAs t.kind now.profile limit before q v c
   line =
-      let there : Some LastInBody ≡ Some (kind_of before q) =
-      subst (λ (f : law.Edit). IsOfKind before f (Some LastInBody)) its.1 of in
-      let kind : kind_of before q ≡ LastInBody = cc in
-      as_of_kind LastInBody now.profile limit before q v c kind
+      let there : Some t.kind ≡ Some (kind_of before q) =
+      subst (λ (f : law.Edit). IsOfKind before f (Some t.kind)) its.1 of in
+      let kind : kind_of before q ≡ t.kind = cc in
+      as_of_kind t.kind now.profile limit before q v c kind
       (subst (λ (f : law.Edit). MakesChange now.profile limit before f c) its.1 makes)
 
   first_is : first_new before t.path.now ≡ path_to_new t
@@ -322,9 +321,10 @@ module _ (s : Document) (edits : List Edit) (n : ℕ) (old now : ProfiledText) (
       subst (λ (l : List (List Part)). IsElementRun now.profile limit before h.es changes h.lines l h.made.tree) none
       h.run
 
-  inside : IsRunInside now.profile limit before h.es changes h.lines h.made.tree t.path.now q below v c
+  inside : IsRunInside now.profile limit before h.es changes h.lines h.made.tree t.path.now t.kind q below v c
   inside =
-      run_goes_on_inside now.profile limit before h.es changes h.lines h.made.tree t.path.now q v c alone_run is_open
+      run_goes_on_inside now.profile limit before h.es changes h.lines h.made.tree t.path.now t.kind q v c alone_run
+      is_open
       line same apart others beside
 
   made : AreMade s (take (suc n) edits) old (changed_text now (with_change changes c))
@@ -388,7 +388,8 @@ module _ (s : Document) (edits : List Edit) (n : ℕ) (old now : ProfiledText) (
     opened = λ own_table is.
         let table : t ≡ own_table = (let both : Some t ≡ Some own_table = is in cc) in
         subst₂ (λ (u : Document) (its_table : NewTable).
-        IsOpen now.profile limit before (a ∷ h.es) (with_change changes c) u its_table.path.now) same_tree table
+        IsOpen now.profile limit before (a ∷ h.es) (with_change changes c) u its_table.path.now its_table.kind)
+        same_tree table
         inside.still;
   }
 

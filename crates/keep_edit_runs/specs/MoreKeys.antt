@@ -1,7 +1,7 @@
 -- Edits of several kinds that are made at once, among them inserts of further keys into tables that the dotted keys of
 -- an insert right before them make: what is known of them, and what one edit more does.
-use Rattle.std.specs.Prelude.{◌≡◌, ◌⊎◌, ℕ, suc, All, IfSome, List, [], ◌∷◌, ◌++◌, Option, Some, get_or, length, take}
-use Rattle.std.specs.Prelude.{true}
+use Rattle.std.specs.Prelude.{◌≡◌, ◌≢◌, ◌⊎◌, ℕ, suc, All, IfSome, List, [], ◌∷◌, ◌++◌, Option, Some, get_or, length}
+use Rattle.std.specs.Prelude.{take, true}
 use Rattle.keep_syntax.specs.Tree.{Document}
 use Rattle.keep_path.specs.Path.{Part}
 use Rattle.keep_meaning.specs.Meaning.{mentions_in}
@@ -12,7 +12,7 @@ use Rattle.keep_edit_spec.specs.Runs as runs
 use Rattle.keep_edit_runs.specs.Newlines.{LeavesHere}
 use Rattle.keep_edit_spec.specs.TextChanges.{TextChange}
 use Rattle.keep_edit_spec.specs.declared.line_kind.LineKind.{LineKind}
-use Rattle.keep_edit_spec.specs.declared.line_kind.LineKind.TheVariants.{LastInBody}
+use Rattle.keep_edit_spec.specs.declared.line_kind.LineKind.TheVariants.{LastInBody, WithHeader}
 use Rattle.keep_edit_plan.specs.Reading.{IsTextOfTree, ProfiledText, limit}
 use Rattle.keep_edit_plan.specs.TextEdits.{change_of}
 use Rattle.keep_edit_plan.specs.declared.edit.Edit.{Edit}
@@ -45,10 +45,14 @@ IsNewTable now t = LeadsToNew now t.path.now t.count
 abbrev pub path_to_new : NewTable → List Part
 path_to_new t = take t.count t.path.now
 
--- The edit is the insert that makes the table, as others see it, by a line at the end of a body.
+-- the line has the table's kind, and no header
+abbrev pub IsOfTable : Option LineKind → NewTable → Type 0
+IsOfTable line t = (line ≡ Some t.kind) × (t.kind ≢ WithHeader)
+
+-- The edit is the insert that makes the table, as others see it, by such a line.
 abbrev pub MakesTable : Edit → SeenAs → Option LineKind → NewTable → Type 0
 MakesTable x seen line t =
-    (given : List ℕ) × ((x ≡ Insert t.path.now given) × ((seen ≡ FirstKey t.count) × (line ≡ Some LastInBody)))
+    (given : List ℕ) × ((x ≡ Insert t.path.now given) × ((seen ≡ FirstKey t.count) × IsOfTable line t))
 
 -- The edit inserts a further key into the table.
 pub record IsMoreKey (now : ProfiledText) (t : NewTable) (x : Edit) : Type 0 where
@@ -108,17 +112,18 @@ pub record AddsBehind (now : ProfiledText) (old : KindsRun) (edit : Edit) (new :
       new.so_far.changes
   pub outlines : new.so_far.outlines.items ≡ old.so_far.outlines.items ++ outline ∷ []
   pub gone : new.gone ≡ old.gone
-  pub makes_table : (t : NewTable) → table ≡ Some t → IsNewTable now t × ((line ≡ Some LastInBody)
+  pub makes_table : (t : NewTable) → table ≡ Some t → IsNewTable now t × (IsOfTable line t
       × ((given : List ℕ) × ((edit ≡ Insert t.path.now given)
       × (outlined outline ≡ law.insert (path_to_new t) no_value))))
 
--- It inserts a further key into a new table: its change is that of a line at the end of the body.
+-- It inserts a further key into a new table: its change is that of a line of the table's kind, and it is known as one
+-- at the end of a body.
 pub record AddsInside (now : ProfiledText) (old : KindsRun) (t : NewTable) (edit : Edit) (new : KindsRun) : Type 0 where
   pub more : IsMoreKey now t edit
   pub outline : Outline
   pub is : outlined outline ≡ law.insert (key_below (path_to_new t) more.apart.next) no_value
   pub change : TextEdit
-  pub makes : MakesItselfHere now edit change (Some LastInBody)
+  pub makes : MakesItselfHere now edit change (Some t.kind)
   pub alone : IsAlone old outline
   pub added : IsAddedBehind now.text old.lines old.so_far.changes outline (change_of change) (Some LastInBody) new.lines
       new.so_far.changes
@@ -144,4 +149,4 @@ pub record IsKeyedRunTo (s : Document) (edits : List Edit) (end : ℕ) (old now 
     (table : Option NewTable) : Type 0 where
   pub to : IsElementRunTo s edits end old now before outlines changes adds arrays gone
   pub opened : (t : NewTable) → table ≡ Some t
-      → IsOpen now.profile limit before to.es changes to.made.tree t.path.now
+      → IsOpen now.profile limit before to.es changes to.made.tree t.path.now t.kind

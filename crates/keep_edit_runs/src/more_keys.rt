@@ -1,6 +1,6 @@
 //! Edits of several kinds that are made at once, among them inserts of further keys: they go into a table which the
 //! dotted keys of an insert right before them make. Each makes its change behind those before it where it begins.
-ghost use Rattle.std.specs.Prelude.{◌≡◌, ◌<◌, ◌≤◌, All, IfSome, IsTrue, false, length, take};
+ghost use Rattle.std.specs.Prelude.{◌≡◌, ◌<◌, ◌≤◌, All, IfSome, IsTrue, Some, false, length, take};
 ghost use Rattle.keep_edit_plan.specs.TextEdits.{IsChangeIn, IsOrdered};
 ghost use Rattle.keep_edit_runs.specs.KindsRun.{AreSeen, IsAlone, IsRunOn, with_paths};
 ghost use Rattle.keep_edit_runs.specs.MoreKeys.{AddsBehind, AddsInside, GoesOnWithKeys, IsAddedLast, IsKeyOf};
@@ -26,6 +26,8 @@ pub struct NewTable<'a> {
     pub path: &'a Path,
     /// How many of its steps lead to the table.
     pub count: usize,
+    /// The kind of the line that it adds, without a header.
+    pub kind: LineKind,
 }
 
 /// Whether two paths that are the same in so many steps go on from there, each by another key.
@@ -44,11 +46,23 @@ fn new_table<'a>(edit: &'a Edit, seen: SeenAs, line: Option<LineKind>) -> Option
     ensures { IfSome result (MakesTable edit.now seen line) }
 {
     match (edit, seen, line) {
-        (Edit::Insert(path, _), SeenAs::FirstKey(count), Some(LineKind::LastInBody)) => {
-            Some(NewTable { path, count })
+        (_, _, Some(LineKind::WithHeader)) => None,
+        (Edit::Insert(path, _), SeenAs::FirstKey(count), Some(kind)) => {
+            Some(NewTable { path, count, kind })
         }
         _ => None,
     }
+}
+
+/// Whether a line is of that kind, which has no header.
+fn is_of_kind(line: Option<LineKind>, kind: LineKind) -> bool
+    ensures { IsTrue result → line ≡ Some kind }
+{
+    matches!(
+        (line, kind),
+        (Some(LineKind::LastInBody), LineKind::LastInBody)
+            | (Some(LineKind::OfDotted), LineKind::OfDotted)
+    )
 }
 
 impl<'a> KindsRun<'a> {
@@ -130,8 +144,8 @@ impl Before<'_> {
             && go_on_apart(table.path, path, count)
     }
 
-    /// Adds an insert of such a further key, which has this number in the list. Returns whether it was added; if not,
-    /// no change was.
+    /// Adds an insert of such a further key, which has this number in the list: its line comes right behind the others
+    /// of the table, and so is known as one at the end of a body. Returns whether it was added; if not, no change was.
     fn add_more_key<'a>(
         &self,
         run: &mut KindsRun<'a>,
@@ -160,10 +174,14 @@ impl Before<'_> {
         let Some(made) = self.change_by_itself(&mut run.planner, edit) else {
             return false;
         };
-        let Some(LineKind::LastInBody) = made.line else {
+        if !is_of_kind(made.line, table.kind) {
             return false;
+        }
+        let last = RunEdit {
+            change: made.change,
+            line: Some(LineKind::LastInBody),
         };
-        self.add_last(run, number, edit, outline, made)
+        self.add_last(run, number, edit, outline, last)
     }
 
     /// Adds an edit, which has this number in the list, if the others leave it alone and it makes its own change behind

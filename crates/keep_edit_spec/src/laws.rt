@@ -206,8 +206,9 @@ pub fn headers_come_below()
     ensures ahead { below.StillBringsAhead }
 {}
 
-/// An insert of several keys adds the line that it adds at the end of a body after another of the same first new key,
-/// too: right behind that one's line, in the table that its dotted keys made. So runs of edits go on by such inserts.
+/// An insert of several keys adds the line that it adds at the end of a body, or to a table that dotted keys make,
+/// after another of the same first new key, too: right behind that one's line, in the table that its own dotted keys
+/// made. So runs of edits go on by such inserts.
 pub fn more_keys_come_behind()
     ensures line { more_keys.AddsMoreKey }
     ensures opens { more_keys.RunIsOpen }

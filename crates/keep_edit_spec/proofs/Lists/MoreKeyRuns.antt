@@ -1,9 +1,9 @@
 -- Runs of edits of all kinds that go on by a further key of a table that an insert's dotted keys made: the insert added
--- its line at the end of a body, and was the last one made.
+-- its line at the end of a body, or to such a table, and was the last one made.
 --
 -- The other insert adds its line behind that one (MoreKeys), wherever the run moves it (`opens`), and so does one more
 -- after it, of another key again (`still_open`). After it another edit makes its change as before: it comes after the
--- new line, as it comes after one at the end of the body (`order`).
+-- new line, as it comes after one at the end of a body (`order`).
 --
 -- Theorems: `run_is_open`, `run_goes_on_inside`.
 use Rattle.std.proofs.Common.{◌≡◌, ◌≢◌, ◌∙◌, ℕ, List, [], ◌∷◌, ◌++◌, refl, sym, ap, subst, subst₂}
@@ -13,11 +13,11 @@ use Rattle.keep_types.specs.declared.leaf.Profile.{Profile}
 use Rattle.keep_syntax.specs.Tree.{Document, Value, text}
 use Rattle.keep_path.specs.Path.{Part, key, without_last}
 use Rattle.keep_meaning.specs.Meaning.{mentions_in}
-use Rattle.keep_edit_spec.specs.AddedLines.{AddsLine, first_new}
+use Rattle.keep_edit_spec.specs.AddedLines.{first_new}
 use Rattle.keep_edit_spec.specs.DottedLines.{AddsDotted, AreInOrder, added_at}
 use Rattle.keep_edit_spec.specs.Edits.{Edit, append_element, append_table, edited_document, insert, remove, rename, set}
 use Rattle.keep_edit_spec.specs.ElementRuns.{IsElementRun, IsElsewhere, KeepsPlaceAmong, changed_path}
-use Rattle.keep_edit_spec.specs.InsertKinds.{Added, IsAfterAs, IsAfterLine, added_as, kind_of}
+use Rattle.keep_edit_spec.specs.InsertKinds.{Added, AddsAs, IsAfterAs, IsAfterLine, added_as, kind_of}
 use Rattle.keep_edit_spec.specs.Laws.{IsLawfulEdit}
 use Rattle.keep_edit_spec.specs.Look.{holder}
 use Rattle.keep_edit_spec.specs.MoreKeys.{GoOnApart, IsOpen, RunGoesOnInside, RunIsOpen, inner_line, key_below}
@@ -58,16 +58,17 @@ other_value path v w (append_element keys) h = h
 
 module _ (profile : Profile) (limit : ℕ) (s : Document) (es : List Edit) (changes : List TextChange)
     (lines : List Added) (now : Document) (r : IsElementRun profile limit s es changes lines [] now) (path : List Part)
-    (value : Value) (c : TextChange) (h : AddsLine profile limit s path value c)
+    (value : Value) (c : TextChange) (kind : LineKind) (headless : kind ≢ WithHeader)
+    (h : AddsAs kind profile limit s path value c)
     (alone : All (λ f. LeavesAlone f (seen s (insert path value))) es) (beside : All (λ x. IsBeside x c) changes)
     (placed : KeepsPlaceAmong s es changes lines (insert path value) c) where
-  module _ (other : List Part) (more : Value) (d : TextChange) (k : AddsLine profile limit s other more d)
+  module _ (other : List Part) (more : Value) (d : TextChange) (k : AddsAs kind profile limit s other more d)
       (same : first_new s path ≡ first_new s other) (side : All (λ x. IsBeside x d) changes) where
     there : (holder other (mentions_in s) ≡ holder path (mentions_in s)) × (d.at ≡ c.at)
-    there = one_holder profile limit s path value c other more d h k same
+    there = one_holder kind profile limit s path value c other more d headless h k same
 
     kinds : kind_of s other ≡ kind_of s path
-    kinds = kind_is LastInBody profile limit s other more d k ∙ sym (kind_is LastInBody profile limit s path value c h)
+    kinds = kind_is kind profile limit s other more d k ∙ sym (kind_is kind profile limit s path value c h)
 
     alike : added_as s path c ≡ added_as s other d
     alike =
@@ -78,7 +79,7 @@ module _ (profile : Profile) (limit : ℕ) (s : Document) (es : List Edit) (chan
     made : MakesChange profile limit now (insert other more) (moved_past changes d)
         × IsSeenStill s now (insert other more)
     made =
-        r.later (insert other more) d (LastInBody, k)
+        r.later (insert other more) d (kind, k)
         (subst (λ (first : List Part). All (λ f. LeavesAlone f (insert first more)) es) same
         (All-weaker (λ f. LeavesAlone f (insert (first_new s path) value))
         (λ f. LeavesAlone f (insert (first_new s path) more)) (other_value (first_new s path) value more) es alone))
@@ -94,13 +95,13 @@ module _ (profile : Profile) (limit : ℕ) (s : Document) (es : List Edit) (chan
             (subst (IsInOrder es changes lines) alike placed.0, subst Lets (sym there.1) placed.1)
 
   opens : IsOpen profile limit s (seen s (insert path value) ∷ es) (with_change changes c)
-      (edited_document now (insert path value)) path
+      (edited_document now (insert path value)) path kind
   opens = record {
     more = λ other more d k same apart left side.
         let others : All (λ x. IsBeside x d) changes = rest_of_all (λ x. IsBeside x d) changes c side in
         let (its_now, its_seen) = made other more d k same others in
         let (own_now, own_seen) =
-        r.later (insert path value) c (LastInBody, h) alone
+        r.later (insert path value) c (kind, h) alone
         (All-nil (λ (gone : List Part). IsElsewhere (changed_path gone) (seen s (insert path value)))) beside placed in
         let apart_now : GoOnApart (first_new now path) path other =
         record {
@@ -113,11 +114,12 @@ module _ (profile : Profile) (limit : ℕ) (s : Document) (es : List Edit) (chan
           differ = apart.differ;
         } in
         let (adds, first) =
-        adds_more_key profile limit now path value (moved_past changes c) other more (moved_past changes d) r.editable
-        (as_of_kind LastInBody profile limit now path value (moved_past changes c)
-        (own_seen.1 ∙ kind_is LastInBody profile limit s path value c h) own_now)
-        (as_of_kind LastInBody profile limit now other more (moved_past changes d)
-        (its_seen.1 ∙ kind_is LastInBody profile limit s other more d k) its_now)
+        adds_more_key profile limit now path value (moved_past changes c) kind other more (moved_past changes d)
+        r.editable headless
+        (as_of_kind kind profile limit now path value (moved_past changes c)
+        (own_seen.1 ∙ kind_is kind profile limit s path value c h) own_now)
+        (as_of_kind kind profile limit now other more (moved_past changes d)
+        (its_seen.1 ∙ kind_is kind profile limit s other more d k) its_now)
         (own_seen.0 ∙ same ∙ sym its_seen.0) apart_now in (
           subst (AddsDotted profile limit (edited_document now (insert path value)) other more)
               (sym (moved_with changes c d r.follow beside others (one_of_all (λ x. IsBeside x d) changes c side)))
@@ -130,8 +132,8 @@ module _ (profile : Profile) (limit : ℕ) (s : Document) (es : List Edit) (chan
 
 module _ (profile : Profile) (limit : ℕ) (s : Document) (es : List Edit) (changes : List TextChange)
     (lines : List Added) (now : Document) (r : IsElementRun profile limit s es changes lines [] now) (path : List Part)
-    (is_open : IsOpen profile limit s es changes now path) (other : List Part) (value : Value) (d : TextChange)
-    (k : AddsLine profile limit s other value d) (same : first_new s path ≡ first_new s other)
+    (kind : LineKind) (is_open : IsOpen profile limit s es changes now path kind) (other : List Part) (value : Value)
+    (d : TextChange) (k : AddsAs kind profile limit s other value d) (same : first_new s path ≡ first_new s other)
     (apart : GoOnApart (first_new s path) path other)
     (left : All (λ f. LeavesAlone f (insert (key_below (first_new s path) apart.next) value)) es)
     (side : All (λ x. IsBeside x d) changes) where
@@ -153,8 +155,8 @@ module _ (profile : Profile) (limit : ℕ) (s : Document) (es : List Edit) (chan
   makes : MakesChange profile limit now e c
   makes = (OfDotted, adds)
 
-  kind : kind_of now other ≡ OfDotted
-  kind = kind_is OfDotted profile limit now other value c adds
+  kind_now : kind_of now other ≡ OfDotted
+  kind_now = kind_is OfDotted profile limit now other value c adds
 
   allowed : refusal profile limit now e ≡ None
   allowed = change_allowed profile limit now e c makes
@@ -163,6 +165,7 @@ module _ (profile : Profile) (limit : ℕ) (s : Document) (es : List Edit) (chan
   lawful = change_lawful profile limit now e c r.editable makes
 
   still_open : IsOpen profile limit s (insert below value ∷ es) (with_change changes d) (edited_document now e) path
+      kind
   still_open = record {
     more = λ another v g its same_too apart_too left_too side_too.
         let others : All (λ x. IsBeside x g) changes = rest_of_all (λ x. IsBeside x g) changes d side_too in
@@ -197,7 +200,7 @@ module _ (profile : Profile) (limit : ℕ) (s : Document) (es : List Edit) (chan
   abbrev next_es : List Edit
   next_es = insert below value ∷ es
 
-  -- its line, as one at the end of the body
+  -- its line, as one at the end of a body
   abbrev line : Added
   line = inner_line below d.at
 
@@ -210,7 +213,7 @@ module _ (profile : Profile) (limit : ℕ) (s : Document) (es : List Edit) (chan
   after : IsTextAfter profile limit s (with_change changes d) then
   after =
       text_goes_on profile limit s changes now e d (of_element_run profile limit s es changes lines now [] r)
-      (change_placed profile limit s e d r.first (LastInBody, k)).within side
+      (change_placed profile limit s e d r.first (kind, k)).within side
       (made_puts profile limit now e c r.editable makes)
 
   module _ (f : Edit) (g : TextChange) (others : All (λ x. IsBeside x g) changes) (one : IsBeside d g)
@@ -220,7 +223,7 @@ module _ (profile : Profile) (limit : ℕ) (s : Document) (es : List Edit) (chan
     order = by f seen_there
       where
         no_header : kind_of now other ≡ WithHeader → {A : Type 0} → A
-        no_header is = absurd (let both : OfDotted ≡ WithHeader = sym kind ∙ is in cc)
+        no_header is = absurd (let both : OfDotted ≡ WithHeader = sym kind_now ∙ is in cc)
 
         by : (f : Edit) → IsSeenStill s now f
             → KeepsPlaceAmong s next_es (with_change changes d) next_lines f g
@@ -313,14 +316,18 @@ module _ (profile : Profile) (limit : ℕ) (s : Document) (es : List Edit) (chan
   }
 
 pub run_is_open : RunIsOpen
-run_is_open profile limit s edits changes lines now path value c r h alone beside placed =
-    opens profile limit s edits changes lines now r path value c h alone beside placed
+run_is_open profile limit s edits changes lines now path value c kind r headless h alone beside placed =
+    opens profile limit s edits changes lines now r path value c kind headless h alone beside placed
 
 pub run_goes_on_inside : RunGoesOnInside
-run_goes_on_inside profile limit s edits changes lines now path other value d r is_open k same apart left side =
+run_goes_on_inside profile limit s edits changes lines now path kind other value d r is_open k same apart left side =
     record {
-      allowed = allowed profile limit s edits changes lines now r path is_open other value d k same apart left side;
-      lawful = lawful profile limit s edits changes lines now r path is_open other value d k same apart left side;
-      run = longer profile limit s edits changes lines now r path is_open other value d k same apart left side;
-      still = still_open profile limit s edits changes lines now r path is_open other value d k same apart left side;
+      allowed = allowed profile limit s edits changes lines now r path kind is_open other value d k same apart left
+          side;
+      lawful = lawful profile limit s edits changes lines now r path kind is_open other value d k same apart left
+          side;
+      run = longer profile limit s edits changes lines now r path kind is_open other value d k same apart left
+          side;
+      still = still_open profile limit s edits changes lines now r path kind is_open other value d k same apart left
+          side;
     }

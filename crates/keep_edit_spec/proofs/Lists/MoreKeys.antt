@@ -1,5 +1,6 @@
--- An insert of several keys after another of the same first new key, which added its line at the end of a body: it adds
--- its line right behind that one, to the table that the dotted keys of that line made.
+-- An insert of several keys after another of the same first new key, which added its line at the end of a body, or to a
+-- table that dotted keys make: it adds its line right behind that one, to the table that the dotted keys of that line
+-- made.
 --
 -- The document says nothing at the path of the first new key or under it, so no line led through it (`none_led`), and
 -- the new line does (`leads`): it is the last one that does (`last_now`). At that path the line says that there is a
@@ -8,15 +9,21 @@
 -- as many brackets enclose its path as before (`enclosed`). Its line has the same keys, relative to the same body, and
 -- comes where the next line begins (PutsKeyval).
 --
--- Theorem: `adds_more_key`.
+-- Both come to one place by the same keys on the way, as lines of one kind and holder (`ThereToo`, `line_there`,
+-- `dotted_there`).
+--
+-- Theorems: `adds_more_key`; `one_holder`.
 use Rattle.std.proofs.Common.{◌≡◌, ◌≢◌, ◌∙◌, ◌+◌, ℕ, suc, ◌≤◌, Bool, true, false, not, ◌&&◌, nat_lt, List, [], ◌∷◌}
 use Rattle.std.proofs.Common.{◌++◌, length, map, take, drop, refl, sym, ap, ap₂, subst, arith, append_assoc, Option}
 use Rattle.std.proofs.Common.{Some}
 use Rattle.std.proofs.Common.{None, inl, inr}
-use Rattle.std.specs.List.{filter_map, list_any}
-use Rattle.std.proofs.lemmas.List.{append-nil, take-append-drop}
+use Rattle.std.specs.Prelude.{IsUtf8}
+use Rattle.std.specs.List.{AllByRecursion, filter_map, list_any}
+use Rattle.std.proofs.lemmas.List.{append-nil, map-append, take-append-drop}
 use Rattle.keep_types.specs.declared.leaf.Profile.{Profile}
-use Rattle.keep_syntax.specs.Tree.{Value, Ended, Line, Name, Document, bom_leaves, keyval, text_of, value_depth}
+use Rattle.keep_types.specs.declared.leaf.Profile.TheVariants.{Wide}
+use Rattle.keep_syntax.specs.Tree.{Value, Ended, Line, Name, Document, bom_leaves, ended_leaves, keyval, text_of}
+use Rattle.keep_syntax.specs.Tree.{value_depth}
 use Rattle.keep_path.specs.Path.{Part, key, same_part, strip, without_last}
 use Rattle.keep_meaning.specs.Fact.{Fact}
 use Rattle.keep_meaning.specs.Marks.{Mention, MentionKind, Reading, below, dotted, fact_of, start, value as kind_value}
@@ -27,13 +34,16 @@ use Rattle.keep_edit_spec.specs.AddedLines.{AddsLine, first_new}
 use Rattle.keep_edit_spec.specs.DottedLines.{AddsDotted}
 use Rattle.keep_edit_spec.specs.Edits.{at_line, change, edited_document, end_of, insert, name_with, place}
 use Rattle.keep_edit_spec.specs.Insertion.{put_in}
-use Rattle.keep_edit_spec.specs.Laws.{IsEditable}
+use Rattle.keep_edit_spec.specs.InsertKinds.{AddsAs}
+use Rattle.keep_edit_spec.specs.Laws.{IsEditable, IsGivenValue}
 use Rattle.keep_edit_spec.specs.Lines.{begins, last_line, leads_dotted, new_line, newline_of, reading_at}
 use Rattle.keep_edit_spec.specs.Look.{enclosing, holder, is_index, is_table, is_table_fact, keys_in}
-use Rattle.keep_edit_spec.specs.MoreKeys.{AddsMoreKey}
+use Rattle.keep_edit_spec.specs.MoreKeys.{AddsMoreKey, GoOnApart, key_below}
 use Rattle.keep_edit_spec.specs.Refusals.{first_that_holds, is_foreign, is_too_deep, refusal, refusal_by}
 use Rattle.keep_edit_spec.specs.Runs.{AreApart}
 use Rattle.keep_edit_spec.specs.TextChanges.{TextChange, moved, moved_by}
+use Rattle.keep_edit_spec.specs.declared.line_kind.LineKind.{LineKind}
+use Rattle.keep_edit_spec.specs.declared.line_kind.LineKind.TheVariants.{LastInBody, OfDotted, WithHeader}
 use Rattle.keep_edit_spec.specs.declared.fault.EditFault.{EditFault}
 use Rattle.keep_edit_spec.specs.declared.fault.EditFault.TheVariants as fault
 use Rattle.keep_edit_spec.proofs.Common.Cuts.{without_last-snoc}
@@ -48,10 +58,11 @@ use Rattle.keep_edit_spec.proofs.Insert.NewPath.{drop_prefix_parts, keys_of_map,
 use Rattle.keep_edit_spec.proofs.Lists.BodyEnds.{later_from}
 use Rattle.keep_edit_spec.proofs.Lists.DottedAfter.{bare_by}
 use Rattle.keep_edit_spec.proofs.Lists.LineOnWay as on_way
-use Rattle.keep_edit_spec.proofs.Lists.LineOnWay.{AddsOnWay, line_on_way}
+use Rattle.keep_edit_spec.proofs.Lists.DottedLine as line
+use Rattle.keep_edit_spec.proofs.Lists.LineOnWay.{AddsOnWay, dotted_on_way, line_on_way}
 use Rattle.keep_edit_spec.proofs.Lists.NewHolder.{body_node, holder_of_node, lead_node, no_node, nothing_under}
 use Rattle.keep_edit_spec.proofs.Lists.NewHolder.{path_new}
-use Rattle.keep_edit_spec.proofs.Lists.NewPaths.{InsertsKeys, first_path, line_keys, unsaid}
+use Rattle.keep_edit_spec.proofs.Lists.NewPaths.{InsertsKeys, dotted_keys, first_path, line_keys, unsaid}
 use Rattle.keep_edit_spec.proofs.Lists.OneLineMore.{last_with, none_still, or_new, reading_alike}
 use Rattle.keep_edit_spec.proofs.Lists.OwnKinds.{keyval_silent}
 use Rattle.keep_edit_spec.proofs.Lists.Places.{at_is, item_none, later_line, line_is, width}
@@ -70,14 +81,26 @@ none_at_root k (l ∷ ks) inner =
     let all : List Mention = record { path = []; kind = dotted } ∷ keyed_mentions (l ∷ ks) inner in
     kinds_at-under (key k ∷ []) [] (map (below (key k ∷ [])) all) (under_below (key k ∷ []) all) refl
 
--- at the first key's path that it is dotted
-first_dotted : (a : List Part) (k l : List ℕ) (ks : List (List ℕ)) (inner : List Mention)
-    → kinds_at (a ++ key k ∷ []) (map (below a) (keyed_mentions (k ∷ l ∷ ks) inner)) ≡ dotted ∷ []
-first_dotted a k l ks inner =
-    let rest : List Mention = keyed_mentions (l ∷ ks) inner in
-    kinds_at-below a (key k ∷ []) (keyed_mentions (k ∷ l ∷ ks) inner)
-    ∙ kinds_at-below (key k ∷ []) [] (record { path = []; kind = dotted } ∷ rest)
+-- at the path of each but the last that it is dotted
+inner_dotted : (way : List (List ℕ)) (k l : List ℕ) (ks : List (List ℕ)) (inner : List Mention)
+    → kinds_at (map key (way ++ k ∷ [])) (keyed_mentions (way ++ k ∷ l ∷ ks) inner) ≡ dotted ∷ []
+inner_dotted [] k l ks inner =
+    kinds_at-below (key k ∷ []) [] (record { path = []; kind = dotted } ∷ keyed_mentions (l ∷ ks) inner)
     ∙ ap (λ (kinds : List MentionKind). dotted ∷ kinds) (none_at_root l ks inner)
+inner_dotted (t ∷ []) k l ks inner =
+    kinds_at-below (key t ∷ []) (key k ∷ [])
+    (record { path = []; kind = dotted } ∷ keyed_mentions (k ∷ l ∷ ks) inner)
+    ∙ inner_dotted [] k l ks inner
+inner_dotted (t ∷ u ∷ way) k l ks inner =
+    kinds_at-below (key t ∷ []) (map key (u ∷ way ++ k ∷ []))
+    (record { path = []; kind = dotted } ∷ keyed_mentions (u ∷ way ++ k ∷ l ∷ ks) inner)
+    ∙ inner_dotted (u ∷ way) k l ks inner
+
+way_dotted : (b : List Part) (way : List (List ℕ)) (k l : List ℕ) (ks : List (List ℕ)) (inner : List Mention)
+    → kinds_at (b ++ map key (way ++ k ∷ [])) (map (below b) (keyed_mentions (way ++ k ∷ l ∷ ks) inner)) ≡ dotted ∷ []
+way_dotted b way k l ks inner =
+    kinds_at-below b (map key (way ++ k ∷ [])) (keyed_mentions (way ++ k ∷ l ∷ ks) inner)
+    ∙ inner_dotted way k l ks inner
 
 both_empty : {A : Type 0} (xs ys : List A) → xs ++ ys ≡ [] → (xs ≡ []) × (ys ≡ [])
 both_empty [] ys e = (refl, e)
@@ -117,11 +140,26 @@ no_index : (ks : List (List ℕ)) → list_any is_index (map key ks) ≡ false
 no_index [] = refl
 no_index (k ∷ ks) = no_index ks
 
+-- An insert that is not refused, and adds a line with these keys on the way before the line of that number.
+record ThereToo (profile : Profile) (limit : ℕ) (s : Document) (n : ℕ) (way : List (List ℕ)) (path : List Part)
+    (value : Value) (c : TextChange) : Type 0 where
+  utf8 : AllByRecursion IsUtf8 (keys_in path)
+  given : IsGivenValue Wide value
+  inserts : InsertsKeys profile limit s path value
+  adds : c.size ≡ 0
+  few : n ≤ length s.ended
+  at : c.at ≡ length (text_of (bom_leaves s.bom)) + width (take n s.ended)
+  line : c.new ≡ text_of (ended_leaves
+      (new_line (newline_of s) (keyval (name_with (way ++ inserts.text ∷ inserts.more)) value)))
+
 module _ (profile : Profile) (limit : ℕ) (s : Document) (path : List Part) (value : Value) (c : TextChange)
     (other : List Part) (more : Value) (d : TextChange) (fine : IsEditable profile limit s)
-    (h : AddsLine profile limit s path value c) (k : AddsLine profile limit s other more d)
-    (same : first_new s path ≡ first_new s other) (own : List ℕ) (own_rest : List (List ℕ)) (next : List ℕ)
-    (next_rest : List (List ℕ)) (own_more : h.more ≡ own ∷ own_rest) (its_more : k.more ≡ next ∷ next_rest)
+    (way : AddsOnWay profile limit s path value)
+    (put : PutsKeyval s (edited_document s (insert path value)) way.n
+    (name_with (way.way ++ way.inserts.text ∷ way.inserts.more)) value c)
+    (its : ThereToo profile limit s way.n way.way other more d) (same : first_new s path ≡ first_new s other)
+    (own : List ℕ) (own_rest : List (List ℕ)) (next : List ℕ) (next_rest : List (List ℕ))
+    (own_more : way.inserts.more ≡ own ∷ own_rest) (its_more : its.inserts.more ≡ next ∷ next_rest)
     (differ : own ≢ next) where
   abbrev ms : List Mention
   ms = mentions_in s
@@ -136,10 +174,20 @@ module _ (profile : Profile) (limit : ℕ) (s : Document) (path : List Part) (va
   a = holder path ms
 
   abbrev n : ℕ
-  n = h.number
+  n = way.n
+
+  -- its first new key, and that of the other
+  abbrev text : List ℕ
+  text = way.inserts.text
+
+  abbrev its_text : List ℕ
+  its_text = its.inserts.text
+
+  abbrev its_keys : List (List ℕ)
+  its_keys = way.way ++ its_text ∷ its.inserts.more
 
   abbrev name : Name
-  name = name_with (h.text ∷ h.more)
+  name = name_with (way.way ++ text ∷ way.inserts.more)
 
   abbrev x : Ended
   x = new_line (newline_of s) (keyval name value)
@@ -154,63 +202,62 @@ module _ (profile : Profile) (limit : ℕ) (s : Document) (path : List Part) (va
   r = reading_after_lines start before
 
   abbrev first : List Part
-  first = a ++ key h.text ∷ []
+  first = a ++ key text ∷ []
 
-  abbrev inserts : InsertsKeys profile limit s path value
-  inserts = line_keys profile limit s path value c h
-
-  abbrev way : AddsOnWay profile limit s path value
-  way = line_on_way profile limit s path value c h
-
-  put : PutsKeyval s now n name value c
-  put = line_puts profile limit s path value c fine h
-
-  body : r.body ≡ a
-  body = (at_end.end profile limit s path h.text h.more value n h.utf8 h.allowed h.new h.ends).body
-
-  mean : keys_of name.key ≡ h.text ∷ own ∷ own_rest
-  mean =
-      at_end.means profile limit s path h.text h.more value n h.utf8 h.allowed h.new h.ends
-      ∙ ap (λ (ks : List (List ℕ)). h.text ∷ ks) own_more
+  mean : keys_of name.key ≡ way.way ++ text ∷ own ∷ own_rest
+  mean = way.means ∙ ap (λ (ks : List (List ℕ)). way.way ++ text ∷ ks) own_more
 
   first_is : first_new s path ≡ first
-  first_is = first_path profile limit s path value inserts
+  first_is = first_path profile limit s path value way.inserts
 
-  its_first : first ≡ holder other ms ++ key k.text ∷ []
-  its_first =
-      sym first_is ∙ same ∙ first_path profile limit s other more (line_keys profile limit s other more d k)
+  -- from the body on
+  first_at : first ≡ r.body ++ map key (way.way ++ text ∷ [])
+  first_at =
+      ap (λ (p : List Part). p ++ key text ∷ []) way.holds ∙ append_assoc r.body (map key way.way) (key text ∷ [])
+      ∙ ap (λ (p : List Part). r.body ++ p) (sym (map-append key way.way (text ∷ [])))
+
+  its_first : first ≡ holder other ms ++ key its_text ∷ []
+  its_first = sym first_is ∙ same ∙ first_path profile limit s other more its.inserts
 
   same_holder : holder other ms ≡ a
   same_holder =
-      sym (without_last-snoc (holder other ms) (key k.text)) ∙ ap (λ (p : List Part). without_last p) (sym its_first)
-      ∙ without_last-snoc a (key h.text)
+      sym (without_last-snoc (holder other ms) (key its_text)) ∙ ap (λ (p : List Part). without_last p) (sym its_first)
+      ∙ without_last-snoc a (key text)
 
   -- the other path
   other_is : other ≡ first ++ map key (next ∷ next_rest)
   other_is =
-      at_end.path_goes_on s other k.text k.more k.new
-      ∙ ap (λ (p : List Part). p ++ map key k.more) (sym same ∙ first_is)
+      at_end.path_goes_on s other its_text its.inserts.more its.inserts.new
+      ∙ ap (λ (p : List Part). p ++ map key its.inserts.more) (sym same ∙ first_is)
       ∙ ap (λ (ks : List (List ℕ)). first ++ map key ks) its_more
+
+  other_whole : other ≡ r.body ++ map key its_keys
+  other_whole =
+      its.inserts.new ∙ ap (λ (p : List Part). p ++ map key (its_text ∷ its.inserts.more)) (same_holder ∙ way.holds)
+      ∙ append_assoc r.body (map key way.way) (map key (its_text ∷ its.inserts.more))
+      ∙ ap (λ (p : List Part). r.body ++ p) (sym (map-append key way.way (its_text ∷ its.inserts.more)))
 
   path_goes : path ≡ first ++ map key (own ∷ own_rest)
   path_goes =
-      at_end.path_goes_on s path h.text h.more h.new ∙ ap (λ (p : List Part). p ++ map key h.more) first_is
+      at_end.path_goes_on s path text way.inserts.more way.inserts.new
+      ∙ ap (λ (p : List Part). p ++ map key way.inserts.more) first_is
       ∙ ap (λ (ks : List (List ℕ)). first ++ map key ks) own_more
 
   -- ---- what was said at the path of the first new key, and under it
 
   fresh : list_any (is_at first) ms ≡ false
-  fresh = unsaid profile limit s path value inserts
+  fresh = unsaid profile limit s path value way.inserts
 
   clear : AllOf (IsDisjoint first) ms
-  clear = nothing_under s path a h.text h.more h.new fresh
+  clear = nothing_under s path a text way.inserts.more way.inserts.new fresh
 
   none_said : (q : List Part) → kinds_at (first ++ q) ms ≡ []
   none_said q = kinds_at-disjoint first (first ++ q) q ms clear (strip-append first q)
 
   not_node : is_node first ms ≡ false
   not_node =
-      ap (λ (p : List Part). is_node p ms) (sym (append-nil first)) ∙ no_node s path a h.text h.more h.new fresh []
+      ap (λ (p : List Part). is_node p ms) (sym (append-nil first))
+      ∙ no_node s path a text way.inserts.more way.inserts.new fresh []
 
   none_led : last_line (leads_dotted first) start (lines s) ≡ None
   none_led = by (last_line (leads_dotted first) start (lines s)) refl
@@ -237,8 +284,9 @@ module _ (profile : Profile) (limit : ℕ) (s : Document) (path : List Part) (va
 
   leads : leads_dotted first r x.line ≡ true
   leads =
-      ap₂ (λ (b : List Part) (ks : List (List ℕ)). has is_dotted first (map (below b) (keyed_mentions ks []))) body mean
-      ∙ ap (list_any is_dotted) (first_dotted a h.text own own_rest [])
+      ap₂ (λ (p : List Part) (ks : List (List ℕ)). has is_dotted p (map (below r.body) (keyed_mentions ks []))) first_at
+      mean
+      ∙ ap (list_any is_dotted) (way_dotted r.body way.way text own own_rest [])
 
   last_now : last_line (leads_dotted first) start (lines now) ≡ Some n
   last_now =
@@ -279,10 +327,10 @@ module _ (profile : Profile) (limit : ℕ) (s : Document) (path : List Part) (va
 
   own_first : kinds_at first own_said ≡ dotted ∷ []
   own_first =
-      ap₂ (λ (b : List Part) (ks : List (List ℕ)). kinds_at first (map (below b)
-      (keyed_mentions ks (valued_mentions (kind_value (body_fact value.body)) (entries_mentions 0 value.nested))))) body
-      mean
-      ∙ first_dotted a h.text own own_rest
+      ap₂ (λ (p : List Part) (ks : List (List ℕ)). kinds_at p (map (below r.body)
+      (keyed_mentions ks (valued_mentions (kind_value (body_fact value.body)) (entries_mentions 0 value.nested)))))
+      first_at mean
+      ∙ way_dotted r.body way.way text own own_rest
       (valued_mentions (kind_value (body_fact value.body)) (entries_mentions 0 value.nested))
 
   said_first : kinds_at first then ≡ dotted ∷ []
@@ -354,7 +402,7 @@ module _ (profile : Profile) (limit : ℕ) (s : Document) (path : List Part) (va
       last_two (not (is_node other ms) && list_any is_index (drop (length b) other)) (is_node other ms)
       (not (is_table b ms)) (is_too_deep limit other more ms) (is_foreign profile more) fault.NotFound fault.Exists
       fault.NotTable fault.TooDeep fault.Profile
-      (sym (rw (item_none other b k.text k.more k.new ms, refusal_by) refl) ∙ k.allowed)
+      (sym (rw (item_none other b its_text its.inserts.more its.inserts.new ms, refusal_by) refl) ∙ its.inserts.allowed)
 
   allowed : refusal profile limit now (insert other more) ≡ None
   allowed =
@@ -370,51 +418,45 @@ module _ (profile : Profile) (limit : ℕ) (s : Document) (path : List Part) (va
 
   -- ---- the line, and its place
 
-  same_number : k.number ≡ n
-  same_number =
-      let both : Some k.number ≡ Some n = sym k.ends ∙ ap (end_of s) same_holder ∙ h.ends in cc
-
-  body_now : (reading_at n (lines now)).body ≡ a
+  body_now : (reading_at n (lines now)).body ≡ r.body
   body_now =
       ap (λ (ls : List Line). (reading_at n ls).body) now_are
       ∙ ap (λ (q : Reading). q.body)
       (reading_alike start before (x.line ∷ after) after n (omega (arith, first_long s now n name value c put)))
-      ∙ ap (λ (ls : List Line). (reading_at n ls).body) cut ∙ body
+      ∙ ap (λ (ls : List Line). (reading_at n ls).body) cut
 
   keys_now : keys_in (drop (length (reading_at n (lines now)).body)
-      (holder other then ++ drop (length (holder other then)) other)) ≡ k.text ∷ k.more
+      (holder other then ++ drop (length (holder other then)) other)) ≡ its_keys
   keys_now =
-      ap₂ (λ (b p : List Part). keys_in (drop (length b) (p ++ drop (length p) other))) (body_now ∙ sym same_holder)
-      holds
-      ∙ ap (λ (p : List Part). keys_in (drop (length (holder other ms)) p))
+      ap₂ (λ (b p : List Part). keys_in (drop (length b) (p ++ drop (length p) other))) body_now holds
+      ∙ ap (λ (p : List Part). keys_in (drop (length r.body) p))
       (ap (λ (p : List Part). first ++ drop (length first) p) other_is
-      ∙ ap (λ (p : List Part). first ++ p) (drop_prefix_parts first (map key (next ∷ next_rest))) ∙ sym other_is)
-      ∙ ap (λ (p : List Part). keys_in (drop (length (holder other ms)) p)) k.new
-      ∙ ap keys_in (drop_prefix_parts (holder other ms) (map key (k.text ∷ k.more))) ∙ keys_of_map (k.text ∷ k.more)
+      ∙ ap (λ (p : List Part). first ++ p) (drop_prefix_parts first (map key (next ∷ next_rest))) ∙ sym other_is
+      ∙ other_whole)
+      ∙ ap keys_in (drop_prefix_parts r.body (map key its_keys)) ∙ keys_of_map its_keys
 
-  changed_now : change now (insert other more) ≡ at_line now (suc n) (keyval (name_with (k.text ∷ k.more)) more ∷ [])
+  changed_now : change now (insert other more) ≡ at_line now (suc n) (keyval (name_with its_keys) more ∷ [])
   changed_now =
       change_there now other more n (item_none other (holder other then) next next_rest other_new then)
       (ap (end_of now) holds ∙ bare)
       (ap (λ (p : List Part). last_line (leads_dotted p) start (lines now)) holds ∙ last_now)
       ∙ ap (λ (ks : List (List ℕ)). at_line now (suc n) (keyval (name_with ks) more ∷ [])) keys_now
 
-  later : suc n ≡ later_line n k.number
-  later = sym (later_from n n (omega arith)) ∙ ap (later_line n) (sym same_number)
+  later : suc n ≡ later_line n n
+  later = sym (later_from n n (omega arith))
 
   closed : suc n ≤ length now.ended
-  closed = omega (arith, later, few_still s now n name value c put k.number k.closed)
+  closed = omega (arith, later, few_still s now n name value c put n its.few)
 
   place_now : place now (insert other more) ≡ put_in (moved_by c d.at) d.new
   place_now =
-      place_after s now n name value c put profile (insert other more) (name_with (k.text ∷ k.more)) more k.number
-      (suc n) d fine.valid.ended k.closed later (line_is profile limit s other more d k)
-      (at_is profile limit s other more d k) changed_now
+      place_after s now n name value c put profile (insert other more) (name_with its_keys) more n (suc n) d
+      fine.valid.ended its.few later its.line its.at changed_now
 
   adds_here : AddsDotted profile limit now other more (moved c d)
   adds_here = record {
-    utf8 = k.utf8;
-    given = k.given;
+    utf8 = its.utf8;
+    given = its.given;
     allowed = allowed;
     text = next;
     more = next_rest;
@@ -423,7 +465,7 @@ module _ (profile : Profile) (limit : ℕ) (s : Document) (path : List Part) (va
     number = n;
     last = ap (λ (p : List Part). last_line (leads_dotted p) start (lines now)) holds ∙ last_now;
     closed = closed;
-    adds = k.adds;
+    adds = its.adds;
     is = place_now;
   }
 
@@ -434,27 +476,109 @@ module _ (profile : Profile) (limit : ℕ) (s : Document) (path : List Part) (va
 
 -- ---- by the paths alone
 
--- two inserts of the same first new key have one holder, so both come to one place, as lines of one kind
-pub one_holder : (profile : Profile) (limit : ℕ) (s : Document) (path : List Part) (value : Value) (c : TextChange)
-    (other : List Part) (more : Value) (d : TextChange) → AddsLine profile limit s path value c
-    → AddsLine profile limit s other more d → first_new s path ≡ first_new s other
-    → (holder other (mentions_in s) ≡ holder path (mentions_in s)) × (d.at ≡ c.at)
-one_holder profile limit s path value c other more d h k same =
-    let a : List Part = holder path (mentions_in s) in
-    let b : List Part = holder other (mentions_in s) in
-    let firsts : a ++ key h.text ∷ [] ≡ b ++ key k.text ∷ [] =
-    sym (first_path profile limit s path value (line_keys profile limit s path value c h)) ∙ same
-    ∙ first_path profile limit s other more (line_keys profile limit s other more d k) in
-    let holders : b ≡ a =
-    sym (without_last-snoc b (key k.text)) ∙ ap (λ (p : List Part). without_last p) (sym firsts)
-    ∙ without_last-snoc a (key h.text) in
-    let both : Some k.number ≡ Some h.number = sym k.ends ∙ ap (end_of s) holders ∙ h.ends in
-    let number : k.number ≡ h.number = cc in (
-      holders,
+module _ (profile : Profile) (limit : ℕ) (s : Document) (path : List Part) (value : Value) (other : List Part)
+    (more : Value) (h : InsertsKeys profile limit s path value) (k : InsertsKeys profile limit s other more)
+    (same : first_new s path ≡ first_new s other) where
+  -- two inserts of the same first new key have one holder
+  holder_of_both : holder other (mentions_in s) ≡ holder path (mentions_in s)
+  holder_of_both =
+      let a : List Part = holder path (mentions_in s) in
+      let b : List Part = holder other (mentions_in s) in
+      let firsts : a ++ key h.text ∷ [] ≡ b ++ key k.text ∷ [] =
+      sym (first_path profile limit s path value h) ∙ same ∙ first_path profile limit s other more k in
+      sym (without_last-snoc b (key k.text)) ∙ ap (λ (p : List Part). without_last p) (sym firsts)
+      ∙ without_last-snoc a (key h.text)
+
+-- so both come to one place, as lines of one kind: at the end of the body
+module _ (profile : Profile) (limit : ℕ) (s : Document) (path : List Part) (value : Value) (c : TextChange)
+    (other : List Part) (more : Value) (d : TextChange) (h : AddsLine profile limit s path value c)
+    (k : AddsLine profile limit s other more d) (same : first_new s path ≡ first_new s other) where
+  line_holder : holder other (mentions_in s) ≡ holder path (mentions_in s)
+  line_holder =
+      holder_of_both profile limit s path value other more (line_keys profile limit s path value c h)
+      (line_keys profile limit s other more d k) same
+
+  line_number : k.number ≡ h.number
+  line_number =
+      let both : Some k.number ≡ Some h.number = sym k.ends ∙ ap (end_of s) line_holder ∙ h.ends in cc
+
+  line_at : d.at ≡ length (text_of (bom_leaves s.bom)) + width (take h.number s.ended)
+  line_at =
       at_is profile limit s other more d k
-          ∙ ap (λ (i : ℕ). length (text_of (bom_leaves s.bom)) + width (take i s.ended)) number
-          ∙ sym (at_is profile limit s path value c h),
-    )
+      ∙ ap (λ (i : ℕ). length (text_of (bom_leaves s.bom)) + width (take i s.ended)) line_number
+
+  line_there : ThereToo profile limit s h.number [] other more d
+  line_there = record {
+    utf8 = k.utf8;
+    given = k.given;
+    inserts = line_keys profile limit s other more d k;
+    adds = k.adds;
+    few = h.closed;
+    at = line_at;
+    line = line_is profile limit s other more d k;
+  }
+
+-- or in the table that dotted keys make
+module _ (profile : Profile) (limit : ℕ) (s : Document) (path : List Part) (value : Value) (c : TextChange)
+    (other : List Part) (more : Value) (d : TextChange) (h : AddsDotted profile limit s path value c)
+    (k : AddsDotted profile limit s other more d) (same : first_new s path ≡ first_new s other) where
+  abbrev way_of : (p : List Part) (v : Value) (x : TextChange) → AddsDotted profile limit s p v x → List (List ℕ)
+  way_of p v x g = (dotted_on_way profile limit s p v x g).way
+
+  dotted_holder : holder other (mentions_in s) ≡ holder path (mentions_in s)
+  dotted_holder =
+      holder_of_both profile limit s path value other more (dotted_keys profile limit s path value c h)
+      (dotted_keys profile limit s other more d k) same
+
+  dotted_number : k.number ≡ h.number
+  dotted_number =
+      let both : Some k.number ≡ Some h.number =
+      sym k.last ∙ ap (λ (p : List Part). last_line (leads_dotted p) start (lines s)) dotted_holder ∙ h.last in cc
+
+  same_way : way_of other more d k ≡ way_of path value c h
+  same_way =
+      let b : List Part = (reading_at h.number (lines s)).body in
+      let its : List (List ℕ) = way_of other more d k in
+      let own : List (List ℕ) = way_of path value c h in
+      let both : b ++ map key its ≡ b ++ map key own =
+      ap (λ (i : ℕ). (reading_at i (lines s)).body ++ map key its) (sym dotted_number)
+      ∙ sym (line.before profile limit s other more d k).whole ∙ dotted_holder
+      ∙ (line.before profile limit s path value c h).whole in
+      sym (keys_of_map its) ∙ ap keys_in (sym (drop_prefix_parts b (map key its)) ∙ ap (drop (length b)) both
+      ∙ drop_prefix_parts b (map key own)) ∙ keys_of_map own
+
+  dotted_at : d.at ≡ length (text_of (bom_leaves s.bom)) + width (take (suc h.number) s.ended)
+  dotted_at =
+      line.at_is profile limit s other more d k
+      ∙ ap (λ (i : ℕ). length (text_of (bom_leaves s.bom)) + width (take (suc i) s.ended)) dotted_number
+
+  dotted_there : ThereToo profile limit s (suc h.number) (way_of path value c h) other more d
+  dotted_there = record {
+    utf8 = k.utf8;
+    given = k.given;
+    inserts = dotted_keys profile limit s other more d k;
+    adds = k.adds;
+    few = h.closed;
+    at = dotted_at;
+    line = line.line_is profile limit s other more d k
+        ∙ ap (λ (ks : List (List ℕ)). text_of (ended_leaves
+        (new_line (newline_of s) (keyval (name_with (ks ++ k.text ∷ k.more)) more)))) same_way;
+  }
+
+pub one_holder : (kind : LineKind) (profile : Profile) (limit : ℕ) (s : Document) (path : List Part) (value : Value)
+    (c : TextChange) (other : List Part) (more : Value) (d : TextChange) → kind ≢ WithHeader
+    → AddsAs kind profile limit s path value c → AddsAs kind profile limit s other more d
+    → first_new s path ≡ first_new s other
+    → (holder other (mentions_in s) ≡ holder path (mentions_in s)) × (d.at ≡ c.at)
+one_holder LastInBody profile limit s path value c other more d headless h k same = (
+  line_holder profile limit s path value c other more d h k same,
+  line_at profile limit s path value c other more d h k same ∙ sym (at_is profile limit s path value c h),
+)
+one_holder OfDotted profile limit s path value c other more d headless h k same = (
+  dotted_holder profile limit s path value c other more d h k same,
+  dotted_at profile limit s path value c other more d h k same ∙ sym (line.at_is profile limit s path value c h),
+)
+one_holder WithHeader profile limit s path value c other more d headless h k same = absurd (headless refl)
 
 -- the keys by which a path goes on from its first new one
 goes_on_by : (first : List Part) (ks : List (List ℕ)) (k : List ℕ) (rest : List Part)
@@ -468,15 +592,38 @@ goes_on_by first ks k rest same =
     by [] e = absurd cc
     by (l ∷ ls) e = (ls, (let one : key l ≡ key k = cc in ap (λ (t : List ℕ). t ∷ ls) (let t : l ≡ k = cc in t)))
 
-pub adds_more_key : AddsMoreKey
-adds_more_key profile limit s path value c other more d fine h k same apart =
+-- where both come to one place
+more_on_way : (profile : Profile) (limit : ℕ) (s : Document) (path : List Part) (value : Value) (c : TextChange)
+    (other : List Part) (more : Value) (d : TextChange) → IsEditable profile limit s
+    → (way : AddsOnWay profile limit s path value)
+    → PutsKeyval s (edited_document s (insert path value)) way.n
+    (name_with (way.way ++ way.inserts.text ∷ way.inserts.more)) value c
+    → ThereToo profile limit s way.n way.way other more d → first_new s path ≡ first_new s other
+    → (apart : GoOnApart (first_new s path) path other)
+    → AddsDotted profile limit (edited_document s (insert path value)) other more (moved c d)
+    × (first_new (edited_document s (insert path value)) other ≡ key_below (first_new s path) apart.next)
+more_on_way profile limit s path value c other more d fine way put its same apart =
+    let h = way.inserts in
+    let k = its.inserts in
     let goes : path ≡ first_new s path ++ map key h.more = at_end.path_goes_on s path h.text h.more h.new in
-    let its : other ≡ first_new s path ++ map key k.more =
+    let there : other ≡ first_new s path ++ map key k.more =
     at_end.path_goes_on s other k.text k.more k.new ∙ ap (λ (p : List Part). p ++ map key k.more) (sym same) in
     let own = goes_on_by (first_new s path) h.more apart.own apart.own_rest (sym goes ∙ apart.path_is) in
-    let next = goes_on_by (first_new s path) k.more apart.next apart.rest (sym its ∙ apart.other_is) in (
-      adds_here profile limit s path value c other more d fine h k same apart.own own.0 apart.next next.0 own.1 next.1
-          apart.differ,
-      new_first profile limit s path value c other more d fine h k same apart.own own.0 apart.next next.0 own.1 next.1
-          apart.differ,
+    let next = goes_on_by (first_new s path) k.more apart.next apart.rest (sym there ∙ apart.other_is) in (
+      adds_here profile limit s path value c other more d fine way put its same apart.own own.0 apart.next next.0 own.1
+          next.1 apart.differ,
+      new_first profile limit s path value c other more d fine way put its same apart.own own.0 apart.next next.0 own.1
+          next.1 apart.differ,
     )
+
+pub adds_more_key : AddsMoreKey
+adds_more_key profile limit s path value c LastInBody other more d fine headless h k same apart =
+    more_on_way profile limit s path value c other more d fine (line_on_way profile limit s path value c h)
+    (line_puts profile limit s path value c fine h) (line_there profile limit s path value c other more d h k same) same
+    apart
+adds_more_key profile limit s path value c OfDotted other more d fine headless h k same apart =
+    more_on_way profile limit s path value c other more d fine (dotted_on_way profile limit s path value c h)
+    (line.puts profile limit s path value c h fine)
+    (dotted_there profile limit s path value c other more d h k same) same apart
+adds_more_key profile limit s path value c WithHeader other more d fine headless h k same apart =
+    absurd (headless refl)

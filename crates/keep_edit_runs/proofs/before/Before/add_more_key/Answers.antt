@@ -1,13 +1,11 @@
 -- The others leave the insert of the further key alone, and it makes its own change behind theirs.
-use Rattle.std.proofs.Common.{◌≡◌, ◌∙◌, ◌+◌, ◌<◌, List, Option, Some, ap, arith, length, rules, subst, take}
+use Rattle.std.proofs.Common.{◌≡◌, ◌∙◌, ◌+◌, ◌<◌, List, Some, ap, arith, length, rules, subst, take}
 use Rattle.keep_path.specs.Path.{Part}
 use Rattle.keep_edit_spec.specs.Edits as law
-use Rattle.keep_edit_spec.specs.declared.line_kind.LineKind.{LineKind}
 use Rattle.keep_edit_spec.specs.declared.line_kind.LineKind.TheVariants.{LastInBody}
 use Rattle.keep_edit_plan.specs.Reading.{ProfiledText}
-use Rattle.keep_edit_plan.specs.TextEdits.{change_of}
 use Rattle.keep_edit_runs.specs.KindsRun.{with_paths}
-use Rattle.keep_edit_runs.specs.Runs.{IsAddedBehind, MakesItselfHere, no_value}
+use Rattle.keep_edit_runs.specs.Runs.{MakesItselfHere, no_value}
 use Rattle.keep_edit_runs.specs.declared.kinds_run.KindsRun.{KindsRun}
 use Rattle.keep_edit_runs.specs.declared.outline.Outline.{Outline}
 use Rattle.keep_edit_runs.specs.declared.outline.Outline.TheVariants as kind
@@ -44,7 +42,7 @@ returns-clause-added c = λ yes.
     let o : Outline = kind.Insert c.first.result in
     let made = c.in-Some.made in
     let is = then_is old left planner c.lets_key.ensures.rest in
-    let last : made.line ≡ Some LastInBody = search rules in
+    let last : made.line ≡ Some c.args.table.kind = c.is_of_kind.ensures c.if-not-is_of_kind.false in
     let more = c.requires.more in
     let path_is : c.in-Insert.path ≡ more.path = search rules in
     let count = c.args.table.count in
@@ -59,13 +57,10 @@ returns-clause-added c = λ yes.
       change = made.change;
       makes = subst (MakesItselfHere now x made.change) last c.in-Some.ensures.made;
       alone = c.lets_key.ensures.alone c.if-not-lets_key.false;
-      added = subst (λ (l : Option LineKind).
-          IsAddedBehind now.text old.lines old.so_far.changes o (change_of made.change) l new.lines new.so_far.changes)
-          last
-          (behind_as now old then new old.opened planner left.left is o made.change made.line added);
-      outlines = outlines_as now old then new old.opened planner left.left is o made.change made.line
+      added = behind_as now old then new old.opened planner left.left is o made.change (Some LastInBody) added;
+      outlines = outlines_as now old then new old.opened planner left.left is o made.change (Some LastInBody)
           added;
-      gone = gone_as now old then new old.opened planner left.left is o made.change made.line added;
+      gone = gone_as now old then new old.opened planner left.left is o made.change (Some LastInBody) added;
     }
 
 pub returns-clause-lets : goal.returns-clause-lets
@@ -85,7 +80,7 @@ returns-clause-run c = λ yes.
     let made = c.in-Some.made in
     let is = then_is old left planner rest in
     let (run, none) = c.requires.run in
-    run_last now old then c.add_last.new.run old.opened planner left.left is o made.change made.line
+    run_last now old then c.add_last.new.run old.opened planner left.left is o made.change (Some LastInBody)
     (c.add_last.ensures.added yes) c.args.edit.now
     (on_planned old then old.opened planner left.left is now run
     (c.change_by_itself.ensures.planner ∙ ap (λ (r : KindsRun). r.planner) rest ∙ run.planner))
