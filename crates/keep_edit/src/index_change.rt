@@ -78,6 +78,15 @@ pub(crate) fn change_index(index: &mut Index, change: IndexChange<'_>, new: NewT
         } => index
             .insert_value(parent, key, line, value, totals, totals_of(new.syntax))
             .is_ok(),
+        IndexChange::AddedKeys {
+            parent,
+            keys,
+            line,
+            kind,
+            totals,
+        } => index
+            .insert_keys(parent, keys, line, kind, totals, totals_of(new.syntax))
+            .is_ok(),
         IndexChange::RemovedValue { node, line, totals } => index
             .remove_value(node, line, totals, totals_of(new.syntax))
             .is_ok(),

@@ -34,9 +34,9 @@ pub mod BracketPlaces
 pub mod KeysLaws
 pub mod InsertedLaws
 pub mod InsertInsideLaws
-pub mod PathNumberLaws
 pub mod LastLineLaws
 pub mod LineChangeLaws
+pub mod KeysChangeLaws
 pub mod AddedLineLaws
 pub mod AddedDottedLaws
 pub mod BroughtHeaderLaws
@@ -45,6 +45,7 @@ pub mod AddedItemLaws
 pub mod LineValueLaws
 pub mod LineRemovalLaws
 pub mod LineValueRemovalLaws
+pub mod KeysRemovalLaws
 pub mod RemovedLineLaws
 pub mod SectionLaws
 pub mod HeaderChangeLaws

@@ -98,23 +98,26 @@ module _ (d : ProfiledText) (syntax : Syntax) (index : NodeInfos) (path : List P
   abbrev old_index : NodeInfos
   old_index = telling_in s
 
-  spot : (item_number path (mentions_in s) ≡ None) × IsKeyvalSpot a s i.from (AfterBody header)
+  pub spot : (item_number path (mentions_in s) ≡ None) × IsKeyvalSpot a s i.from (AfterBody header)
   spot = keyval_only d syntax index path s v bytes i holds read value there utf8 (AfterBody header) after_body
       (λ n h. absurd h)
 
   pub body_spot : IsKeyvalSpot a s i.from (AfterBody header)
   body_spot = spot.1
 
-  prefix : take i.from path ≡ a
-  prefix =
-      ap (λ (n : ℕ). take n path) (by header body_spot)
-      ∙ holder_prefix d.profile limit s path v read.reads.valid spot.0 there.0
+  pub at_holder : i.from ≡ length a
+  at_holder = by header body_spot
     where
       by : (o : Option ℕ) → IsKeyvalSpot a s i.from (AfterBody o) → i.from ≡ length a
       by None h = h.1 ∙ sym (ap (λ (p : List Part). length p) h.0)
       by (Some n) h = h.1
 
-  nested : AreNested (mentions_in s) (reading_after start (statements_in s)).tables
+  pub prefix : take i.from path ≡ a
+  prefix =
+      ap (λ (n : ℕ). take n path) at_holder
+      ∙ holder_prefix d.profile limit s path v read.reads.valid spot.0 there.0
+
+  pub nested : AreNested (mentions_in s) (reading_after start (statements_in s)).tables
   nested =
       subst (λ (u : Document). AreNested (mentions_in u) (reading_after start (statements_in u)).tables)
       (tree_is d syntax index s holds read) holds.nested
@@ -172,7 +175,7 @@ module _ (d : ProfiledText) (syntax : Syntax) (index : NodeInfos) (path : List P
             path_is = ap (λ (p : List Part). p ++ key text.now ∷ []) (parent_is ∙ prefix) ∙ sym whole;
             fresh = ap (λ (ps : List (List Part)). node_number ps path) (paths-nodes_in s)
                 ∙ no_number path (mentions_in s) added.fresh;
-            within = subst (λ (n : ℕ). n ≤ length old_index.paths) at (few_before s more line);
+            within = subst (λ (n : ℕ). n ≤ length old_index.paths) at (few_before s line.before line.after line.old);
             place = subst (IsPlaceOf (numbers_of numbers) (infos_in s)) at is_place;
             facts = facts;
             was = nested;

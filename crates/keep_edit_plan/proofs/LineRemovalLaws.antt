@@ -41,7 +41,7 @@ use Rattle.keep_edit_plan.specs.Reading.{limit, ProfiledText, Holds, IsTextOfTre
 use Rattle.keep_edit_plan.specs.declared.plan.IndexChange.TheVariants as change
 use Rattle.keep_edit_plan.proofs.AnswerLaws.{tree_is}
 use Rattle.keep_edit_plan.proofs.KindLaws.{nothing_below}
-use Rattle.keep_edit_plan.proofs.PathNumberLaws.{number_at, paths_differ}
+use Rattle.keep_rules.proofs.Shared.{number_at, paths_differ}
 use Rattle.keep_edit_plan.proofs.RemoveCut.{IsLineOfValue, line_arm, removal_law}
 
 module _ (d : ProfiledText) (syntax : Syntax) (index : NodeInfos) (path : List Part) (s : Document)
@@ -50,7 +50,7 @@ module _ (d : ProfiledText) (syntax : Syntax) (index : NodeInfos) (path : List P
     (number : ℕ)
     (found : value_number_of path s ≡ Some number) (info : ValueInfo)
     (stored : slice_get (values_of syntax) number ≡ Some info)
-    (line : ℕ) (owned : info.owner ≡ owner.Line line) (one : info.keys ≡ 1) where
+    (line : ℕ) (owned : info.owner ≡ owner.Line line) where
   abbrev new : Document
   new = edited_document s (remove path)
 
@@ -63,9 +63,6 @@ module _ (d : ProfiledText) (syntax : Syntax) (index : NodeInfos) (path : List P
   abbrev pub held : Value
   held = of.found.its_line.held
 
-  pub one_key : of.found.own.keys ≡ 1
-  one_key = ap (λ (i : ValueInfo). i.keys) of.own_is ∙ one
-
   pub here : node_number (telling_in s).paths path ≡ Some id.0
   here = ap (λ (ps : List (List Part)). node_number ps path) (paths-nodes_in s) ∙ its_number
 
@@ -74,7 +71,7 @@ module _ (d : ProfiledText) (syntax : Syntax) (index : NodeInfos) (path : List P
       subst (λ (u : Document). AreNested (mentions_in u) (reading_after start (statements_in u)).tables)
       (tree_is d syntax index s holds read) holds.nested
 
-  numbers_are : numbers_after (filter_map line_statement (map line_of of.pre)) ≡ numbers_of numbers
+  pub numbers_are : numbers_after (filter_map line_statement (map line_of of.pre)) ≡ numbers_of numbers
   numbers_are =
       line_numbers path s of.pre of.rest of.was of.found
       ∙ ap (λ (n : ℕ). record { statement = n; value = of.found.value.number; key = of.found.own.first_key }) of.line_is
@@ -97,7 +94,7 @@ module _ (d : ProfiledText) (syntax : Syntax) (index : NodeInfos) (path : List P
         let ps : List (List Part) = (telling_in more).paths in
         let k : ℕ = nodes_after its_line.before in
         let p : List Part = path_after its_line.before its_line.text in
-        let low : k ≤ length (telling_in new).paths = few_before new more its_line in
+        let low : k ≤ length (telling_in new).paths = few_before new its_line.before its_line.after its_line.old in
         let many : ps ≡ put (telling_in new).paths k p =
         ap (λ (t : NodeInfos). t.paths) (line_adds_node new more its_line fresh) in
         let stands : get_or ps k [] ≡ path =
@@ -118,17 +115,22 @@ module _ (d : ProfiledText) (syntax : Syntax) (index : NodeInfos) (path : List P
         line_leaves_nested new more its_line fresh (removal_law d path s read allowed).obeys
         (ap (λ (p : List Part). children p (node_paths (mentions_in more))) taken.place ∙ alone)
 
-  -- where no node is below the value, the old document is such a one
-  pub line_removed : (count : ℕ) → count ≡ length (children_numbered index id.0) → count ≤ 0
-      → IsIndexChange s new (change.RemovedLine id numbers)
-  line_removed count counted few =
-      let alone : children path (node_paths (mentions_in s)) ≡ [] =
-      nothing_below d syntax index path s holds read id its_number count counted few in
-      let taken : HasLineAt new s path (body_fact held.body) (map line_of of.pre) =
-      remove_takes_line s path (map line_of of.pre) held read.obeys
-      (line_of_value path s of.pre of.rest of.was of.found one_key alone) in
-      record {
-        can = (number_is (telling_in s).paths path id.0 here).0;
-        facts = λ u is. is ∙ line_less s taken here alone;
-        nested = nested_less s taken here alone nested;
-      }
+  -- the line has one key
+  module _ (one : info.keys ≡ 1) where
+    pub one_key : of.found.own.keys ≡ 1
+    one_key = ap (λ (i : ValueInfo). i.keys) of.own_is ∙ one
+
+    -- where no node is below the value, the old document is such a one
+    pub line_removed : (count : ℕ) → count ≡ length (children_numbered index id.0) → count ≤ 0
+        → IsIndexChange s new (change.RemovedLine id numbers)
+    line_removed count counted few =
+        let alone : children path (node_paths (mentions_in s)) ≡ [] =
+        nothing_below d syntax index path s holds read id its_number count counted few in
+        let taken : HasLineAt new s path (body_fact held.body) (map line_of of.pre) =
+        remove_takes_line s path (map line_of of.pre) held read.obeys
+        (line_of_value path s of.pre of.rest of.was of.found one_key alone) in
+        record {
+          can = (number_is (telling_in s).paths path id.0 here).0;
+          facts = λ u is. is ∙ line_less s taken here alone;
+          nested = nested_less s taken here alone nested;
+        }

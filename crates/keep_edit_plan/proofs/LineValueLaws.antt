@@ -44,7 +44,7 @@ use Rattle.keep_edit_plan.specs.declared.plan.IndexChange.TheVariants as change
 use Rattle.keep_edit_plan.proofs.EditedLaws.{editable}
 use Rattle.keep_edit_plan.proofs.KeysLaws.{keys_utf8}
 use Rattle.keep_edit_plan.proofs.LineChangeLaws.{IsLineAdded, can_add, line_added, place_in, whole}
-use Rattle.keep_edit_plan.proofs.PathNumberLaws.{has_number, number_at, paths_differ}
+use Rattle.keep_rules.proofs.Shared.{has_number, number_at, paths_differ}
 
 -- ---- another value for a line that has nothing in it
 

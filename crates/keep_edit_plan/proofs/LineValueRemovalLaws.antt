@@ -43,7 +43,7 @@ use Rattle.keep_edit_plan.specs.Reading.{limit, ProfiledText, Holds, IsTextOfTre
 use Rattle.keep_edit_plan.specs.declared.plan.IndexChange.TheVariants as change
 use Rattle.keep_edit_plan.proofs.EditedLaws.{editable}
 use Rattle.keep_edit_plan.proofs.LineRemovalLaws as removal
-use Rattle.keep_edit_plan.proofs.PathNumberLaws.{number_at, paths_differ}
+use Rattle.keep_rules.proofs.Shared.{number_at, paths_differ}
 use Rattle.keep_edit_plan.proofs.RemoveCut.{IsLineOfValue}
 
 -- a value's own path is among those before the nodes in it, so it keeps its number
@@ -79,7 +79,7 @@ module _ (law : RemoveTakesValue) (d : ProfiledText) (syntax : Syntax) (index : 
   numbers = record { statement = line; value = number; key = info.first_key }
 
   abbrev of : IsLineOfValue d syntax index path s holds read allowed number info line
-  of = removal.of d syntax index path s holds read id its_number allowed number found info stored line owned one
+  of = removal.of d syntax index path s holds read id its_number allowed number found info stored line owned
 
   abbrev held : Value
   held = of.found.its_line.held
@@ -88,10 +88,10 @@ module _ (law : RemoveTakesValue) (d : ProfiledText) (syntax : Syntax) (index : 
   kind = fact_kind (body_fact held.body)
 
   here : node_number (telling_in s).paths path ≡ Some id.0
-  here = removal.here d syntax index path s holds read id its_number allowed number found info stored line owned one
+  here = removal.here d syntax index path s holds read id its_number allowed number found info stored line owned
 
   nested : AreNested (mentions_in s) (reading_after start (statements_in s)).tables
-  nested = removal.nested d syntax index path s holds read id its_number allowed number found info stored line owned one
+  nested = removal.nested d syntax index path s holds read id its_number allowed number found info stored line owned
 
   -- the document between
   module _ (bare : Document) (other : HasOtherValue s bare path (bare_value held))
@@ -108,11 +108,10 @@ module _ (law : RemoveTakesValue) (d : ProfiledText) (syntax : Syntax) (index : 
         let alone : children path (node_paths (mentions_in bare)) ≡ [] =
         empty_has_no_child s bare path (bare_value held) other refl in
         let less =
-        removal.line_less d syntax index path s holds read id its_number allowed number found info stored line owned one
+        removal.line_less d syntax index path s holds read id its_number allowed number found info stored line owned
         bare is_bare.line there alone in
         let left =
         removal.nested_less d syntax index path s holds read id its_number allowed number found info stored line owned
-        one
         bare is_bare.line there alone in
         record {
           can = (number_is (telling_in s).paths path id.0 here).0;

@@ -1,7 +1,8 @@
 -- What an edit changes of the index, where it need not be built anew.
-use Rattle.std.specs.Prelude.{◌≡◌, ◌<◌, [], ◌∷◌, ◌++◌, None, length}
+use Rattle.std.specs.Prelude.{◌≡◌, ◌<◌, [], ◌∷◌, ◌++◌, List, None, drop, length, map}
 use Rattle.std.specs.Prelude.{ℕ}
 use Rattle.keep_types.specs.declared.node.Kind.{Kind as NodeKind}
+use Rattle.keep_types.specs.declared.node.Kind.TheVariants.{Table}
 use Rattle.keep_syntax.specs.Tree.{Document, Value as TreeValue}
 use Rattle.keep_meaning.specs.Counts.{statements_in}
 use Rattle.keep_meaning.specs.Marks.{start, reading_after}
@@ -9,8 +10,9 @@ use Rattle.keep_meaning.specs.Meaning.{body_fact, mentions_in}
 use Rattle.keep_meaning.specs.Nodes.{fact_kind, node_number}
 use Rattle.keep_meaning.specs.OtherValues.{nodes_in_value, totals_of}
 use Rattle.keep_meaning.specs.StatementsMore.{AreNumbersAtEnd, said_next}
+use Rattle.keep_path.specs.KeysAlone.{keys_alone}
 use Rattle.keep_path.specs.NodeInfos.{NodeInfos, line_info, root_infos, with_kind, with_last, with_node, with_path}
-use Rattle.keep_path.specs.NodeInfos.{without_node}
+use Rattle.keep_path.specs.NodeInfos.{with_table, without_node}
 use Rattle.keep_path.specs.NodesBelow.{AreBelow, with_value}
 use Rattle.keep_path.specs.Path.{EndsInKey, beside, key}
 pub use Rattle.keep_index_store.specs.Below.{totals_in}
@@ -25,12 +27,12 @@ use Rattle.keep_edit_plan.specs.Headers.{key_texts, statement_of}
 use Rattle.keep_edit_plan.specs.Reading.{IsTextOfValue, telling_in}
 use Rattle.keep_edit_plan.specs.declared.plan.IndexChange.{IndexChange}
 use Rattle.keep_edit_plan.specs.declared.plan.IndexChange.TheVariants.{Kind, Key, Value, Inside, AddedLine, RemovedLine}
-use Rattle.keep_edit_plan.specs.declared.plan.IndexChange.TheVariants.{AddedValue, RemovedValue, AppendedHeader}
-use Rattle.keep_edit_plan.specs.declared.plan.IndexChange.TheVariants.{AppendedLine}
+use Rattle.keep_edit_plan.specs.declared.plan.IndexChange.TheVariants.{AddedValue, AddedKeys, RemovedValue}
+use Rattle.keep_edit_plan.specs.declared.plan.IndexChange.TheVariants.{AppendedHeader, AppendedLine}
 
 -- The node is there. Where another key is its path's last one, the path ends in a key, and no node is at the new one.
--- No node is at the path of a new line's key, and the nodes that are met before the line come first. The numbers of a
--- new header come after those of a document of which this is known.
+-- No node is at the path of a new line's first key, and the nodes that are met before the line come first. The numbers
+-- of a new header come after those of a document of which this is known.
 abbrev pub CanChange : NodeInfos → IndexChange → Type 0
 CanChange t (Kind node kind) = node.0 < length t.paths
 CanChange t (Key node text) =
@@ -46,6 +48,11 @@ CanChange t (AppendedLine parent text line kind) =
 CanChange t (RemovedLine node line) = node.0 < length t.paths
 CanChange t (AddedValue parent text line value old) =
     (parent.0 < length t.paths) × (node_number t.paths (path_numbered t parent.0 ++ key text.now ∷ []) ≡ None)
+    × IsPlaceOf (numbers_of line) t.infos (met_before (numbers_of line) t.infos)
+CanChange t (AddedKeys parent keys line kind old) =
+    (parent.0 < length t.paths)
+    × ((first : List ℕ) (further : List (List ℕ)) → drop keys.from keys.path.now ≡ map key (first ∷ further)
+    → node_number t.paths (path_numbered t parent.0 ++ key first ∷ []) ≡ None)
     × IsPlaceOf (numbers_of line) t.infos (met_before (numbers_of line) t.infos)
 CanChange t (RemovedValue node line old) = node.0 < length t.paths
 CanChange t (AppendedHeader header keys statement first) =
@@ -74,6 +81,11 @@ IsChanged t d (AddedValue parent text line value old) u =
     (path_numbered t parent.0 ++ key text.now ∷ []) (fact_kind (body_fact v.body)))
     (met_before (numbers_of line) t.infos) 0 (one_more (totals_in old)) (totals_of d) (nodes_in_value v)
     (fact_kind (body_fact v.body))
+IsChanged t d (AddedKeys parent keys line kind old) u =
+    (first : List ℕ) (further : List (List ℕ)) → drop keys.from keys.path.now ≡ map key (first ∷ further)
+    → u ≡ with_value (with_table t (met_before (numbers_of line) t.infos) (numbers_of line)
+    (path_numbered t parent.0 ++ key first ∷ []))
+    (met_before (numbers_of line) t.infos) 0 (one_more (totals_in old)) (totals_of d) (keys_alone further kind) Table
 IsChanged t d (RemovedValue node line old) u =
     (gone : ℕ) (k : NodeKind) → AreBelow t.paths node.0 gone
     → u ≡ without_node (with_value t node.0 gone (totals_in old) (one_more (totals_of d)) root_infos k) node.0

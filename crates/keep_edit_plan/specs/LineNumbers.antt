@@ -20,7 +20,7 @@ abbrev pub next_value : ℕ → List Statement → ℕ
 next_value all [] = all
 next_value all (s ∷ ss) = elim s.value [ Some v ↦ v | None ↦ next_value all ss ]
 
--- The body at a path ends before this line, and a keyval of one key part that is put in there has these numbers.
+-- The body at a path ends before this line, and a keyval that is put in there has these numbers.
 pub record AreNumbersAfter (a : List Part) (s : Document) (numbers : LineNumbers) : Type 0 where
   pub line : ℕ
   pub ends : end_of s a ≡ Some line

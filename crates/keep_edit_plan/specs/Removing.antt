@@ -1,12 +1,15 @@
 -- What `remove` takes hold of, and where it cuts.
-use Rattle.std.specs.Prelude.{◌≡◌, ◌⊎◌, ℕ, suc, ◌≤◌, ◌<◌, List, length, Option, Some, None, Result, Ok, Err}
+use Rattle.std.specs.Prelude.{◌≡◌, ◌⊎◌, ℕ, suc, ◌-◌, ◌≤◌, ◌<◌, List, [], length, take, Option, Some, None, Result, Ok}
+use Rattle.std.specs.Prelude.{Err}
 use Rattle.keep_types.specs.declared.leaf.Profile.{Profile}
 use Rattle.keep_types.specs.declared.syntax.ValueInfo.{ValueInfo}
 use Rattle.keep_syntax.specs.Tree.{Document}
 use Rattle.keep_meaning.specs.KeyText.{text_at}
 use Rattle.keep_path.specs.Path.{Part}
 use Rattle.keep_meaning.specs.Counts.{numbered_in}
-use Rattle.keep_meaning.specs.Nodes.{numbered_at, last_number, statement_number, is_define, is_begun}
+use Rattle.keep_meaning.specs.Meaning.{mentions_in}
+use Rattle.keep_meaning.specs.Nodes.{children, is_begun, is_define, last_number, mark_count, node_paths, numbered_at}
+use Rattle.keep_meaning.specs.Nodes.{statement_number}
 use Rattle.keep_rules.specs.declared.index.NodeId.{NodeId}
 use Rattle.keep_edit_spec.specs.declared.fault.EditFault.{EditFault}
 use Rattle.keep_edit_spec.specs.Changed.{Place}
@@ -48,6 +51,12 @@ IsRemovalOf profile path s (Err f) = refusal profile limit s (remove path) ≡ S
 abbrev pub IsRemovalFound : Profile → List Part → Document → Result (NodeId × Piece) EditFault → Type 0
 IsRemovalFound profile path s (Ok found) = IsNodeOf path s found.0 × IsRemovalOf profile path s (Ok found.1)
 IsRemovalFound profile path s (Err f) = IsRemovalOf profile path s (Err f)
+
+-- The path without so many steps at its end has this node, which one key part names; below the whole path is no node.
+pub record IsFirstAlone (path : List Part) (s : Document) (further : ℕ) (first : NodeId) : Type 0 where
+  pub childless : children path (node_paths (mentions_in s)) ≡ []
+  pub number : IsNodeOf (take (length path - further) path) s first
+  pub once : mark_count (take (length path - further) path) (mentions_in s) ≡ 1
 
 -- ---- where the text is cut
 

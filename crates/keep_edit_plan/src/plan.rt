@@ -4,7 +4,7 @@ ghost use Rattle.keep_edit_plan.specs.Plans.{IsPlanAt};
 use crate::header::Header;
 use crate::text_edit::TextEdit;
 use keep_edit_spec::EditFault;
-use keep_rules::{Kind, LineNumbers, NodeId, Totals, ValueText};
+use keep_rules::{Kind, LineNumbers, NewKeys, NodeId, Totals, ValueText};
 use keep_syntax::Span;
 use std::alloc::Global;
 
@@ -63,8 +63,18 @@ pub enum IndexChange<'a> {
         value: &'a ValueText,
         totals: Totals,
     },
-    /// The line with these numbers goes, and with it this node and all below it; the document had so many values and
-    /// key parts.
+    /// A line comes with these numbers: below a table there is one node more, by the first of these keys, and below it
+    /// those of the others, the last with a value of this kind, in which nothing is; the document had so many values
+    /// and key parts.
+    AddedKeys {
+        parent: NodeId,
+        keys: NewKeys<'a>,
+        line: LineNumbers,
+        kind: Kind,
+        totals: Totals,
+    },
+    /// The line with these numbers goes, and with it this node, that of the first of its keys, and all below it; the
+    /// document had so many values and key parts.
     RemovedValue {
         node: NodeId,
         line: LineNumbers,

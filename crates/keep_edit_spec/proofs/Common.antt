@@ -36,3 +36,4 @@ pub mod ActDepth
 pub mod ThroughAlone
 pub mod LineEnds
 pub mod LineStatements
+pub mod UnsaidPaths

@@ -52,8 +52,14 @@ pub mod BraceDotted
 pub mod KeyvalPlaces
 pub mod DottedPlace
 pub mod InsertDottedPlace
+pub mod NewKeys
 pub mod KeysAtEnd
+pub mod LinePut
+pub mod LineAtEnd
 pub mod InsertAddsLine
+pub mod InsertAddsKeys
+pub mod InsertAddsDots
+pub mod DotsPassed
 pub mod InsertAddsValue
 pub mod InsertNested
 pub mod PutIsValue

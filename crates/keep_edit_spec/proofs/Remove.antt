@@ -24,6 +24,8 @@ pub mod RemoveLinePlace
 pub mod LineOfValue
 pub mod RemoveSectionPlace
 pub mod RemovePlaces
+pub mod LineTaken
 pub mod RemoveTakesLine
+pub mod RemoveTakesKeys
 pub mod RemoveTakesValue
 pub mod TakenIsValue

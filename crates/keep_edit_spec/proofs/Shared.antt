@@ -1,7 +1,9 @@
 -- What the crates above build on, in one place.
 pub use Rattle.keep_edit_spec.proofs.Common.Runs.{AllOf, Allowed, Pairs, Rules, SomeOf, all_join, same_path-sound}
 pub use Rattle.keep_edit_spec.proofs.Common.Runs.{kinds_allow}
+pub use Rattle.keep_edit_spec.proofs.Common.BodyEnd.{IsBodyEnd, end_is}
 pub use Rattle.keep_edit_spec.proofs.Common.LineLaws.{EndsInKey}
+pub use Rattle.keep_edit_spec.proofs.Common.LineStatements.{reading_statements}
 pub use Rattle.keep_edit_spec.proofs.Common.SetLaw.{IsAloneAt}
 pub use Rattle.keep_edit_spec.proofs.Remove.RemovePlace.{IsComma, IsEdged, IsNested, IsValueAt, same_place}
 pub use Rattle.keep_edit_spec.proofs.Common.LineEnds.{IsClosed, ended_ends, ends_at, ends_after, line_quiet, line_some}
@@ -12,7 +14,7 @@ pub use Rattle.keep_edit_spec.proofs.Common.Moves.{IsInjectiveOn, mentions_moved
 pub use Rattle.keep_edit_spec.proofs.Rename.RenameInValue.{snoc_of}
 pub use Rattle.keep_edit_spec.proofs.Rename.MovedLines.{IsDocumentMoved, moved_numbered}
 pub use Rattle.keep_edit_spec.proofs.Rename.RenameNodes.{IsClear, IsNodeRenamed, KeepsSteps, nodes_renamed}
-pub use Rattle.keep_edit_spec.proofs.Remove.LineOfValue.{line_numbers, line_of_value, value_line}
+pub use Rattle.keep_edit_spec.proofs.Remove.LineOfValue.{keys_line_of_value, line_numbers, line_of_value, value_line}
 pub use Rattle.keep_edit_spec.proofs.Remove.RemoveLinePlace.{IsLineValue, IsLow, is_high}
 pub use Rattle.keep_edit_spec.proofs.Remove.RemovePlaces.{IsPlaced, IsRemoved, removed}
 pub use Rattle.keep_edit_spec.proofs.Common.Doubles.{IsMentioned, has_some}
@@ -73,10 +75,14 @@ pub use Rattle.keep_edit_spec.proofs.Insert.InsertPlaces.{root_ends, root_placed
 pub use Rattle.keep_edit_spec.proofs.Insert.InsertNested.{braced_nested, item_nested}
 pub use Rattle.keep_edit_spec.proofs.Insert.PutIsValue.{put_item_is_value, put_keyval_is_value}
 pub use Rattle.keep_edit_spec.proofs.Insert.InsertAddsLine.{insert_adds_line}
+pub use Rattle.keep_edit_spec.proofs.Insert.InsertAddsKeys.{insert_adds_keys}
+pub use Rattle.keep_edit_spec.proofs.Insert.InsertAddsDots.{insert_adds_dots}
+pub use Rattle.keep_edit_spec.proofs.Insert.DotsPassed.{PassesTo, passed_to_holder}
 pub use Rattle.keep_edit_spec.proofs.Insert.InsertAddsValue.{insert_adds_value}
 pub use Rattle.keep_edit_spec.proofs.Remove.RemoveEntry.{all_prefix, past_stops}
 pub use Rattle.keep_edit_spec.proofs.Remove.RemovePlace.{preserved_is, run_ends}
 pub use Rattle.keep_edit_spec.proofs.Remove.RemoveTakesLine.{remove_takes_line}
+pub use Rattle.keep_edit_spec.proofs.Remove.RemoveTakesKeys.{remove_takes_keys}
 pub use Rattle.keep_edit_spec.proofs.Remove.RemoveTakesValue.{remove_takes_value}
 pub use Rattle.keep_edit_spec.proofs.Insert.InsertDottedPlace.{IsBaseAt, IsDottedPlaced, dotted_placed}
 pub use Rattle.keep_edit_spec.proofs.Common.Texts.{EachIs, entry-text, joined_gap-text, past_ws-text, put-place_of}

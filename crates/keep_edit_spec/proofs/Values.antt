@@ -4,5 +4,6 @@ pub mod ValueFacts
 pub mod ValueDepths
 pub mod LineValueText
 pub mod LineValue
+pub mod LineCounts
 pub mod BareValue
 pub mod LineKeys

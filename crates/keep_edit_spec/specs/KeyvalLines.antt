@@ -1,20 +1,23 @@
 -- A line with a keyval that an `insert` writes or a `remove` takes: which of the two documents has one line more.
-use Rattle.std.specs.Prelude.{◌≡◌, ℕ, suc, false, List, [], ◌∷◌, ◌++◌, take, Some, None, IsUtf8}
+use Rattle.std.specs.Prelude.{◌≡◌, ℕ, suc, ◌-◌, false, List, [], ◌∷◌, ◌++◌, length, map, take, Some, None, IsUtf8}
 use Rattle.std.specs.List.{AllByRecursion, filter_map}
 use Rattle.keep_types.specs.declared.leaf.Profile.{Profile}
 use Rattle.keep_types.specs.declared.leaf.Profile.TheVariants.{Wide}
-use Rattle.keep_syntax.specs.Tree.{Name, Value, Line, Document, keyval, none}
+use Rattle.keep_syntax.specs.Tree.{Further, Name, Value, Line, Document, keyval, none}
 use Rattle.keep_path.specs.Path.{Part, key}
 use Rattle.keep_meaning.specs.Counts.{count_from, line_statement, no_count}
+use Rattle.keep_meaning.specs.DotsMore.{HasDotsMore, new_path}
 use Rattle.keep_meaning.specs.Fact.{Fact}
+use Rattle.keep_meaning.specs.KeysMore.{HasKeysMore, IsUnsaid}
 use Rattle.keep_meaning.specs.LinesMore.{HasLineMore, path_after}
 use Rattle.keep_meaning.specs.Marks.{marks, start}
-use Rattle.keep_meaning.specs.Meaning.{body_fact, lines, mentions_in, reading_after_lines, step}
-use Rattle.keep_meaning.specs.Nodes.{is_node}
+use Rattle.keep_meaning.specs.Meaning.{body_fact, key_value, lines, mentions_in, reading_after_lines, step}
+use Rattle.keep_meaning.specs.Nodes.{is_node, mark_count}
 use Rattle.keep_meaning.specs.OtherValues.{HasOtherValue, totals_of}
 use Rattle.keep_meaning.specs.Rules.{ObeysRules}
 use Rattle.keep_edit_spec.specs.Edits.{edited_document, end_of, insert, remove}
 use Rattle.keep_edit_spec.specs.Laws.{IsEditable, IsGivenValue}
+use Rattle.keep_edit_spec.specs.Lines.{last_line, leads_dotted, reading_at}
 use Rattle.keep_edit_spec.specs.Look.{holder, keys_in}
 use Rattle.keep_edit_spec.specs.Refusals.{refusal}
 
@@ -104,3 +107,71 @@ RemoveTakesValue =
     → IsEditable profile limit s → IsValueLine s path before value
     → (bare : Document) × HasOtherValue s bare path (bare_value value)
     × IsBareLine (edited_document s (remove path)) bare path (body_fact value.body) before
+
+-- ---- the same of a line whose key has several parts, of which the first is named nowhere else
+
+-- The second document has one line more, after these lines: by several keys, the first of which has an unsaid path in
+-- the first document, it gives this path this fact.
+pub record HasKeysAt (d more : Document) (path : List Part) (fact : Fact) (before : List Line) : Type 0 where
+  pub line : HasKeysMore d more
+  pub after : line.before ≡ filter_map line_statement before
+  pub place : path_after line.before line.first ++ map key (line.next ∷ line.further) ≡ path
+  pub gives : line.fact ≡ fact
+  pub unsaid : IsUnsaid d (path_after line.before line.first)
+
+-- After these lines is a keyval with this path, whose key goes on after the first part, with nothing in its value.
+pub record IsKeysLineOf (s : Document) (path : List Part) (before : List Line) (value : Value) : Type 0 where
+  pub line : Line
+  pub after : List Line
+  pub name : Name
+  pub next : Further
+  pub further : List Further
+  pub here : lines s ≡ before ++ line ∷ after
+  pub content : line.content ≡ keyval name value
+  pub place : (reading_after_lines start before).body ++ step 0 (Some name) ≡ path
+  pub several : name.key.more ≡ next ∷ further
+  pub empty : value.nested ≡ none
+
+-- An insert of several new keys into the root, a table or an element that is defined adds a line at its end.
+abbrev pub InsertAddsKeys : Type 0
+InsertAddsKeys =
+    (profile : Profile) (limit : ℕ) (s : Document) (path : List Part) (first next : List ℕ) (further : List (List ℕ))
+    (value : Value) (n : ℕ)
+    → AllByRecursion IsUtf8 (keys_in path) → refusal profile limit s (insert path value) ≡ None
+    → path ≡ holder path (mentions_in s) ++ map key (first ∷ next ∷ further)
+    → end_of s (holder path (mentions_in s)) ≡ Some n → value.nested ≡ none
+    → HasKeysAt s (edited_document s (insert path value)) path (body_fact value.body) (take n (lines s))
+
+-- A remove of such a line takes it, or what it says, where no other key part names the path of its first key.
+abbrev pub RemoveTakesKeys : Type 0
+RemoveTakesKeys =
+    (s : Document) (path : List Part) (before : List Line) (value : Value) → ObeysRules (marks (mentions_in s))
+    → (line : IsKeysLineOf s path before value)
+    → mark_count ((reading_after_lines start before).body ++ key (key_value line.name.key.first) ∷ []) (mentions_in s)
+    ≡ 1
+    → HasKeysAt (edited_document s (remove path)) s path (body_fact value.body) before
+
+-- ---- the same of a line whose key goes on from tables of dotted keys
+
+-- The second document has one line more, after these lines: by keys of which so many are passed it gives this path this
+-- fact, and the first of the others has an unsaid path in the first document.
+pub record HasDotsAt (d more : Document) (path : List Part) (fact : Fact) (passed : ℕ) (before : List Line) : Type 0
+  where
+    pub line : HasDotsMore d more
+    pub after : line.before ≡ filter_map line_statement before
+    pub place : new_path line.before line.passed line.first ++ map key line.further ≡ path
+    pub count : length line.passed ≡ passed
+    pub gives : line.fact ≡ fact
+    pub unsaid : IsUnsaid d (new_path line.before line.passed line.first)
+
+-- An insert of new keys into a table that dotted keys make adds a line after the last one that leads through it.
+abbrev pub InsertAddsDots : Type 0
+InsertAddsDots =
+    (profile : Profile) (limit : ℕ) (s : Document) (path : List Part) (first : List ℕ) (further : List (List ℕ))
+    (value : Value) (i : ℕ)
+    → AllByRecursion IsUtf8 (keys_in path) → refusal profile limit s (insert path value) ≡ None
+    → path ≡ holder path (mentions_in s) ++ map key (first ∷ further)
+    → end_of s (holder path (mentions_in s)) ≡ None
+    → last_line (leads_dotted (holder path (mentions_in s))) start (lines s) ≡ Some i → value.nested ≡ none
+    → HasDotsAt s (edited_document s (insert path value)) path (body_fact value.body)
+    (length (holder path (mentions_in s)) - length (reading_at i (lines s)).body) (take (suc i) (lines s))

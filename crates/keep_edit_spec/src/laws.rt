@@ -92,6 +92,26 @@ pub fn remove_takes_line()
     ensures { keyvals.RemoveTakesLine }
 {}
 
+/// An `insert` of several keys, with nothing inside its value, at the end of a body gives a document with one line
+/// more, of these keys. The old document says nothing of the first key's path, or of a path below it.
+pub fn insert_adds_keys()
+    ensures { keyvals.InsertAddsKeys }
+{}
+
+/// A `remove` of such a line gives a document of which the old one has one line more, and which says nothing of the
+/// first key's path, if the old one obeys the rules and no other key part in it names that path.
+pub fn remove_takes_keys()
+    ensures { keyvals.RemoveTakesKeys }
+{}
+
+/// An `insert` of one new key or of several, with nothing inside its value, into a table that dotted keys make gives a
+/// document with one line more, after the last one that leads through that table. The keys of the line first pass the
+/// tables from the line's body to that one; then come the new ones. The old document says nothing of the first new
+/// key's path, or of a path below it.
+pub fn insert_adds_dots()
+    ensures { keyvals.InsertAddsDots }
+{}
+
 /// An `insert` of one key at the end of a body gives a document with one line more that has nothing in its value, and
 /// then the value there.
 pub fn insert_adds_value()

@@ -1,6 +1,7 @@
 -- Nodes that come each below the one before it, by their keys: tables, and below the last of them one more.
 use Rattle.std.specs.Prelude.{◌≡◌, ℕ, suc, ◌-◌, ◌<◌, ◌≤◌, List, [], ◌∷◌, ◌++◌, length, take, Option, None, Some}
 use Rattle.keep_types.specs.declared.node.NodeInfo.{NodeInfo}
+pub use Rattle.keep_path.specs.KeysAlone.{paths_below}
 use Rattle.keep_path.specs.Path.{Part, index, key}
 use Rattle.keep_index_store.specs.declared.facts.NodeFacts.{NodeFacts}
 use Rattle.keep_index_store.specs.declared.tree.joining.HeaderFacts.{HeaderFacts}
@@ -36,14 +37,10 @@ abbrev pub element_infos : Option NodeFacts → List NodeInfo
 element_infos None = []
 element_infos (Some element) = info_of element ∷ []
 
--- the path to which these keys lead, and the paths on the way
+-- the path to which these keys lead
 abbrev pub path_below : List Part → List (List ℕ) → List Part
 path_below path [] = path
 path_below path (k ∷ ks) = path_below (path ++ key k ∷ []) ks
-
-abbrev pub paths_below : List Part → List (List ℕ) → List (List Part)
-paths_below path [] = []
-paths_below path (k ∷ ks) = (path ++ key k ∷ []) ∷ paths_below (path ++ key k ∷ []) ks
 
 -- the facts of the tables of these keys
 abbrev pub infos_below : NodeFacts → List (List ℕ) → List NodeInfo

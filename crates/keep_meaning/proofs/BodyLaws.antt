@@ -14,9 +14,9 @@ use Rattle.keep_syntax.specs.Tree.{Document}
 use Rattle.keep_path.specs.Path.{Part}
 use Rattle.keep_path.proofs.Shared.{path_decides}
 use Rattle.keep_meaning.specs.Counts.{is_mark, no_count, statements_in}
-use Rattle.keep_meaning.specs.LinesMore.{HasLineMore}
 use Rattle.keep_meaning.specs.Marks.{MentionKind, through, past, define, element, dotted, value, begun, passed, item}
-use Rattle.keep_meaning.specs.Marks.{Mention, elements_of, marks, mentions_from, reading_after, role_of, start}
+use Rattle.keep_meaning.specs.Marks.{Mention, Statement, elements_of, marks}
+use Rattle.keep_meaning.specs.Marks.{mentions_from, reading_after, role_of, start}
 use Rattle.keep_meaning.specs.Meaning.{mentions_in}
 use Rattle.keep_meaning.specs.Nodes.{is_at, is_begun, is_define, is_node, is_root, mention_of}
 use Rattle.keep_meaning.specs.Rules.{Mark, ObeysRules, allows}
@@ -119,11 +119,11 @@ unlike q ms obeys h g = by (cases_lt one.0 other.0)
             ap (λ (m : Mark). m.role) (sym (one.2 d) ∙ ap (λ (k : ℕ). get_or (marks ms) k d) number ∙ other.2 d) in
             cc
 
--- ---- the document without the line
+-- ---- a document and some statement of it
 
-module _ (d more : Document) (line : HasLineMore d more) where
+module _ (d : Document) (before after : List Statement) (old : statements_in d ≡ before ++ after) where
   abbrev body : List Part
-  body = (reading_after start line.before).body
+  body = (reading_after start before).body
 
   abbrev tables : List (List Part)
   tables = (reading_after start (statements_in d)).tables
@@ -140,26 +140,26 @@ module _ (d more : Document) (line : HasLineMore d more) where
       by (inl none) = absurd (omega (arith, none))
       by (inr s) = s
 
-  said_are : mentions_in d ≡ mentions_from start line.before ++ map mention_of (after_line d more line)
+  said_are : mentions_in d ≡ mentions_from start before ++ map mention_of (after_line d before after old)
   said_are =
-      mentions_old d more line
-      ∙ ap (λ (ms : List Mention). ms ++ map mention_of (after_line d more line))
-      (mentions-numbered_from no_count start line.before)
+      mentions_old d before after old
+      ∙ ap (λ (ms : List Mention). ms ++ map mention_of (after_line d before after old))
+      (mentions-numbered_from no_count start before)
 
   body_said : (body ≡ []) ⊎ SomeOf (Opens body) (mentions_in d)
-  body_said = by (before.body body refl)
+  body_said = by (first.body body refl)
     where
-      before : IsSound start (reading_after start line.before) (mentions_from start line.before)
-      before =
-          sound_from start line.before (all_left IsSoundStatement line.before line.after
-          (subst (AllOf IsSoundStatement) line.old (sound_statements d)))
+      first : IsSound start (reading_after start before) (mentions_from start before)
+      first =
+          sound_from start before (all_left IsSoundStatement before after
+          (subst (AllOf IsSoundStatement) old (sound_statements d)))
 
-      by : (start.body ≡ body) ⊎ SomeOf (Opens body) (mentions_from start line.before)
+      by : (start.body ≡ body) ⊎ SomeOf (Opens body) (mentions_from start before)
           → (body ≡ []) ⊎ SomeOf (Opens body) (mentions_in d)
       by (inl root) = inl (sym root)
       by (inr s) =
           inr (subst (SomeOf (Opens body)) (sym said_are)
-          (some_left (Opens body) (mentions_from start line.before) (map mention_of (after_line d more line)) s))
+          (some_left (Opens body) (mentions_from start before) (map mention_of (after_line d before after old)) s))
 
   -- a path with elements is named
   pub tables_are_nodes : (t : List Part) → 0 < elements_of t tables → is_node t (mentions_in d) ≡ true
@@ -167,7 +167,7 @@ module _ (d more : Document) (line : HasLineMore d more) where
       or_right (is_root t) (list_any (is_at t) (mentions_in d))
       (some_any (Says role.Element t) t (λ m g. g.1) (mentions_in d) (tables_said t h))
 
-  -- so is the table that the line's keyval is in
+  -- so is the table that a keyval after those before is in
   pub body_is_node : is_node body (mentions_in d) ≡ true
   body_is_node = by body_said
     where

@@ -20,8 +20,13 @@ pub mod FoundLemmas
 pub mod MetLineLemmas
 pub mod LineLaws
 pub mod LineFoundLaws
-pub mod OtherValueLemmas
+pub mod RunLemmas
+pub mod RunLaws
 pub mod OtherValueLaws
+pub mod KeyChainLemmas
+pub mod KeyRunLaws
+pub mod KeysLaws
+pub mod DotsLaws
 pub mod BodyLaws
 pub mod HeaderLaws
 pub mod Shared

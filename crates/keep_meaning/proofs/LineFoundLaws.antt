@@ -19,10 +19,10 @@ use Rattle.keep_syntax.specs.Tree.{Document}
 use Rattle.keep_path.specs.NodeInfos.{no_info}
 use Rattle.keep_path.specs.Path.{Part, same_path}
 use Rattle.keep_path.proofs.Shared.{path_decides}
-use Rattle.keep_meaning.specs.Counts.{Numbered, count_from, no_count}
+use Rattle.keep_meaning.specs.Counts.{Numbered, count_from, no_count, statements_in}
 use Rattle.keep_meaning.specs.Laws.{LineIsFound}
-use Rattle.keep_meaning.specs.LinesMore.{HasLineMore, is_met_from, nodes_after, numbers_after}
-use Rattle.keep_meaning.specs.Marks.{Mention, Reading, marks, reading_after, start}
+use Rattle.keep_meaning.specs.LinesMore.{is_met_from, nodes_after, numbers_after}
+use Rattle.keep_meaning.specs.Marks.{Mention, Reading, Statement, marks, reading_after, start}
 use Rattle.keep_meaning.specs.Meaning.{mentions_in}
 use Rattle.keep_meaning.specs.Nodes.{infos_in, is_at, is_node, is_numbered_at, is_root, mention_of, node_at, node_info}
 use Rattle.keep_meaning.specs.Nodes.{node_paths, nodes_of, numbered_at, paths_with}
@@ -39,7 +39,8 @@ use Rattle.keep_meaning.proofs.MetLineLemmas.{met_after, met_before}
 
 -- ---- the paths that are met, and further ones
 
-same_node : (ps qs : List (List Part)) (i : ℕ) → i < length ps → get_or (fold paths_with ps qs) i [] ≡ get_or ps i []
+pub same_node : (ps qs : List (List Part)) (i : ℕ) → i < length ps
+    → get_or (fold paths_with ps qs) i [] ≡ get_or ps i []
 same_node ps [] i low = refl
 same_node ps (q ∷ qs) i low = by (list_any (same_path q) ps) (λ more h. same_node more qs i h)
   where
@@ -80,38 +81,39 @@ either_third true b c h e e' = absurd cc
 either_third false true c h e e' = absurd cc
 either_third false false c h e e' = h
 
--- ---- the document without the line
+-- ---- a document and some statement of it
 
-module _ (d more : Document) (line : HasLineMore d more) (obeys : ObeysRules (marks (mentions_in d))) where
+module _ (d : Document) (before after : List Statement) (old : statements_in d ≡ before ++ after)
+    (obeys : ObeysRules (marks (mentions_in d))) where
   abbrev xs : List Numbered
-  xs = before_line d more line
+  xs = before_line d before after old
 
   abbrev ys : List Numbered
-  ys = after_line d more line
+  ys = after_line d before after old
 
   abbrev middle : Reading
-  middle = reading_after start line.before
+  middle = reading_after start before
 
-  sound : AllOf IsSoundStatement (line.before ++ line.after)
-  sound = subst (AllOf IsSoundStatement) line.old (sound_statements d)
+  sound : AllOf IsSoundStatement (before ++ after)
+  sound = subst (AllOf IsSoundStatement) old (sound_statements d)
 
   first : IsSound start middle (map mention_of xs)
-  first = subst (IsSound start middle) (sym (mentions-numbered_from no_count start line.before))
-      (sound_from start line.before (all_left IsSoundStatement line.before line.after sound))
+  first = subst (IsSound start middle) (sym (mentions-numbered_from no_count start before))
+      (sound_from start before (all_left IsSoundStatement before after sound))
 
-  second : IsSound middle (reading_after middle line.after) (map mention_of ys)
+  second : IsSound middle (reading_after middle after) (map mention_of ys)
   second =
-      subst (IsSound middle (reading_after middle line.after))
-      (sym (mentions-numbered_from (count_from no_count start line.before) middle line.after))
-      (sound_from middle line.after (all_right IsSoundStatement line.before line.after sound))
+      subst (IsSound middle (reading_after middle after))
+      (sym (mentions-numbered_from (count_from no_count start before) middle after))
+      (sound_from middle after (all_right IsSoundStatement before after sound))
 
   both_obey : ObeysRules (marks (map mention_of xs ++ map mention_of ys))
-  both_obey = subst (λ (ms : List Mention). ObeysRules (marks ms)) (mentions_old d more line) obeys
+  both_obey = subst (λ (ms : List Mention). ObeysRules (marks ms)) (mentions_old d before after old) obeys
 
   abbrev was_met : List (List Part)
   was_met = node_paths (map mention_of xs)
 
-  abbrev ps : List (List Part)
+  abbrev pub ps : List (List Part)
   ps = node_paths (map mention_of (xs ++ ys))
 
   mentioned : map mention_of (xs ++ ys) ≡ map mention_of xs ++ map mention_of ys
@@ -125,7 +127,7 @@ module _ (d more : Document) (line : HasLineMore d more) (obeys : ObeysRules (ma
 
   infos_are : infos_in d ≡ map (λ (q : List Part). node_info (node_at (xs ++ ys) q)) ps
   infos_are =
-      ap (λ (ns : List Numbered). map node_info (nodes_of ns)) (numbered_old d more line)
+      ap (λ (ns : List Numbered). map node_info (nodes_of ns)) (numbered_old d before after old)
       ∙ map_twice node_info (node_at (xs ++ ys)) ps
 
   as_many_paths : length (infos_in d) ≡ length ps
@@ -139,61 +141,72 @@ module _ (d more : Document) (line : HasLineMore d more) (obeys : ObeysRules (ma
     low = omega (arith, within, as_many_paths)
 
     -- by what is said of it before the line, and after
-    info_is : is_met_from (numbers_after line.before) (get_or (infos_in d) i no_info)
-        ≡ met_at (numbers_after line.before) q (numbered_at q xs ++ numbered_at q ys)
+    info_is : is_met_from (numbers_after before) (get_or (infos_in d) i no_info)
+        ≡ met_at (numbers_after before) q (numbered_at q xs ++ numbered_at q ys)
     info_is =
-        ap (λ (l : List NodeInfo). is_met_from (numbers_after line.before) (get_or l i no_info)) infos_are
-        ∙ ap (is_met_from (numbers_after line.before))
+        ap (λ (l : List NodeInfo). is_met_from (numbers_after before) (get_or l i no_info)) infos_are
+        ∙ ap (is_met_from (numbers_after before))
         (get_or-map (λ (q : List Part). node_info (node_at (xs ++ ys) q)) ps i [] no_info low)
-        ∙ ap (met_at (numbers_after line.before) q) (filter-append (is_numbered_at q) xs ys)
+        ∙ ap (met_at (numbers_after before) q) (filter-append (is_numbered_at q) xs ys)
 
-    met_there : i < length was_met → is_node q (map mention_of xs) ≡ true
-    met_there before =
+    pub met_there : i < length was_met → is_node q (map mention_of xs) ≡ true
+    met_there early =
         let same : q ≡ get_or was_met i [] =
         ap (λ (l : List (List Part)). get_or l i []) paths_are
-        ∙ same_node was_met (map path_of (map mention_of ys)) i before in
+        ∙ same_node was_met (map path_of (map mention_of ys)) i early in
         sym (node_met q (map mention_of xs))
-        ∙ list_any_at (same_path q) was_met i [] before ((path_decides q (get_or was_met i [])).1 same)
+        ∙ list_any_at (same_path q) was_met i [] early ((path_decides q (get_or was_met i [])).1 same)
 
     unmet : length was_met ≤ i → is_node q (map mention_of xs) ≡ false
-    unmet after =
+    unmet late =
         sym (node_met q (map mention_of xs))
         ∙ ap (λ (l : List (List Part)). list_any (same_path (get_or l i [])) was_met) paths_are
-        ∙ new_node was_met (map path_of (map mention_of ys)) i after (omega (arith, low, ap length paths_are))
+        ∙ new_node was_met (map path_of (map mention_of ys)) i late (omega (arith, low, ap length paths_are))
 
     met_later : length was_met ≤ i → list_any (is_at q) (map mention_of ys) ≡ true
-    met_later after =
+    met_later late =
         let node : is_node q (map mention_of (xs ++ ys)) ≡ true =
         sym (node_met q (map mention_of (xs ++ ys)))
         ∙ list_any_at (same_path q) ps i [] low ((path_decides q q).1 refl) in
         let both : list_any (is_at q) (map mention_of (xs ++ ys))
         ≡ (list_any (is_at q) (map mention_of xs) || list_any (is_at q) (map mention_of ys)) =
         ap (list_any (is_at q)) mentioned ∙ list_any-append (is_at q) (map mention_of xs) (map mention_of ys) in
-        let none = or_parts (is_root q) (list_any (is_at q) (map mention_of xs)) (unmet after) in
+        let none = or_parts (is_root q) (list_any (is_at q) (map mention_of xs)) (unmet late) in
         either_third (is_root q) (list_any (is_at q) (map mention_of xs)) (list_any (is_at q) (map mention_of ys))
         (ap (λ (b : Bool). is_root q || b) (sym both) ∙ node) none.0 none.1
 
-    stated_before : i < length was_met → is_met_from (numbers_after line.before) (get_or (infos_in d) i no_info) ≡ false
-    stated_before before =
-        info_is ∙ met_before (count_from no_count start line.before) xs ys middle (reading_after middle line.after)
-        first second (before_lower d more line) (after_higher d more line) both_obey q (met_there before)
+    stated_before : i < length was_met → is_met_from (numbers_after before) (get_or (infos_in d) i no_info) ≡ false
+    stated_before early =
+        info_is ∙ met_before (count_from no_count start before) xs ys middle (reading_after middle after)
+        first second (before_lower d before after old) (after_higher d before after old) both_obey q (met_there early)
 
-    stated_after : length was_met ≤ i → is_met_from (numbers_after line.before) (get_or (infos_in d) i no_info) ≡ true
-    stated_after after =
-        info_is ∙ met_after (count_from no_count start line.before) xs ys middle (reading_after middle line.after) first
-        second (before_lower d more line) (after_higher d more line) both_obey q (unmet after) (met_later after)
+    stated_after : length was_met ≤ i → is_met_from (numbers_after before) (get_or (infos_in d) i no_info) ≡ true
+    stated_after late =
+        info_is ∙ met_after (count_from no_count start before) xs ys middle (reading_after middle after) first
+        second (before_lower d before after old) (after_higher d before after old) both_obey q (unmet late)
+        (met_later late)
 
-    pub stated : (nodes_after line.before ≤ i) ↔
-        (is_met_from (numbers_after line.before) (get_or (infos_in d) i no_info) ≡ true)
+    pub stated : (nodes_after before ≤ i) ↔
+        (is_met_from (numbers_after before) (get_or (infos_in d) i no_info) ≡ true)
     stated = (
-      λ high. stated_after (omega (arith, high, met_before_line d more line)),
+      λ high. stated_after (omega (arith, high, met_before_line d before after old)),
       λ is. by is (cases_lt i (length was_met)),
     )
       where
-        by : is_met_from (numbers_after line.before) (get_or (infos_in d) i no_info) ≡ true
-            → (i < length was_met) ⊎ (length was_met ≤ i) → nodes_after line.before ≤ i
-        by is (inl before) = absurd (no_longer _ is (stated_before before))
-        by is (inr after) = omega (arith, after, met_before_line d more line)
+        by : is_met_from (numbers_after before) (get_or (infos_in d) i no_info) ≡ true
+            → (i < length was_met) ⊎ (length was_met ≤ i) → nodes_after before ≤ i
+        by is (inl early) = absurd (no_longer _ is (stated_before early))
+        by is (inr late) = omega (arith, late, met_before_line d before after old)
+
+pub statement_is_found : (d : Document) (before after : List Statement) → statements_in d ≡ before ++ after
+    → ObeysRules (marks (mentions_in d))
+    → (nodes_after before ≤ length (infos_in d))
+    × ((i : ℕ) → i < length (infos_in d) → (nodes_after before ≤ i)
+    ↔ (is_met_from (numbers_after before) (get_or (infos_in d) i no_info) ≡ true))
+statement_is_found d before after old obeys = (
+  omega (arith, few_before d before after old, as_many d before after old),
+  stated d before after old obeys,
+)
 
 pub line_is_found : LineIsFound
-line_is_found d more line obeys = (omega (arith, few_before d more line, as_many d more line), stated d more line obeys)
+line_is_found d more line obeys = statement_is_found d line.before line.after line.old obeys

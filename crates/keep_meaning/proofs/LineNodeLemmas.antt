@@ -1,6 +1,7 @@
 -- One line more: what is known of the nodes is what was known, with the line's node (`node_more`).
 --
--- What the line says is one mention, of a new path, between what is said before it and after it. So the path is met
+-- What the line says, or its first key part, is one mention, of a new path, between what is said before it and after
+-- it. So the path is met
 -- after those before, and the others in the order that they had (`paths_put`). Of another node the same is said, and
 -- each number that the facts have of it is that of before, or greater by one, as it is lower than the line's or not
 -- (`info_later`).
@@ -20,32 +21,32 @@ use Rattle.std.proofs.Math.Seq.{take-append_seam, drop-append_seam}
 use Rattle.keep_types.specs.declared.node.NodeInfo.{NodeInfo}
 use Rattle.keep_types.specs.declared.node.Origin.{Origin}
 use Rattle.keep_types.specs.declared.node.Origin.TheVariants as origin
-use Rattle.keep_path.specs.NodeInfos.{NodeInfos, LineNumbers, later_number, renumbered, renumbered_origin, line_info}
-use Rattle.keep_path.specs.NodeInfos.{with_node}
+use Rattle.keep_path.specs.NodeInfos.{NodeInfos, LineNumbers, later_number, renumbered, renumbered_origin}
 use Rattle.keep_path.specs.Path.{Part, same_path}
 use Rattle.keep_path.proofs.Shared.{path_decides}
-use Rattle.keep_meaning.specs.Fact.{Fact}
-use Rattle.keep_meaning.specs.Marks.{MentionKind, Mention, value as mentions_value}
+use Rattle.keep_meaning.specs.Marks.{MentionKind, Mention}
 use Rattle.keep_meaning.specs.Counts.{Count, Numbered, is_value, is_mark}
 use Rattle.keep_meaning.specs.Nodes.{is_at, is_begun, is_define, is_dotted, is_element, is_node, is_passed, is_root}
-use Rattle.keep_meaning.specs.Nodes.{is_through, fact_kind, first_number, first_that_fits, last_number, key_number}
+use Rattle.keep_meaning.specs.Nodes.{is_through, first_number, first_that_fits, last_number, key_number}
 use Rattle.keep_meaning.specs.Nodes.{mention_kind_of, mention_of, mentioned_kind, mentioned_node, mentioned_origin}
 use Rattle.keep_meaning.specs.Nodes.{node_at, node_info, node_path, node_paths, nodes_of, numbered_at, is_numbered_at}
 use Rattle.keep_meaning.specs.Nodes.{paths_with, statement_number, value_number}
 use Rattle.keep_meaning.proofs.CountLemmas.{paths-nodes}
 use Rattle.keep_meaning.proofs.LineNumberLemmas.{AllOf, IsHigher, IsLower, all_of, later, later_numbered}
+use Rattle.keep_meaning.proofs.LineNumberLemmas.{with_count}
 use Rattle.keep_meaning.proofs.MetLemmas.{node_met}
 
 -- ---- a number of a node
 
-low_stays : (at n : ℕ) → n < at → later_number at n ≡ n
+pub low_stays : (at n : ℕ) → n < at → later_number at n ≡ n
 low_stays at n low = ap (λ (b : Bool). cond b n (suc n)) (lt-ltb n at low)
 
-high_grows : (at n : ℕ) → at ≤ n → later_number at n ≡ suc n
+pub high_grows : (at n : ℕ) → at ≤ n → later_number at n ≡ suc n
 high_grows at n high = ap (λ (b : Bool). cond b n (suc n)) (le-ltb n at high)
 
-module _ (is : MentionKind → Bool) (number : Count → ℕ) (at : ℕ)
-    (more : (c : Count) → number (later c) ≡ suc (number c)) where
+-- numbers that are others from one on
+module _ (is : MentionKind → Bool) (number : Count → ℕ) (at : ℕ) (f : ℕ → ℕ) (other : Count → Count)
+    (stays : (n : ℕ) → n < at → f n ≡ n) (grows : (c : Count) → at ≤ number c → number (other c) ≡ f (number c)) where
   abbrev IsLow : Numbered → Type 0
   IsLow n = is n.mention.kind ≡ true → number n.before < at
 
@@ -55,88 +56,88 @@ module _ (is : MentionKind → Bool) (number : Count → ℕ) (at : ℕ)
   abbrev known_by : Option ℕ → Numbered → Option ℕ
   known_by known n = cond (is n.mention.kind) (Some (number n.before)) known
 
-  last_low : (ns : List Numbered) (known : Option ℕ) → option_map (later_number at) known ≡ known → AllOf IsLow ns
-      → option_map (later_number at) (fold known_by known ns) ≡ fold known_by known ns
+  last_low : (ns : List Numbered) (known : Option ℕ) → option_map f known ≡ known → AllOf IsLow ns
+      → option_map f (fold known_by known ns) ≡ fold known_by known ns
   last_low [] known e h = e
   last_low (n ∷ ns) known e h = last_low ns (known_by known n) (by (is n.mention.kind) refl) h.1
     where
       by : (b : Bool) → is n.mention.kind ≡ b
-          → option_map (later_number at) (cond b (Some (number n.before)) known) ≡ cond b (Some (number n.before)) known
-      by true k = ap Some (low_stays at (number n.before) (h.0 k))
+          → option_map f (cond b (Some (number n.before)) known) ≡ cond b (Some (number n.before)) known
+      by true k = ap Some (stays (number n.before) (h.0 k))
       by false k = e
 
   last_high : (ns : List Numbered) (known : Option ℕ) → AllOf IsHigh ns
-      → fold known_by (option_map (later_number at) known) (map later_numbered ns)
-      ≡ option_map (later_number at) (fold known_by known ns)
+      → fold known_by (option_map f known) (map (with_count other) ns)
+      ≡ option_map f (fold known_by known ns)
   last_high [] known h = refl
   last_high (n ∷ ns) known h =
-      ap (λ (k : Option ℕ). fold known_by k (map later_numbered ns)) (by (is n.mention.kind))
+      ap (λ (k : Option ℕ). fold known_by k (map (with_count other) ns)) (by (is n.mention.kind))
       ∙ last_high ns (known_by known n) h.1
     where
       by : (b : Bool)
-          → cond b (Some (number (later n.before))) (option_map (later_number at) known)
-          ≡ option_map (later_number at) (cond b (Some (number n.before)) known)
-      by true = ap Some (more n.before ∙ sym (high_grows at (number n.before) h.0))
+          → cond b (Some (number (other n.before))) (option_map f known)
+          ≡ option_map f (cond b (Some (number n.before)) known)
+      by true = ap Some (grows n.before h.0)
       by false = refl
 
   last_later : (xs ys : List Numbered) → AllOf IsLow xs → AllOf IsHigh ys
-      → last_number is number (xs ++ map later_numbered ys)
-      ≡ option_map (later_number at) (last_number is number (xs ++ ys))
+      → last_number is number (xs ++ map (with_count other) ys)
+      ≡ option_map f (last_number is number (xs ++ ys))
   last_later xs ys low high =
-      fold-append known_by None xs (map later_numbered ys)
-      ∙ ap (λ (k : Option ℕ). fold known_by k (map later_numbered ys)) (sym (last_low xs None refl low))
+      fold-append known_by None xs (map (with_count other) ys)
+      ∙ ap (λ (k : Option ℕ). fold known_by k (map (with_count other) ys)) (sym (last_low xs None refl low))
       ∙ last_high ys (fold known_by None xs) high
-      ∙ ap (option_map (later_number at)) (sym (fold-append known_by None xs ys))
+      ∙ ap (option_map f) (sym (fold-append known_by None xs ys))
 
   first_high : (ys : List Numbered) → AllOf IsHigh ys
-      → first_number is number (map later_numbered ys) ≡ option_map (later_number at) (first_number is number ys)
+      → first_number is number (map (with_count other) ys) ≡ option_map f (first_number is number ys)
   first_high [] h = refl
   first_high (n ∷ ys) h = by (is n.mention.kind) (first_high ys h.1)
     where
       by : (b : Bool)
-          → first_number is number (map later_numbered ys) ≡ option_map (later_number at) (first_number is number ys)
-          → cond b (Some (number (later n.before))) (first_number is number (map later_numbered ys))
-          ≡ option_map (later_number at) (cond b (Some (number n.before)) (first_number is number ys))
-      by true rest = ap Some (more n.before ∙ sym (high_grows at (number n.before) h.0))
+          → first_number is number (map (with_count other) ys) ≡ option_map f (first_number is number ys)
+          → cond b (Some (number (other n.before))) (first_number is number (map (with_count other) ys))
+          ≡ option_map f (cond b (Some (number n.before)) (first_number is number ys))
+      by true rest = ap Some (grows n.before h.0)
       by false rest = rest
 
   first_later : (xs ys : List Numbered) → AllOf IsLow xs → AllOf IsHigh ys
-      → first_number is number (xs ++ map later_numbered ys)
-      ≡ option_map (later_number at) (first_number is number (xs ++ ys))
+      → first_number is number (xs ++ map (with_count other) ys)
+      ≡ option_map f (first_number is number (xs ++ ys))
   first_later [] ys low high = first_high ys high
   first_later (n ∷ xs) ys low high = by (is n.mention.kind) refl (first_later xs ys low.1 high)
     where
       by : (b : Bool) → is n.mention.kind ≡ b
-          → first_number is number (xs ++ map later_numbered ys)
-          ≡ option_map (later_number at) (first_number is number (xs ++ ys))
-          → cond b (Some (number n.before)) (first_number is number (xs ++ map later_numbered ys))
-          ≡ option_map (later_number at) (cond b (Some (number n.before)) (first_number is number (xs ++ ys)))
-      by true e rest = ap Some (sym (low_stays at (number n.before) (low.0 e)))
+          → first_number is number (xs ++ map (with_count other) ys)
+          ≡ option_map f (first_number is number (xs ++ ys))
+          → cond b (Some (number n.before)) (first_number is number (xs ++ map (with_count other) ys))
+          ≡ option_map f (cond b (Some (number n.before)) (first_number is number (xs ++ ys)))
+      by true e rest = ap Some (sym (stays (number n.before) (low.0 e)))
       by false e rest = rest
 
 -- ---- what has no number
 
-kinds_later : (xs ys : List Numbered)
-    → map mention_kind_of (xs ++ map later_numbered ys) ≡ map mention_kind_of (xs ++ ys)
-kinds_later [] [] = refl
-kinds_later [] (y ∷ ys) = ap (λ (l : List MentionKind). y.mention.kind ∷ l) (kinds_later [] ys)
-kinds_later (x ∷ xs) ys = ap (λ (l : List MentionKind). x.mention.kind ∷ l) (kinds_later xs ys)
+kinds_later : (other : Count → Count) (xs ys : List Numbered)
+    → map mention_kind_of (xs ++ map (with_count other) ys) ≡ map mention_kind_of (xs ++ ys)
+kinds_later other [] [] = refl
+kinds_later other [] (y ∷ ys) = ap (λ (l : List MentionKind). y.mention.kind ∷ l) (kinds_later other [] ys)
+kinds_later other (x ∷ xs) ys = ap (λ (l : List MentionKind). x.mention.kind ∷ l) (kinds_later other xs ys)
 
-passed_later : (xs ys : List Numbered)
-    → list_any (λ (n : Numbered). is_passed n.mention.kind) (xs ++ map later_numbered ys)
+passed_later : (other : Count → Count) (xs ys : List Numbered)
+    → list_any (λ (n : Numbered). is_passed n.mention.kind) (xs ++ map (with_count other) ys)
     ≡ list_any (λ (n : Numbered). is_passed n.mention.kind) (xs ++ ys)
-passed_later [] [] = refl
-passed_later [] (y ∷ ys) = ap (λ (b : Bool). is_passed y.mention.kind || b) (passed_later [] ys)
-passed_later (x ∷ xs) ys = ap (λ (b : Bool). is_passed x.mention.kind || b) (passed_later xs ys)
+passed_later other [] [] = refl
+passed_later other [] (y ∷ ys) = ap (λ (b : Bool). is_passed y.mention.kind || b) (passed_later other [] ys)
+passed_later other (x ∷ xs) ys = ap (λ (b : Bool). is_passed x.mention.kind || b) (passed_later other xs ys)
 
 abbrev marks_by : ℕ → Numbered → ℕ
 marks_by n m = n + cond (is_mark m.mention.kind) 1 0
 
-marks_later : (n : ℕ) (xs ys : List Numbered)
-    → fold marks_by n (xs ++ map later_numbered ys) ≡ fold marks_by n (xs ++ ys)
-marks_later n [] [] = refl
-marks_later n [] (y ∷ ys) = marks_later (marks_by n y) [] ys
-marks_later n (x ∷ xs) ys = marks_later (marks_by n x) xs ys
+marks_later : (other : Count → Count) (n : ℕ) (xs ys : List Numbered)
+    → fold marks_by n (xs ++ map (with_count other) ys) ≡ fold marks_by n (xs ++ ys)
+marks_later other n [] [] = refl
+marks_later other n [] (y ∷ ys) = marks_later other (marks_by n y) [] ys
+marks_later other n (x ∷ xs) ys = marks_later other (marks_by n x) xs ys
 
 -- ---- the facts about a node
 
@@ -171,54 +172,95 @@ either_right m e = ap (λ (b : Bool). is_value m || b) e ∙ or_true (is_value m
     or_true true = refl
     or_true false = refl
 
-module _ (c : Count) (xs ys : List Numbered) (low : AllOf (IsLower c) xs) (high : AllOf (IsHigher c) ys) where
+-- Other numbers from a count on: those of statements, values and key parts.
+pub record Renumbering (c : Count) : Type 0 where
+  pub count : Count → Count
+  pub statement : ℕ → ℕ
+  pub value : ℕ → ℕ
+  pub key : ℕ → ℕ
+  pub statement_stays : (n : ℕ) → n < c.statements → statement n ≡ n
+  pub value_stays : (n : ℕ) → n < c.values → value n ≡ n
+  pub key_stays : (n : ℕ) → n < c.keys → key n ≡ n
+  pub statement_grows : (d : Count) → c.statements ≤ d.statements → (count d).statements ≡ statement d.statements
+  pub value_grows : (d : Count) → c.values ≤ d.values → (count d).values ≡ value d.values
+  pub key_grows : (d : Count) → c.keys ≤ d.keys → (count d).keys ≡ key d.keys
+
+-- with a line more, of one key part
+abbrev pub one_later : (c : Count) → Renumbering c
+one_later c = record {
+  count = later;
+  statement = later_number c.statements;
+  value = later_number c.values;
+  key = later_number c.keys;
+  statement_stays = low_stays c.statements;
+  value_stays = low_stays c.values;
+  key_stays = low_stays c.keys;
+  statement_grows = λ d h. sym (high_grows c.statements d.statements h);
+  value_grows = λ d h. sym (high_grows c.values d.values h);
+  key_grows = λ d h. sym (high_grows c.keys d.keys h);
+}
+
+abbrev pub with_renumbering : {c : Count} → Renumbering c → NodeInfo → NodeInfo
+with_renumbering by i =
+    record i { key = option_map by.key i.key; origin = renumbered_origin by.statement by.value i.origin }
+
+module _ (c : Count) (by : Renumbering c) (xs ys : List Numbered) (low : AllOf (IsLower c) xs)
+    (high : AllOf (IsHigher c) ys) where
   statement_later : (is : MentionKind → Bool)
-      → last_number is statement_number (xs ++ map later_numbered ys)
-      ≡ option_map (later_number c.statements) (last_number is statement_number (xs ++ ys))
+      → last_number is statement_number (xs ++ map (with_count by.count) ys)
+      ≡ option_map by.statement (last_number is statement_number (xs ++ ys))
   statement_later is =
-      last_later is statement_number c.statements (λ d. refl) xs ys
-      (all_of (IsLower c) (IsLow is statement_number c.statements (λ d. refl)) (λ n h e. h.statement) xs low)
-      (all_of (IsHigher c) (IsHigh is statement_number c.statements (λ d. refl)) (λ n h. h.statement) ys high)
+      last_later is statement_number c.statements by.statement by.count by.statement_stays by.statement_grows xs ys
+      (all_of (IsLower c)
+      (IsLow is statement_number c.statements by.statement by.count by.statement_stays by.statement_grows)
+      (λ n h e. h.statement) xs low)
+      (all_of (IsHigher c)
+      (IsHigh is statement_number c.statements by.statement by.count by.statement_stays by.statement_grows)
+      (λ n h. h.statement) ys high)
 
   value_later : (is : MentionKind → Bool) → ((m : MentionKind) → is m ≡ true → (is_value m || is_dotted m) ≡ true)
-      → last_number is value_number (xs ++ map later_numbered ys)
-      ≡ option_map (later_number c.values) (last_number is value_number (xs ++ ys))
+      → last_number is value_number (xs ++ map (with_count by.count) ys)
+      ≡ option_map by.value (last_number is value_number (xs ++ ys))
   value_later is either =
-      last_later is value_number c.values (λ d. refl) xs ys
-      (all_of (IsLower c) (IsLow is value_number c.values (λ d. refl)) (λ n h e. h.value (either n.mention.kind e)) xs
+      last_later is value_number c.values by.value by.count by.value_stays by.value_grows xs ys
+      (all_of (IsLower c) (IsLow is value_number c.values by.value by.count by.value_stays by.value_grows)
+      (λ n h e. h.value (either n.mention.kind e)) xs
       low)
-      (all_of (IsHigher c) (IsHigh is value_number c.values (λ d. refl)) (λ n h. h.value) ys high)
+      (all_of (IsHigher c) (IsHigh is value_number c.values by.value by.count by.value_stays by.value_grows)
+      (λ n h. h.value) ys high)
 
-  key_later : first_number is_mark key_number (xs ++ map later_numbered ys)
-      ≡ option_map (later_number c.keys) (first_number is_mark key_number (xs ++ ys))
+  key_later : first_number is_mark key_number (xs ++ map (with_count by.count) ys)
+      ≡ option_map by.key (first_number is_mark key_number (xs ++ ys))
   key_later =
-      first_later is_mark key_number c.keys (λ d. refl) xs ys
-      (all_of (IsLower c) (IsLow is_mark key_number c.keys (λ d. refl)) (λ n h e. h.key e) xs low)
-      (all_of (IsHigher c) (IsHigh is_mark key_number c.keys (λ d. refl)) (λ n h. h.key) ys high)
+      first_later is_mark key_number c.keys by.key by.count by.key_stays by.key_grows xs ys
+      (all_of (IsLower c) (IsLow is_mark key_number c.keys by.key by.count by.key_stays by.key_grows)
+      (λ n h e. h.key e) xs low)
+      (all_of (IsHigher c) (IsHigh is_mark key_number c.keys by.key by.count by.key_stays by.key_grows)
+      (λ n h. h.key) ys high)
 
-  origin_later : mentioned_origin (xs ++ map later_numbered ys)
-      ≡ renumbered_origin (later_number c.statements) (later_number c.values) (mentioned_origin (xs ++ ys))
+  origin_later : mentioned_origin (xs ++ map (with_count by.count) ys)
+      ≡ renumbered_origin by.statement by.value (mentioned_origin (xs ++ ys))
   origin_later =
       let zs : List Numbered = xs ++ ys in
-      let f : ℕ → ℕ = later_number c.statements in
-      let g : ℕ → ℕ = later_number c.values in
+      let f : ℕ → ℕ = by.statement in
+      let g : ℕ → ℕ = by.value in
       ap (λ (o : Option ℕ).
-      fitting o (last_number is_element statement_number (xs ++ map later_numbered ys))
-      (last_number is_begun statement_number (xs ++ map later_numbered ys))
-      (last_number is_define statement_number (xs ++ map later_numbered ys))
-      (last_number is_dotted value_number (xs ++ map later_numbered ys))
-      (last_number is_through statement_number (xs ++ map later_numbered ys))) (value_later is_value either_left)
+      fitting o (last_number is_element statement_number (xs ++ map (with_count by.count) ys))
+      (last_number is_begun statement_number (xs ++ map (with_count by.count) ys))
+      (last_number is_define statement_number (xs ++ map (with_count by.count) ys))
+      (last_number is_dotted value_number (xs ++ map (with_count by.count) ys))
+      (last_number is_through statement_number (xs ++ map (with_count by.count) ys))) (value_later is_value either_left)
       ∙ ap₂ (λ (o p : Option ℕ).
       fitting (option_map g (last_number is_value value_number zs)) o p
-      (last_number is_define statement_number (xs ++ map later_numbered ys))
-      (last_number is_dotted value_number (xs ++ map later_numbered ys))
-      (last_number is_through statement_number (xs ++ map later_numbered ys))) (statement_later is_element)
+      (last_number is_define statement_number (xs ++ map (with_count by.count) ys))
+      (last_number is_dotted value_number (xs ++ map (with_count by.count) ys))
+      (last_number is_through statement_number (xs ++ map (with_count by.count) ys))) (statement_later is_element)
       (statement_later is_begun)
       ∙ ap₂ (λ (o p : Option ℕ).
       fitting (option_map g (last_number is_value value_number zs))
       (option_map f (last_number is_element statement_number zs))
       (option_map f (last_number is_begun statement_number zs)) o p
-      (last_number is_through statement_number (xs ++ map later_numbered ys))) (statement_later is_define)
+      (last_number is_through statement_number (xs ++ map (with_count by.count) ys))) (statement_later is_define)
       (value_later is_dotted either_right)
       ∙ ap (λ (o : Option ℕ).
       fitting (option_map g (last_number is_value value_number zs))
@@ -231,25 +273,25 @@ module _ (c : Count) (xs ys : List Numbered) (low : AllOf (IsLower c) xs) (high 
       (last_number is_dotted value_number zs) (last_number is_through statement_number zs)
 
   info_later : (q : List Part)
-      → node_info (mentioned_node q (xs ++ map later_numbered ys))
-      ≡ renumbered later_number (line_of c) (node_info (mentioned_node q (xs ++ ys)))
+      → node_info (mentioned_node q (xs ++ map (with_count by.count) ys))
+      ≡ with_renumbering by (node_info (mentioned_node q (xs ++ ys)))
   info_later q =
-      let new : NodeInfo = node_info (mentioned_node q (xs ++ map later_numbered ys)) in
+      let new : NodeInfo = node_info (mentioned_node q (xs ++ map (with_count by.count) ys)) in
       let old : NodeInfo = node_info (mentioned_node q (xs ++ ys)) in
       ap (λ (ks : List MentionKind).
       record { kind = mentioned_kind ks; key = new.key; marks = new.marks; passed = new.passed; origin = new.origin })
-      (kinds_later xs ys)
+      (kinds_later by.count xs ys)
       ∙ ap₂ (λ (k : Option ℕ) (m : ℕ).
       record { kind = old.kind; key = k; marks = m; passed = new.passed; origin = new.origin }) key_later
-      (marks_later 0 xs ys)
+      (marks_later by.count 0 xs ys)
       ∙ ap₂ (λ (b : Bool) (o : Origin).
       record {
         kind = old.kind;
-        key = option_map (later_number c.keys) old.key;
+        key = option_map by.key old.key;
         marks = old.marks;
         passed = b;
         origin = o;
-      }) (passed_later xs ys) origin_later
+      }) (passed_later by.count xs ys) origin_later
 
 -- ---- the paths
 
@@ -298,20 +340,22 @@ none_numbered p (n ∷ ns) e =
     let r = or_parts (is_at p n.mention) (list_any (is_at p) (map mention_of ns)) e in
     ap (λ (b : Bool). cond b (n ∷ numbered_at p ns) (numbered_at p ns)) r.0 ∙ none_numbered p ns r.1
 
-at_later : (p : List Part) (ns : List Numbered)
-    → numbered_at p (map later_numbered ns) ≡ map later_numbered (numbered_at p ns)
-at_later p [] = refl
-at_later p (n ∷ ns) = by (is_at p n.mention) (at_later p ns)
+at_later : (other : Count → Count) (p : List Part) (ns : List Numbered)
+    → numbered_at p (map (with_count other) ns) ≡ map (with_count other) (numbered_at p ns)
+at_later other p [] = refl
+at_later other p (n ∷ ns) = by (is_at p n.mention) (at_later other p ns)
   where
-    by : (b : Bool) → numbered_at p (map later_numbered ns) ≡ map later_numbered (numbered_at p ns)
-        → cond b (later_numbered n ∷ numbered_at p (map later_numbered ns)) (numbered_at p (map later_numbered ns))
-        ≡ map later_numbered (cond b (n ∷ numbered_at p ns) (numbered_at p ns))
-    by true e = ap (λ (l : List Numbered). later_numbered n ∷ l) e
+    by : (b : Bool) → numbered_at p (map (with_count other) ns) ≡ map (with_count other) (numbered_at p ns)
+        → cond b (with_count other n ∷ numbered_at p (map (with_count other) ns))
+        (numbered_at p (map (with_count other) ns))
+        ≡ map (with_count other) (cond b (n ∷ numbered_at p ns) (numbered_at p ns))
+    by true e = ap (λ (l : List Numbered). with_count other n ∷ l) e
     by false e = e
 
-pub mentions_later : (ns : List Numbered) → map mention_of (map later_numbered ns) ≡ map mention_of ns
-mentions_later [] = refl
-mentions_later (n ∷ ns) = ap (λ (l : List Mention). n.mention ∷ l) (mentions_later ns)
+pub mentions_later : (other : Count → Count) (ns : List Numbered)
+    → map mention_of (map (with_count other) ns) ≡ map mention_of ns
+mentions_later other [] = refl
+mentions_later other (n ∷ ns) = ap (λ (l : List Mention). n.mention ∷ l) (mentions_later other ns)
 
 pub all_filter : {A : Type 0} (P : A → Type 0) (test : A → Bool) (xs : List A) → AllOf P xs → AllOf P (filter test xs)
 all_filter P test [] h = tt
@@ -340,15 +384,15 @@ map_twice f g (x ∷ xs) = ap (λ l. f (g x) ∷ l) (map_twice f g xs)
 abbrev pub infos_of : List Numbered → NodeInfos
 infos_of ns = record { paths = map node_path (nodes_of ns); infos = map node_info (nodes_of ns) }
 
-none_in : (p : List Part) (ps : List (List Part)) → list_any (same_path p) ps ≡ false
+pub none_in : (p : List Part) (ps : List (List Part)) → list_any (same_path p) ps ≡ false
     → AllOf (λ (q : List Part). same_path p q ≡ false) ps
 none_in p [] e = tt
 none_in p (q ∷ ps) e = let r = or_parts (same_path p q) (list_any (same_path p) ps) e in (r.0, none_in p ps r.1)
 
 module _ (c : Count) (xs ys : List Numbered) (low : AllOf (IsLower c) xs) (high : AllOf (IsHigher c) ys) (p : List Part)
-    (f : Fact) (fresh : is_node p (map mention_of xs ++ map mention_of ys) ≡ false) where
+    (k : MentionKind) (fresh : is_node p (map mention_of xs ++ map mention_of ys) ≡ false) where
   abbrev own : Numbered
-  own = record { mention = record { path = p; kind = mentions_value f }; before = c }
+  own = record { mention = record { path = p; kind = k }; before = c }
 
   abbrev with_own : List Numbered
   with_own = xs ++ own ∷ map later_numbered ys
@@ -387,7 +431,7 @@ module _ (c : Count) (xs ys : List Numbered) (low : AllOf (IsLower c) xs) (high 
   paths_more =
       let mb : List (List Part) = map path_of (map mention_of ys) in
       ap node_paths (map-append mention_of xs (own ∷ map later_numbered ys)
-      ∙ ap (λ (l : List Mention). map mention_of xs ++ own.mention ∷ l) (mentions_later ys))
+      ∙ ap (λ (l : List Mention). map mention_of xs ++ own.mention ∷ l) (mentions_later later ys))
       ∙ met_after (own.mention ∷ map mention_of ys)
       ∙ ap (λ (b : Bool). fold paths_with (cond b was_met (was_met ++ p ∷ [])) mb) unmet_before
       ∙ paths_put p mb was_met [] (none_at p (map mention_of ys) unsaid_after)
@@ -409,21 +453,28 @@ module _ (c : Count) (xs ys : List Numbered) (low : AllOf (IsLower c) xs) (high 
       ∙ ap (λ (b : Bool).
       numbered_at q xs ++ cond b (own ∷ numbered_at q (map later_numbered ys)) (numbered_at q (map later_numbered ys)))
       differ
-      ∙ ap (λ (l : List Numbered). numbered_at q xs ++ l) (at_later q ys))
-      ∙ info_later c (numbered_at q xs) (numbered_at q ys) (all_filter (IsLower c) test xs low)
+      ∙ ap (λ (l : List Numbered). numbered_at q xs ++ l) (at_later later q ys))
+      ∙ info_later c (one_later c) (numbered_at q xs) (numbered_at q ys) (all_filter (IsLower c) test xs low)
       (all_filter (IsHigher c) test ys high) q
       ∙ ap (λ (l : List Numbered). renumbered later_number (line_of c) (node_info (mentioned_node q l)))
       (sym (filter-append test xs ys))
 
-  here : new_info p ≡ line_info (line_of c) (fact_kind f)
+  abbrev own_info : NodeInfo
+  own_info = node_info (mentioned_node p (own ∷ []))
+
+  here : new_info p ≡ own_info
   here = ap (λ (l : List Numbered). node_info (mentioned_node p l)) (
       filter-append (is_numbered_at p) xs (own ∷ map later_numbered ys)
       ∙ ap (λ (l : List Numbered). l ++ numbered_at p (own ∷ map later_numbered ys)) (none_numbered p xs unsaid_before)
       ∙ ap (λ (b : Bool). cond b (own ∷ numbered_at p (map later_numbered ys)) (numbered_at p (map later_numbered ys)))
       ((path_decides p p).1 refl)
-      ∙ ap (λ (l : List Numbered). own ∷ l) (at_later p ys ∙ ap (map later_numbered) (none_numbered p ys unsaid_after)))
+      ∙ ap (λ (l : List Numbered). own ∷ l)
+      (at_later later p ys ∙ ap (map later_numbered) (none_numbered p ys unsaid_after)))
 
-  pub node_more : infos_of with_own ≡ with_node (infos_of (xs ++ ys)) (length was_met) (line_of c) p (fact_kind f)
+  pub node_more : infos_of with_own ≡ record {
+    paths = insert (infos_of (xs ++ ys)).paths (length was_met) p;
+    infos = insert (map (renumbered later_number (line_of c)) (infos_of (xs ++ ys)).infos) (length was_met) own_info;
+  }
   node_more =
       let ps : List (List Part) = node_paths (map mention_of (xs ++ ys)) in
       let at : ℕ = length was_met in
@@ -443,3 +494,44 @@ module _ (c : Count) (xs ys : List Numbered) (low : AllOf (IsLower c) xs) (high 
       ∙ ap (map new_info) paths_more
       ∙ map_put new_info later_info ps at p same
       ∙ ap₂ (λ (l : List NodeInfo) (i : NodeInfo). insert l at i) later_infos here)
+
+-- ---- the same mentions, with other numbers from a count on
+
+module _ (c : Count) (by : Renumbering c) (xs ys : List Numbered) (low : AllOf (IsLower c) xs)
+    (high : AllOf (IsHigher c) ys) where
+  abbrev old_info : List Part → NodeInfo
+  old_info q = node_info (node_at (xs ++ ys) q)
+
+  abbrev other_info : List Part → NodeInfo
+  other_info q = node_info (node_at (xs ++ map (with_count by.count) ys) q)
+
+  other_at : (q : List Part) → other_info q ≡ with_renumbering by (old_info q)
+  other_at q =
+      let test : Numbered → Bool = is_numbered_at q in
+      ap (λ (l : List Numbered). node_info (mentioned_node q l))
+      (filter-append test xs (map (with_count by.count) ys)
+      ∙ ap (λ (l : List Numbered). numbered_at q xs ++ l) (at_later by.count q ys))
+      ∙ info_later c by (numbered_at q xs) (numbered_at q ys) (all_filter (IsLower c) test xs low)
+      (all_filter (IsHigher c) test ys high) q
+      ∙ ap (λ (l : List Numbered). with_renumbering by (node_info (mentioned_node q l)))
+      (sym (filter-append test xs ys))
+
+  others_same : (ps : List (List Part)) → map other_info ps ≡ map (with_renumbering by) (map old_info ps)
+  others_same [] = refl
+  others_same (p ∷ ps) = ap₂ (λ (i : NodeInfo) (is : List NodeInfo). i ∷ is) (other_at p) (others_same ps)
+
+  pub renumbered_nodes : infos_of (xs ++ map (with_count by.count) ys) ≡ record {
+    paths = (infos_of (xs ++ ys)).paths;
+    infos = map (with_renumbering by) (infos_of (xs ++ ys)).infos;
+  }
+  renumbered_nodes =
+      let ps : List (List Part) = node_paths (map mention_of (xs ++ ys)) in
+      let zs : List Numbered = xs ++ map (with_count by.count) ys in
+      let same : node_paths (map mention_of zs) ≡ ps =
+      ap node_paths (map-append mention_of xs (map (with_count by.count) ys)
+      ∙ ap (λ (l : List Mention). map mention_of xs ++ l) (mentions_later by.count ys)
+      ∙ sym (map-append mention_of xs ys)) in
+      ap₂ (λ (qs : List (List Part)) (is : List NodeInfo). record { paths = qs; infos = is })
+      (paths-nodes zs (node_paths (map mention_of zs)) ∙ same ∙ sym (paths-nodes (xs ++ ys) ps))
+      (map_twice node_info (node_at zs) (node_paths (map mention_of zs)) ∙ ap (map other_info) same ∙ others_same ps
+      ∙ ap (map (with_renumbering by)) (sym (map_twice node_info (node_at (xs ++ ys)) ps)))

@@ -5,8 +5,8 @@
 -- itself counted there has a lower number (`lower_mentions`): a statement, a value, a key part. A key part from which a
 -- keyval continues has the number of the keyval's value. That this number is lower needs that each such key part is
 -- followed by the value (`AreValued`), as in every statement of a document (`valued_statements`). From the line on, no
--- count is less than the line's (`higher_after`). Counts that begin greater by one stay so (`later_after`), and so do
--- the numbers that are counted from there (`later_mentions`).
+-- count is less than the line's (`higher_after`). Counts that begin greater by one stay so (`other_after`), and so do
+-- the numbers that are counted from there (`other_mentions`).
 --
 -- Theorems: `lower_from`: the numbers before a line; `higher_from`: those from there on; `numbered_later`: those after
 -- one more line.
@@ -26,6 +26,7 @@ use Rattle.keep_meaning.specs.Meaning.{entries_mentions, statement_of, lines}
 use Rattle.keep_meaning.specs.Counts.{Count, Numbered, is_value, is_mark, one_if, count_with_mention, numbered_mentions}
 use Rattle.keep_meaning.specs.Counts.{count_after, next_count, count_from, numbered_from, line_statement, statements_in}
 use Rattle.keep_meaning.specs.Nodes.{is_dotted}
+use Rattle.keep_meaning.specs.OtherValues.{IsSaidBefore}
 use Rattle.keep_meaning.proofs.NumberLemmas.{valued, valued-append, valued-below, valued-keyed, one_mark}
 use Rattle.keep_meaning.proofs.NumberLemmas.{count_after-keys, count_after-values, count_after-statements}
 use Rattle.keep_meaning.proofs.NumberLemmas.{count_from-keys, count_from-statements}
@@ -55,8 +56,12 @@ all_of P Q f (x ∷ xs) h = (f x h.0, all_of P Q f xs h.1)
 abbrev pub later : Count → Count
 later c = record { statements = suc c.statements; values = suc c.values; keys = suc c.keys }
 
+-- what is said, where the count before it is another
+abbrev pub with_count : (Count → Count) → Numbered → Numbered
+with_count other n = record { mention = n.mention; before = other n.before }
+
 abbrev pub later_numbered : Numbered → Numbered
-later_numbered n = record { mention = n.mention; before = later n.before }
+later_numbered n = with_count later n
 
 later_with : (c : Count) (m : Mention) → count_with_mention (later c) m ≡ later (count_with_mention c m)
 later_with c m =
@@ -64,33 +69,50 @@ later_with c m =
     let keys : suc c.keys + one_if (is_mark m.kind) ≡ suc (c.keys + one_if (is_mark m.kind)) = omega arith in
     ap₂ (λ (v k : ℕ). record { statements = suc c.statements; values = v; keys = k }) values keys
 
-later_after : (c : Count) (ms : List Mention) → count_after (later c) ms ≡ later (count_after c ms)
-later_after c [] = refl
-later_after c (m ∷ ms) = ap (λ (d : Count). count_after d ms) (later_with c m) ∙ later_after (count_with_mention c m) ms
+later_statement : (c : Count) → record (later c) { statements = (later c).statements + 1 }
+    ≡ later (record c { statements = c.statements + 1 })
+later_statement c =
+    let statements : suc c.statements + 1 ≡ suc (c.statements + 1) = omega arith in
+    ap (λ (n : ℕ). record { statements = n; values = suc c.values; keys = suc c.keys }) statements
 
-later_next : (c : Count) (ms : List Mention) → next_count (later c) ms ≡ later (next_count c ms)
-later_next c ms =
-    let d : Count = count_after c ms in
-    let statements : suc d.statements + 1 ≡ suc (d.statements + 1) = omega arith in
-    ap (λ (x : Count). record { statements = x.statements + 1; values = x.values; keys = x.keys }) (later_after c ms)
-    ∙ ap (λ (n : ℕ). record { statements = n; values = suc d.values; keys = suc d.keys }) statements
+-- counts that begin otherwise, where what each mention and each statement adds is the same
+module _ (other : Count → Count)
+    (other_with : (c : Count) (m : Mention) → count_with_mention (other c) m ≡ other (count_with_mention c m))
+    (other_statement : (c : Count)
+    → record (other c) { statements = (other c).statements + 1 } ≡ other (record c { statements = c.statements + 1 }))
+  where
+    other_after : (c : Count) (ms : List Mention) → count_after (other c) ms ≡ other (count_after c ms)
+    other_after c [] = refl
+    other_after c (m ∷ ms) =
+        ap (λ (d : Count). count_after d ms) (other_with c m) ∙ other_after (count_with_mention c m) ms
 
-later_mentions : (c : Count) (ms : List Mention)
-    → numbered_mentions (later c) ms ≡ map later_numbered (numbered_mentions c ms)
-later_mentions c [] = refl
-later_mentions c (m ∷ ms) =
-    ap (λ (ns : List Numbered). record { mention = m; before = later c } ∷ ns)
-    (ap (λ (d : Count). numbered_mentions d ms) (later_with c m) ∙ later_mentions (count_with_mention c m) ms)
+    other_next : (c : Count) (ms : List Mention) → next_count (other c) ms ≡ other (next_count c ms)
+    other_next c ms =
+        ap (λ (x : Count). record { statements = x.statements + 1; values = x.values; keys = x.keys })
+        (other_after c ms)
+        ∙ other_statement (count_after c ms)
+
+    other_mentions : (c : Count) (ms : List Mention)
+        → numbered_mentions (other c) ms ≡ map (with_count other) (numbered_mentions c ms)
+    other_mentions c [] = refl
+    other_mentions c (m ∷ ms) =
+        ap (λ (ns : List Numbered). record { mention = m; before = other c } ∷ ns)
+        (ap (λ (d : Count). numbered_mentions d ms) (other_with c m) ∙ other_mentions (count_with_mention c m) ms)
+
+    pub numbered_other : (c : Count) (r : Reading) (ss : List Statement)
+        → numbered_from (other c) r ss ≡ map (with_count other) (numbered_from c r ss)
+    numbered_other c r [] = refl
+    numbered_other c r (s ∷ ss) =
+        let ms : List Mention = statement_mentions r s in
+        ap₂ (λ (xs ys : List Numbered). xs ++ ys) (other_mentions c ms)
+        (ap (λ (d : Count). numbered_from d (next_reading r s) ss) (other_next c ms)
+        ∙ numbered_other (next_count c ms) (next_reading r s) ss)
+        ∙ sym (map-append (with_count other) (numbered_mentions c ms)
+        (numbered_from (next_count c ms) (next_reading r s) ss))
 
 pub numbered_later : (c : Count) (r : Reading) (ss : List Statement)
     → numbered_from (later c) r ss ≡ map later_numbered (numbered_from c r ss)
-numbered_later c r [] = refl
-numbered_later c r (s ∷ ss) =
-    let ms : List Mention = statement_mentions r s in
-    ap₂ (λ (xs ys : List Numbered). xs ++ ys) (later_mentions c ms)
-    (ap (λ (d : Count). numbered_from d (next_reading r s) ss) (later_next c ms)
-    ∙ numbered_later (next_count c ms) (next_reading r s) ss)
-    ∙ sym (map-append later_numbered (numbered_mentions c ms) (numbered_from (next_count c ms) (next_reading r s) ss))
+numbered_later c r ss = numbered_other later later_with later_statement c r ss
 
 -- ---- a keyval that continues has a value
 
@@ -234,12 +256,12 @@ pub record IsHigher (c : Count) (n : Numbered) : Type 0 where
   pub value : c.values ≤ n.before.values
   pub key : c.keys ≤ n.before.keys
 
-record IsUpTo (c d : Count) : Type 0 where
-  statement : c.statements ≤ d.statements
-  value : c.values ≤ d.values
-  key : c.keys ≤ d.keys
+pub record IsUpTo (c d : Count) : Type 0 where
+  pub statement : c.statements ≤ d.statements
+  pub value : c.values ≤ d.values
+  pub key : c.keys ≤ d.keys
 
-higher_mentions : (c d : Count) (ms : List Mention) → IsUpTo c d → AllOf (IsHigher c) (numbered_mentions d ms)
+pub higher_mentions : (c d : Count) (ms : List Mention) → IsUpTo c d → AllOf (IsHigher c) (numbered_mentions d ms)
 higher_mentions c d [] h = tt
 higher_mentions c d (m ∷ ms) h = (
   record { statement = h.statement; value = h.value; key = h.key },
@@ -262,3 +284,27 @@ higher_after c d r (s ∷ ss) h =
 
 pub higher_from : (c : Count) (r : Reading) (ss : List Statement) → AllOf (IsHigher c) (numbered_from c r ss)
 higher_from c r ss = higher_after c c r ss (record { statement = omega arith; value = omega arith; key = omega arith })
+
+-- ---- what comes before each mention is no more than what comes before all that follows them
+
+few_mentions : (c : Count) (ms : List Mention) (d : Count) → c.values + valued ms ≤ d.values
+    → c.keys + length (marks ms) ≤ d.keys → AllOf (IsSaidBefore d) (numbered_mentions c ms)
+few_mentions c [] d v k = tt
+few_mentions c (m ∷ ms) d v k = (
+  record { values = omega (arith, v); keys = omega (arith, k) },
+  few_mentions (count_with_mention c m) ms d (omega (arith, v))
+      (omega (arith, k, one_mark m.kind m.path (marks ms))),
+)
+
+pub few_from : (c : Count) (r : Reading) (ss : List Statement)
+    → AllOf (IsSaidBefore (count_from c r ss)) (numbered_from c r ss)
+few_from c r [] = tt
+few_from c r (s ∷ ss) =
+    let ms : List Mention = statement_mentions r s in
+    let next : Count = next_count c ms in
+    all_join (IsSaidBefore (count_from c r (s ∷ ss))) (numbered_mentions c ms)
+    (numbered_from next (next_reading r s) ss)
+    (few_mentions c ms (count_from c r (s ∷ ss))
+    (omega (arith, count_from-values next (next_reading r s) ss, count_after-values c ms))
+    (omega (arith, count_from-keys next (next_reading r s) ss, count_after-keys c ms)))
+    (few_from next (next_reading r s) ss)

@@ -7,6 +7,8 @@ pub mod Nodes
 pub mod LinesMore
 pub mod StatementsMore
 pub mod OtherValues
+pub mod KeysMore
+pub mod DotsMore
 pub mod Faults
 pub mod ReadText
 pub mod Laws

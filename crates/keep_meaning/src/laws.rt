@@ -1,5 +1,7 @@
 //! Laws of what strings mean and of which nodes there are, each the contract of a function that does nothing.
 ghost use Rattle.keep_meaning.specs.Laws as spec;
+ghost use Rattle.keep_meaning.specs.DotsMore.{DotsAreFound};
+ghost use Rattle.keep_meaning.specs.KeysMore.{KeysAddNodes, KeysAreFound, KeysTakeNodes};
 ghost use Rattle.keep_meaning.specs.OtherValues.{ValueGivesNodes};
 
 /// A string or a key part means, by the pieces that it is made of, what is computed from its text byte by byte.
@@ -32,4 +34,20 @@ pub fn line_found()
 /// node's kind.
 pub fn other_value_nodes()
     ensures { ValueGivesNodes }
+{}
+
+/// Of a document with one line more, a keyval whose key has several parts, of which the first has a path of which the
+/// document without it says nothing, and with nothing in its value: the facts about all nodes are those of the document
+/// without it, with a table for the first key, and below it the nodes of the others, and so they are back. Where the
+/// table is among the nodes, the facts about the others state.
+pub fn keys_more()
+    ensures added { KeysAddNodes }
+    ensures taken { KeysTakeNodes }
+    ensures found { KeysAreFound }
+{}
+
+/// Where the first new node of a line that passes tables of dotted keys is among the nodes, the facts about the others
+/// state, in a document that obeys the definition rules.
+pub fn dots_found()
+    ensures { DotsAreFound }
 {}

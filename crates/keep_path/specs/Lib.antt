@@ -5,3 +5,5 @@ pub mod Step
 pub mod PathReading
 pub mod NodeInfos
 pub mod NodesBelow
+pub mod KeysAlone
+pub mod Dots

@@ -79,6 +79,23 @@ with_node t at line path k = record {
   infos = insert (map (renumbered later_number line) t.infos) at (line_info line k);
 }
 
+-- the facts about the node of a line's key from which its keyval continues by dots
+abbrev pub dotted_info : LineNumbers → NodeInfo
+dotted_info line = record {
+  kind = kind.Table;
+  key = Some line.key;
+  marks = 1;
+  passed = false;
+  origin = origin.Dotted line.value;
+}
+
+-- with the node of such a key, which has the number `at`
+abbrev pub with_table : NodeInfos → ℕ → LineNumbers → List Part → NodeInfos
+with_table t at line path = record {
+  paths = insert t.paths at path;
+  infos = insert (map (renumbered later_number line) t.infos) at (dotted_info line);
+}
+
 -- with a node more, after all others
 abbrev pub with_last : NodeInfos → List Part → NodeInfo → NodeInfos
 with_last t path info = record { paths = t.paths ++ path ∷ []; infos = t.infos ++ info ∷ [] }

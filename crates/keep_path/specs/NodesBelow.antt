@@ -21,16 +21,21 @@ pub record Totals : Type 0 where
   pub values : ℕ
   pub keys : ℕ
 
+-- how many it has with one line more, of one key part and with nothing in its value
+abbrev pub one_more : Totals → Totals
+one_more t = record { values = suc t.values; keys = suc t.keys }
+
 -- ---- the facts about one node
 
--- the number of its value, and that of the key part that names it
+-- the number of its value, or of that of the last keyval that continues from it by dots; and that of the first key part
+-- that names it
 abbrev pub value_of : NodeInfo → ℕ
 value_of i = elim i.origin [
   | origin.Root ↦ 0
   | origin.Value v ↦ v
   | origin.Header s ↦ 0
   | origin.Element s ↦ 0
-  | origin.Dotted v ↦ 0
+  | origin.Dotted v ↦ v
   | origin.Through s ↦ 0
   | origin.Tables ↦ 0
 ]

@@ -5,10 +5,11 @@
 -- (`entries_plain`). So line by line, some line so far has a path exactly if some mention so far names it
 -- (`statement_named`). The kind of a node is given by the mentions at its path alone.
 --
--- Theorems: `tables_some` and `tables_none`, of a node of an index; `tables_unmet`, of a path without one.
+-- Theorems: `tables_some` and `tables_none`, of a node of an index; `tables_dotted`, of one that dotted keys make;
+-- `tables_unmet`, of a path without a node.
 use Rattle.std.proofs.Common.{◌≡◌, ℕ, ◌+◌, ◌<◌, Bool, true, false, cond, ◌||◌, ◌&&◌, List, [], ◌∷◌, ◌++◌, length}
 use Rattle.std.proofs.Common.{suc, get_or, map, refl, sym, ap, subst, ◌∙◌, arith, Option, Some, None}
-use Rattle.std.specs.Prelude.{◌==◌, Contains, nat_lt, filter, fold, slice_get}
+use Rattle.std.specs.Prelude.{◌==◌, Contains, nat_lt, filter, fold, if◌then◌else◌, slice_get}
 use Rattle.std.specs.List.{list_any, filter_map, cons_option}
 use Rattle.std.specs.Option.{option_map}
 use Rattle.std.proofs.lemmas.List.Elements.{Contains-append_left, Contains-push}
@@ -22,22 +23,25 @@ use Rattle.keep_types.specs.declared.leaf.Leaf.TheVariants as leaf
 use Rattle.keep_types.specs.declared.node.Kind.{Kind}
 use Rattle.keep_types.specs.declared.node.Kind.TheVariants as kind
 use Rattle.keep_types.specs.declared.node.NodeInfo.{NodeInfo}
+use Rattle.keep_types.specs.declared.node.Origin.TheVariants as origin
 use Rattle.keep_syntax.specs.Tree.{Name, Entries, none, entry, Content, Line, Document}
 use Rattle.keep_syntax.specs.Tree as tree
 use Rattle.keep_path.specs.NodeInfos.{NodeInfos}
 use Rattle.keep_path.specs.Path.{Part, key, index, same_path}
 use Rattle.keep_meaning.specs.Fact as fact
 use Rattle.keep_meaning.specs.Fact.{Fact}
-use Rattle.keep_meaning.specs.Counts.{Numbered, line_statement, numbered_in, statements_in}
-use Rattle.keep_meaning.specs.Marks.{Mention, Reading, Statement, through, past, passed, define, element, begun, dotted}
-use Rattle.keep_meaning.specs.Marks.{value, item, below, keyval, header, element_header, elements_of, entered_path}
-use Rattle.keep_meaning.specs.Marks.{fact_of, passing_mentions, header_path, header_prefixes, statement_mentions}
-use Rattle.keep_meaning.specs.Marks.{next_reading, mentions_from, reading_after, start}
+use Rattle.keep_meaning.specs.Counts.{Count, Numbered, is_value, line_statement, numbered_in, statements_in}
+use Rattle.keep_meaning.specs.Marks.{Mention, MentionKind, Reading, Statement, through, past, passed, define, element}
+use Rattle.keep_meaning.specs.Marks.{begun, dotted, value, item, below, keyval, header, element_header, elements_of}
+use Rattle.keep_meaning.specs.Marks.{entered_path, fact_of, passing_mentions, header_path, header_prefixes}
+use Rattle.keep_meaning.specs.Marks.{statement_mentions, next_reading, mentions_from, reading_after, start}
 use Rattle.keep_meaning.specs.Meaning.{body_fact, entries_mentions, entry_mentions, keyed_mentions, keys_of, lines}
 use Rattle.keep_meaning.specs.Meaning.{mentions_in, statement_of, valued_mentions}
 use Rattle.keep_meaning.specs.Nodes.{fact_kind, first_of, is_at, is_element, kind_at, kind_or_table, kinds_at}
 use Rattle.keep_meaning.specs.Nodes.{mention_kind_of, mention_of, mentioned_kind, moment_kind, node_at, node_info}
 use Rattle.keep_meaning.specs.Nodes.{node_paths, nodes_in, numbered_at, paths_with}
+use Rattle.keep_meaning.specs.Nodes.{first_that_fits, is_begun, is_define, is_dotted, is_through, last_number}
+use Rattle.keep_meaning.specs.Nodes.{mentioned_origin, statement_number, value_number}
 use Rattle.keep_meaning.specs.StatementsMore.{reading_at_end}
 use Rattle.keep_meaning.proofs.Shared.{mentions-numbered_in, mentions_in-statements, paths-nodes_in}
 use Rattle.keep_path.proofs.Shared.{path_decides}
@@ -258,6 +262,40 @@ kind_answers : (b : Bool) (facts : List Fact) (k : Kind) → k ≡ cond b kind.T
 kind_answers true facts k e = (λ is. refl, λ not. absurd (not e))
 kind_answers false facts k e = (λ is. absurd (no_tables (first_of facts) (sym e ∙ is)), λ not. refl)
 
+-- ---- where a node comes from
+
+last_none : (is : MentionKind → Bool) (number : Count → ℕ) (ns : List Numbered) (known : Option ℕ)
+    → fold (λ known n. if is n.mention.kind then Some (number n.before) else known) known ns ≡ None
+    → (known ≡ None) × (list_any is (map mention_kind_of ns) ≡ false)
+last_none is number [] known h = (h, refl)
+last_none is number (n ∷ ns) known h =
+    by (is n.mention.kind) (last_none is number ns (cond (is n.mention.kind) (Some (number n.before)) known) h)
+  where
+    by : (b : Bool) → (cond b (Some (number n.before)) known ≡ None) × (list_any is (map mention_kind_of ns) ≡ false)
+        → (known ≡ None) × ((b || list_any is (map mention_kind_of ns)) ≡ false)
+    by true more = absurd (let e = more.0 in cc)
+    by false more = more
+
+-- no `[[..]]` names what dotted keys make
+dotted_is_plain : (ns : List Numbered) (v : ℕ) → mentioned_origin ns ≡ origin.Dotted v
+    → list_any is_element (map mention_kind_of ns) ≡ false
+dotted_is_plain ns v e =
+    (last_none is_element statement_number ns None (by (last_number is_value value_number ns)
+    (last_number is_element statement_number ns) e)).1
+  where
+    by : (o p : Option ℕ)
+        → first_that_fits (option_map origin.Value o
+        ∷ option_map (λ i. origin.Tables) p
+        ∷ option_map origin.Element (last_number is_begun statement_number ns)
+        ∷ option_map origin.Header (last_number is_define statement_number ns)
+        ∷ option_map origin.Dotted (last_number is_dotted value_number ns)
+        ∷ option_map origin.Through (last_number is_through statement_number ns)
+        ∷ []) ≡ origin.Dotted v
+        → p ≡ None
+    by (Some n) p e = absurd cc
+    by None None e = refl
+    by None (Some n) e = absurd cc
+
 module _ (d : Document) (t : NodeInfos) (of : IsIndexOf d t) (i : ℕ) (path : List Part) (info : NodeInfo)
     (within : i < length t.paths) (here : get_or t.paths i [] ≡ path) (there : slice_get t.infos i ≡ Some info) where
   info_stated : info ≡ node_info (node_at (numbered_in d) path)
@@ -291,6 +329,17 @@ module _ (d : Document) (t : NodeInfos) (of : IsIndexOf d t) (i : ℕ) (path : L
       let b = (kind_answers (list_any is_element (kinds_at path (mentions_in d)))
       (filter_map fact_of (kinds_at path (mentions_in d))) info.kind kind_stated).1 not in
       let none : nat_lt 0 (elements_of path (reading_at_end d).tables) ≡ false = document_named d path ∙ b in
+      grind (arith, nat_tests)
+
+  pub tables_dotted : (v : ℕ) → info.origin ≡ origin.Dotted v → elements_of path (reading_at_end d).tables ≡ 0
+  tables_dotted v is =
+      let plain = dotted_is_plain (numbered_at path (numbered_in d)) v
+      (sym (ap (λ (x : NodeInfo). x.origin) info_stated) ∙ is) in
+      let none : nat_lt 0 (elements_of path (reading_at_end d).tables) ≡ false =
+      document_named d path
+      ∙ ap (list_any is_element) (sym (kinds_numbered path (numbered_in d)
+      ∙ ap (kinds_at path) (mentions-numbered_in d)))
+      ∙ plain in
       grind (arith, nat_tests)
 
 -- ---- a path without a node

@@ -61,7 +61,7 @@ inside_under : (k : Part) (ms : List Mention) → AllByRecursion IsInside ms
     → AllByRecursion IsInside (map (below (k ∷ [])) ms)
 inside_under k ms h = all_mapped IsInside IsInside (below (k ∷ [])) (inside_below k) ms h
 
-inside_keys : (k : List ℕ) (ks : List (List ℕ)) (f : Fact) (nested : List Mention) → AllByRecursion IsInside nested
+pub inside_keys : (k : List ℕ) (ks : List (List ℕ)) (f : Fact) (nested : List Mention) → AllByRecursion IsInside nested
     → AllByRecursion IsInside (keyed_mentions (k ∷ ks) (record { path = []; kind = value f } ∷ nested))
 inside_keys k [] f nested h =
     (record { some = λ e. cc; plain = refl; bare = λ l e. refl }, inside_under (key k) nested h)
@@ -134,7 +134,7 @@ closed_join xs ys h g p ps more said =
     by (inl left) = or_left (list_any (is_at (p ∷ ps)) xs) (list_any (is_at (p ∷ ps)) ys) (h p ps more left)
     by (inr right) = or_right (list_any (is_at (p ∷ ps)) xs) (list_any (is_at (p ∷ ps)) ys) (g p ps more right)
 
-closed_keys : (k : List ℕ) (ks : List (List ℕ)) (f : Fact) (nested : List Mention) → AreClosed nested
+pub closed_keys : (k : List ℕ) (ks : List (List ℕ)) (f : Fact) (nested : List Mention) → AreClosed nested
     → AreClosed (keyed_mentions (k ∷ ks) (record { path = []; kind = value f } ∷ nested))
 closed_keys k [] f nested h = closed_step (key k) (value f) nested h
 closed_keys k (l ∷ ks) f nested h =

@@ -1,11 +1,11 @@
 -- The path of a key, and what it mentions, follow from its leading parts and its last part.
 --
 -- Theorems: `header_prefixes-split`: a header mentions on its way what its leading keys mention; `header_path-split`:
--- the path of a header; `keyed-split`: what a keyval mentions.
+-- the path of a header; `keyed-past` and `keyed-split`: what a keyval mentions.
 use Rattle.std.proofs.Common.{◌≡◌, ℕ, true, false, cond, List, [], ◌∷◌, ◌++◌, length, map, refl, sym, ◌∙◌, ap, arith}
 use Rattle.std.proofs.Common.{length-append}
 use Rattle.std.specs.Prelude.{◌==◌}
-use Rattle.std.proofs.lemmas.List.{append_assoc, append-nil}
+use Rattle.std.proofs.lemmas.List.{append_assoc, append-nil, map-append}
 use Rattle.std.proofs.lemmas.List.Elements.{filter_map-append}
 use Rattle.keep_path.specs.Path.{Part, key}
 use Rattle.keep_meaning.specs.Marks.{Mention, below, through, past, passed, dotted, passing_mentions, entered_path}
@@ -85,22 +85,34 @@ below-below p q (m ∷ ms) =
     ap (λ w. record { path = p ++ (q ++ m.path); kind = m.kind } ∷ w) (below-below p q ms)
     ∙ ap (λ r. record { path = r; kind = m.kind } ∷ map (below (p ++ q)) ms) (sym (append_assoc p q m.path))
 
-keyed_more : (at : List Part) (w x : List ℕ) (ks : List (List ℕ)) (ms leading : List Mention)
-    → map (below (at ++ key w ∷ [])) (keyed_mentions (x ∷ ks) ms) ≡ leading
-    ++ map (below ((at ++ key w ∷ []) ++ map key (x ∷ ks))) ms
+-- what the first of several keys says, and what the others say below it
+keyed_next : (at : List Part) (w x : List ℕ) (ks : List (List ℕ)) (ms : List Mention)
     → map (below at) (keyed_mentions (w ∷ x ∷ ks) ms) ≡ record { path = at ++ key w ∷ []; kind = dotted }
-    ∷ (leading ++ map (below (at ++ map key (w ∷ x ∷ ks))) ms)
-keyed_more at w x ks ms leading more =
+    ∷ map (below (at ++ key w ∷ [])) (keyed_mentions (x ∷ ks) ms)
+keyed_next at w x ks ms =
     ap (λ r. record { path = at ++ key w ∷ []; kind = dotted } ∷ r)
-    (below-below at (key w ∷ []) (keyed_mentions (x ∷ ks) ms) ∙ more
-    ∙ ap (λ p. leading ++ map (below p) ms) (append_assoc at (key w ∷ []) (map key (x ∷ ks))))
+    (below-below at (key w ∷ []) (keyed_mentions (x ∷ ks) ms))
+
+-- the mentions of a keyval are those of the keys that it passes, and then those of the further ones, below these
+pub keyed-past : (at : List Part) (leading : List (List ℕ)) (k : List ℕ) (ks : List (List ℕ)) (ms : List Mention)
+    → map (below at) (keyed_mentions (leading ++ k ∷ ks) ms) ≡ dotted_mentions at leading
+    ++ map (below (at ++ map key leading)) (keyed_mentions (k ∷ ks) ms)
+keyed-past at [] k ks ms = ap (λ p. map (below p) (keyed_mentions (k ∷ ks) ms)) (sym (append-nil at))
+keyed-past at (w ∷ []) k ks ms = keyed_next at w k ks ms
+keyed-past at (w ∷ x ∷ leading) k ks ms =
+    keyed_next at w x (leading ++ k ∷ ks) ms
+    ∙ ap (λ r. record { path = at ++ key w ∷ []; kind = dotted } ∷ r)
+    (keyed-past (at ++ key w ∷ []) (x ∷ leading) k ks ms
+    ∙ ap (λ p. dotted_mentions (at ++ key w ∷ []) (x ∷ leading) ++ map (below p) (keyed_mentions (k ∷ ks) ms))
+    (append_assoc at (key w ∷ []) (map key (x ∷ leading))))
 
 -- the mentions of a keyval are those of its leading keys and then those of its value
 pub keyed-split : (at : List Part) (leading : List (List ℕ)) (k : List ℕ) (ms : List Mention)
     → map (below at) (keyed_mentions (leading ++ k ∷ []) ms) ≡ dotted_mentions at leading
     ++ map (below (at ++ map key (leading ++ k ∷ []))) ms
-keyed-split at [] k ms = below-below at (key k ∷ []) ms
-keyed-split at (w ∷ []) k ms = keyed_more at w k [] ms [] (keyed-split (at ++ key w ∷ []) [] k ms)
-keyed-split at (w ∷ x ∷ leading) k ms =
-    keyed_more at w x (leading ++ k ∷ []) ms (dotted_mentions (at ++ key w ∷ []) (x ∷ leading))
-    (keyed-split (at ++ key w ∷ []) (x ∷ leading) k ms)
+keyed-split at leading k ms =
+    keyed-past at leading k [] ms
+    ∙ ap (λ r. dotted_mentions at leading ++ r)
+    (below-below (at ++ map key leading) (key k ∷ []) ms
+    ∙ ap (λ p. map (below p) ms)
+    (append_assoc at (map key leading) (key k ∷ []) ∙ ap (λ l. at ++ l) (sym (map-append key leading (k ∷ [])))))

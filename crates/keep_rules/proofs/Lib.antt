@@ -43,7 +43,15 @@ mod LastLineLaws
 mod NestedGrowthLemmas
 mod StatementNestedLaws
 mod InsideValueLemmas
+mod RunLemmas
+mod RunNestedLemmas
+mod PathNumberLaws
+mod DotLemmas
+mod DotsKnownLaws
 mod ValueNestedLaws
+mod KeysNestedLaws
+mod DotsNestedLaws
+mod KeysAloneLemmas
 pub mod LinePlaceLemmas
 mod DocumentLemmas
 mod ElementLemmas

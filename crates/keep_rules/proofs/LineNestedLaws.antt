@@ -50,6 +50,13 @@ pub reading_after-append : (r : Reading) (ss ts : List Statement)
 reading_after-append r [] ts = refl
 reading_after-append r (s ∷ ss) ts = reading_after-append (next_reading r s) ss ts
 
+-- a keyval is no `[[..]]` line
+pub tables_past : (before after : List Statement) (nested : List Mention)
+    → (reading_after start (before ++ keyval nested ∷ after)).tables ≡ (reading_after start (before ++ after)).tables
+tables_past before after nested =
+    ap (λ (r : Reading). r.tables) (reading_after-append start before (keyval nested ∷ after))
+    ∙ sym (ap (λ (r : Reading). r.tables) (reading_after-append start before after))
+
 -- what the last step of a longer path is
 pub snoc_view : (xs : List Part) → (xs ≡ []) ⊎ ((m : List Part) × (x : Part) × (xs ≡ m ++ x ∷ []))
 snoc_view [] = inl refl
@@ -150,10 +157,7 @@ module _ (d more : Document) (line : HasLineMore d more)
   tables_same : (reading_after start (statements_in more)).tables ≡ tables
   tables_same =
       ap (λ (ss : List Statement). (reading_after start ss).tables) line.new
-      ∙ ap (λ (r : Reading). r.tables)
-      (reading_after-append start line.before
-      (keyval (record { path = key line.text ∷ []; kind = value line.fact } ∷ []) ∷ line.after))
-      ∙ sym (ap (λ (r : Reading). r.tables) (reading_after-append start line.before line.after))
+      ∙ tables_past line.before line.after (record { path = key line.text ∷ []; kind = value line.fact } ∷ [])
       ∙ ap (λ (ss : List Statement). (reading_after start ss).tables) (sym line.old)
 
   paths_old : ps ≡ low ++ high
@@ -215,7 +219,8 @@ module _ (d more : Document) (line : HasLineMore d more)
   not_below : (path : List Part) → 0 < elements_of path tables → is_child path p ≡ false
   not_below path some = false_from_ne_true (is_child path p) (λ is.
       let same : path ≡ body = (path_decides path body).0 (sym (child_push path body (key line.text)) ∙ is) in
-      body_has_no_element d more line obeys (subst (λ (q : List Part). 0 < elements_of q tables) same some))
+      body_has_no_element d line.before line.after line.old obeys
+      (subst (λ (q : List Part). 0 < elements_of q tables) same some))
 
   children_same : (path : List Part) → 0 < elements_of path tables → children path qs ≡ children path ps
   children_same path some =
@@ -263,7 +268,7 @@ module _ (d more : Document) (line : HasLineMore d more)
   body_there : node_number ps body ≡ None → ⊥
   body_there none =
       none_there ps body none (Contains-from_any (λ x y e. (path_decides x y).0 e) body ps
-      (node_met body (mentions_in d) ∙ body_is_node d more line))
+      (node_met body (mentions_in d) ∙ body_is_node d line.before line.after line.old))
 
   -- a path above the line's is that of a node
   not_above : AreNested (mentions_in d) tables → (path rest : List Part) → node_number qs path ≡ None → path ++ rest ≡ p
@@ -310,7 +315,7 @@ module _ (d more : Document) (line : HasLineMore d more)
           let other : same_path path p ≡ false = false_from_ne_true (same_path path p) (λ e.
           differ (is_node p (mentions_in d))
           (ap (λ (l : List Part). is_node l (mentions_in d)) (sym ((path_decides path p).0 e))
-          ∙ tables_are_nodes d more line path some) fresh) in
+          ∙ tables_are_nodes d line.before line.after line.old path some) fresh) in
           let old = map_some (later_number (length low)) (node_number ps path) i (sym (number_more path other) ∙ is) in
           last_entered path some ∙ ap (option_map (later_number (length low))) (nested.entered path old.0 old.1 some)
           ∙ last_same path some

@@ -20,6 +20,7 @@ ghost use Rattle.keep_rules.specs.ReadDocuments.{IsBuilt, IsChecked, IsIndexOf, 
 
 mod headers;
 mod lines;
+mod new_keys;
 mod values;
 
 use crate::path_text::{PathRoom, push_path};
@@ -30,6 +31,7 @@ use keep_index_store::{Holds, Tree};
 use keep_path::{Path, Step};
 use keep_syntax::{ReadFault, Span, Syntax, ValueSyntax};
 use keep_types::{Kind, NodeInfo, Origin};
+pub use new_keys::NewKeys;
 use std::alloc::{AllocError, Global};
 use std::marker::Model;
 

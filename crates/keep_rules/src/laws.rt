@@ -1,5 +1,6 @@
 //! Laws of the nodes where a line or a header is more, or another value is in the place of one, each the contract of a
 //! function that does nothing.
+ghost use Rattle.keep_meaning.specs.DotsMore.{DotsAddNodes};
 ghost use Rattle.keep_rules.specs.LinesNested as spec;
 ghost use Rattle.keep_rules.specs.StatementsNested as headers;
 ghost use Rattle.keep_rules.specs.StatementsKnown as known;
@@ -13,6 +14,21 @@ pub fn line_nested()
     ensures left { spec.LineLeavesNested }
 {}
 
+/// With one line more, a keyval of several key parts, of which nothing is said at the first one's path or below it, and
+/// with nothing in its value, the nodes of a document that obeys the definition rules are nested as its headers say, if
+/// those of the document without it are; and back.
+pub fn keys_nested()
+    ensures nested { spec.KeysAreNested }
+    ensures left { spec.KeysLeaveNested }
+{}
+
+/// With one line more, a keyval whose key goes on from tables of dotted keys that are met before it to a key of which
+/// nothing is said, nor below it, and with nothing in its value, the nodes of a document that obeys the definition
+/// rules are nested as its headers say, if those of the document without it are.
+pub fn dots_nested()
+    ensures { spec.DotsAreNested }
+{}
+
 /// With one header more, as the last statement, the facts about the nodes of a document are those of the document
 /// without it, with what the header says. The key parts are fewer than 2^64, as in a text that was read.
 pub fn statement_known()
@@ -24,6 +40,13 @@ pub fn statement_known()
 /// node. The key parts are fewer than 2^64, as in a text that was read.
 pub fn last_line_known()
     ensures { known.LastLineIsKnown }
+{}
+
+/// With one line more, whose key goes on from tables of dotted keys to a key with a new path, and with nothing in its
+/// value, the facts about all nodes are those of the document without it, with the nodes of the new keys, and with one
+/// mention more of each of these tables.
+pub fn dots_known()
+    ensures { DotsAddNodes }
 {}
 
 /// With one header more, as the last statement, the nodes of a document that obeys the definition rules are nested as

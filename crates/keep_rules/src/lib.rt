@@ -14,7 +14,7 @@ mod read;
 mod spans;
 mod value;
 
-pub use index::{Index, NodeId};
+pub use index::{Index, NewKeys, NodeId};
 pub use keep_index_store::{LineNumbers, NotInPlace, Totals};
 pub use keep_path::{Path, PathFault, Step};
 pub use keep_syntax::Why;

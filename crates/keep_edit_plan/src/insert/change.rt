@@ -1,5 +1,5 @@
 //! What an insertion changes of the index.
-ghost use Rattle.std.specs.Prelude.{IfSome, Ok};
+ghost use Rattle.std.specs.Prelude.{◌≢◌, ◌-◌, IfSome, Ok, length};
 ghost use Rattle.keep_syntax.specs.Tree as tree;
 ghost use Rattle.keep_path.specs.Path.{AreUtf8};
 ghost use Rattle.keep_edit_spec.specs.Edits.{edited_document, insert};
@@ -11,11 +11,11 @@ use super::{Insertion, Spot};
 use crate::document::DocumentRef;
 use crate::plan::IndexChange;
 use crate::totals::totals_of;
-use keep_rules::{Path, Step, ValueText};
+use keep_rules::{NewKeys, Path, Step, ValueText};
 
 impl<'a> DocumentRef<'a> {
-    /// What an insertion changes of the index, if that is another value of a line, or one line more, with one key. It
-    /// takes no memory.
+    /// What an insertion changes of the index, if that is another value of a line, or one line more: with one key, or
+    /// with several and nothing in its value. It takes no memory.
     pub(crate) fn insertion_change<'p>(
         &self,
         path: &'p Path,
@@ -41,7 +41,8 @@ impl<'a> DocumentRef<'a> {
         }
     }
 
-    /// What an insertion changes of the index, if that is one line more, with one key. It takes no memory.
+    /// What an insertion changes of the index, if that is one line more: with one key, or with several and nothing in
+    /// its value. It takes no memory.
     fn line_change<'p>(
         &self,
         path: &'p Path,
@@ -59,7 +60,7 @@ impl<'a> DocumentRef<'a> {
         };
         let from = insertion.from;
         if path.len().saturating_sub(from) != 1 {
-            return None;
+            return self.keys_change(path, insertion, value);
         }
         let Step::Key(key) = path.step(from)? else {
             return None;
@@ -93,6 +94,43 @@ impl<'a> DocumentRef<'a> {
             line,
             value,
             totals,
+        })
+    }
+
+    /// What an insertion changes of the index, if that is one line more, with several keys and nothing in its value. It
+    /// takes no memory.
+    fn keys_change<'p>(
+        &self,
+        path: &'p Path,
+        insertion: Insertion,
+        value: &'p ValueText,
+    ) -> Option<IndexChange<'p>>
+        requires aimed { (s : tree.Document) × IsTextOfTree self.now s
+            × ((v : tree.Value) × IsTextOfValue value.now v
+            × IsInsertionOf self.now.profile path.now v s (Ok insertion)) }
+        requires several { length path.now - insertion.from ≢ 1 }
+        requires utf8 { AreUtf8 path.now }
+        ensures { (s : tree.Document) → IsTextOfTree self.now s → (v : tree.Value) → IsTextOfValue value.now v
+            → IsInsertionOf self.now.profile path.now v s (Ok insertion)
+            → IfSome result (IsIndexChange s (edited_document s (insert path.now v))) }
+    {
+        let Spot::AfterBody(header) = insertion.spot else {
+            return None;
+        };
+        if value.depth() != 0 {
+            return None;
+        }
+        let keys = NewKeys {
+            path,
+            from: insertion.from,
+        };
+        let parent = self.index.find_first(path, keys.from)?;
+        Some(IndexChange::AddedKeys {
+            parent,
+            keys,
+            line: self.line_numbers(header),
+            kind: value.kind(),
+            totals: totals_of(self.syntax),
         })
     }
 }

@@ -15,8 +15,8 @@ use keep_rules::LineNumbers;
 use keep_syntax::{StatementKind, Syntax};
 
 impl<'a> DocumentRef<'a> {
-    /// The numbers of a keyval of one key part that is put in after the body of the header with this statement number,
-    /// or of the root. It takes no memory.
+    /// The numbers of a keyval that is put in after the body of the header with this statement number, or of the root.
+    /// It takes no memory.
     pub(crate) fn line_numbers(&self, header: Option<usize>) -> LineNumbers
         requires { (s : tree.Document) × IsTextOfTree self.now s
             × ((a : List Part) × (from : ℕ) × IsKeyvalSpot a s from (AfterBody header)) }

@@ -2,35 +2,30 @@
 --
 -- Theorem: `insert_adds_line`; and `bare_added` where something is in the value, for the insert of the value without
 -- that.
-use Rattle.std.proofs.Common.{◌≡◌, ℕ, suc, ◌≤◌, Bool, false, ◌||◌, List, [], ◌∷◌, ◌++◌, length, map, take, drop, refl}
-use Rattle.std.proofs.Common.{sym, ap, ap₂, subst}
-use Rattle.std.proofs.Common.{◌∙◌, arith, length-append, Option, Some, None}
+use Rattle.std.proofs.Common.{◌≡◌, ℕ, suc, ◌≤◌, Bool, false, ◌||◌, List, [], ◌∷◌, ◌++◌, length, take, drop, refl}
+use Rattle.std.proofs.Common.{sym, ap, ap₂, subst, ◌∙◌, Some, None}
 use Rattle.std.specs.Prelude.{IsUtf8}
 use Rattle.std.specs.List.{AllByRecursion, list_any}
-use Rattle.std.proofs.lemmas.List.{length-map, take-append-drop}
+use Rattle.std.proofs.lemmas.List.{take-append-drop}
 use Rattle.keep_types.specs.declared.leaf.Profile.{Profile}
-use Rattle.keep_syntax.specs.Tree.{Entries, Value, Line, Ended, Document, keyval}
+use Rattle.keep_syntax.specs.Tree.{Entries, Value, Line, Document, keyval}
 use Rattle.keep_path.specs.Path.{Part, key}
-use Rattle.keep_meaning.specs.Counts.{statements_in}
 use Rattle.keep_meaning.specs.Marks as marks
-use Rattle.keep_meaning.specs.Marks.{Mention, Statement, start, value as kinds_value}
-use Rattle.keep_meaning.specs.Meaning.{body_fact, keyed_mentions, keys_of, keyval_mentions, line_of, lines, mentions_in}
-use Rattle.keep_meaning.specs.Meaning.{valued_mentions}
+use Rattle.keep_meaning.specs.Marks.{start}
+use Rattle.keep_meaning.specs.Meaning.{body_fact, keys_of, lines, mentions_in}
 use Rattle.keep_meaning.specs.Nodes.{is_at, is_node, is_root}
-use Rattle.keep_edit_spec.specs.Changed.{Changed}
-use Rattle.keep_edit_spec.specs.Edits.{changed_or_same, edited_document, end_of, insert, name_with}
+use Rattle.keep_edit_spec.specs.Edits.{edited_document, end_of, insert, name_with}
 use Rattle.keep_edit_spec.specs.KeyvalLines.{HasLineAt, InsertAddsLine, bare_value}
 use Rattle.keep_edit_spec.specs.Lines.{new_line, newline_of, put_lines}
 use Rattle.keep_edit_spec.specs.Look.{holder, item_number, keys_in}
 use Rattle.keep_edit_spec.specs.Refusals.{refusal}
 use Rattle.keep_edit_spec.proofs.Common.BodyEnd.{IsBodyEnd}
-use Rattle.keep_edit_spec.proofs.Common.LineStatements.{put_statements, reading_statements, statements-append}
-use Rattle.keep_edit_spec.proofs.Common.LineStatements.{statements_of}
+use Rattle.keep_edit_spec.proofs.Common.LineStatements.{reading_statements, statements-append, statements_of}
 use Rattle.keep_edit_spec.proofs.Common.NewLines.{IsKeyText}
 use Rattle.keep_edit_spec.proofs.Common.Runs.{AllOf}
 use Rattle.keep_edit_spec.proofs.Common.SetDocument.{page_lines}
-use Rattle.keep_edit_spec.proofs.Insert.InsertLine.{change_here}
 use Rattle.keep_edit_spec.proofs.Insert.KeysAtEnd as keys
+use Rattle.keep_edit_spec.proofs.Insert.LineAtEnd as line
 
 -- The path is new, and in the document are the lines of the body that it goes into, up to line n.
 module _ (profile : Profile) (limit : ℕ) (s : Document) (path : List Part) (text : List ℕ) (value : Value) (n : ℕ)
@@ -72,33 +67,14 @@ module _ (profile : Profile) (limit : ℕ) (s : Document) (path : List Part) (te
   abbrev after : List Line
   after = drop n (lines s)
 
-  said : marks.keyval (keyval_mentions (name_with (text ∷ [])) (bare_value value))
-      ≡ marks.keyval (record { path = key text ∷ []; kind = kinds_value (body_fact value.body) } ∷ [])
-  said = ap (λ (ks : List (List ℕ)).
-      marks.keyval (keyed_mentions ks (valued_mentions (kinds_value (body_fact value.body)) []))) means
-
   -- the new line is put among the lines
   pub put : (v : Value) → lines (edited_document s (insert path v))
       ≡ page_lines (put_lines n (new_line (newline_of s) (keyval (name_with (text ∷ [])) v) ∷ []) (newline_of s) s.ended
       s.last).to
-  put v =
-      let new_lines : List Part → List Ended = λ ps. new_line (newline_of s) (keyval (name_with (keys_in ps)) v) ∷ [] in
-      ap (λ (o : Option (Changed Document)). lines (changed_or_same s o).to) (change_here s path v n no_item ends)
-      ∙ ap (λ (ps : List Part). page_lines (put_lines n (new_lines ps) (newline_of s) s.ended s.last).to) rest
+  put v = line.put profile limit s path text [] value n utf8 allowed one ends v
 
   pub few : n ≤ suc (length s.ended)
-  few = omega (arith, end.few, length-append (map line_of s.ended) (s.last ∷ []), length-map s.ended line_of)
-
-  edited : statements_in (edited_document s (insert path (bare_value value)))
-      ≡ statements_of before ++ marks.keyval (record { path = key text ∷ []; kind = kinds_value (body_fact value.body) }
-      ∷ []) ∷ statements_of after
-  edited =
-      ap statements_of (put (bare_value value))
-      ∙ put_statements n (new_line (newline_of s) (keyval (name_with (text ∷ [])) (bare_value value)) ∷ [])
-      (newline_of s) s.ended s.last few
-      ∙ statements-append before (line_of (new_line (newline_of s) (keyval (name_with (text ∷ [])) (bare_value value)))
-      ∷ after)
-      ∙ ap (λ (st : Statement). statements_of before ++ st ∷ statements_of after) said
+  few = line.few profile limit s path text [] value n utf8 allowed one ends
 
   -- of a value that may be put there, the line alone
   pub bare_added : HasLineAt s (edited_document s (insert path (bare_value value))) path (body_fact value.body) before
@@ -109,7 +85,7 @@ module _ (profile : Profile) (limit : ℕ) (s : Document) (path : List Part) (te
       text = text;
       fact = body_fact value.body;
       old = ap statements_of (sym (take-append-drop n (lines s))) ∙ statements-append before after;
-      new = edited;
+      new = line.edited profile limit s path text [] value n utf8 allowed one ends;
     };
     after = refl;
     place = ap (λ (r : marks.Reading). r.body ++ key text ∷ []) (reading_statements start before)

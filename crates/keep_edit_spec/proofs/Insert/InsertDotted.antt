@@ -5,7 +5,7 @@
 -- is one that the line makes too (`IsDottedLine.doubles`), and such a double does no harm to the rules. Its first new
 -- key names no node, so the rest is new (`dotted_law`).
 --
--- Theorems: `dotted_content`, `dotted_line` and `insert_after_dotted`.
+-- Theorems: `dotted_content`, `dotted_line`, `dotted_path`, `dotted_change` and `insert_after_dotted`.
 use Rattle.std.proofs.Common.{◌≡◌, ℕ, suc, ◌≤◌, Bool, true, false, not, ◌&&◌, ◌||◌, List, [], ◌∷◌, ◌++◌, length, map}
 use Rattle.std.proofs.Common.{take, drop, refl, sym, ap, subst, ◌∙◌, append_assoc, length-append, arith, Option, Some}
 use Rattle.std.proofs.Common.{None}
@@ -222,6 +222,38 @@ pub change_there : (s : Document) (path : List Part) (v : Value) (i : ℕ) → i
 change_there s path v i no_item ends found =
     rw (no_item, change_insert) (rw (ends, insert_line) (rw (found, insert_line) refl))
 
+-- The keys that are written go on from the line's body: those up to the holder, and the new ones.
+module _ (s : Document) (path : List Part) (i : ℕ) (k : List ℕ) (ks : List (List ℕ))
+    (line : IsDottedLine s (holder path (mentions_in s)) i)
+    (new : path ≡ holder path (mentions_in s) ++ map key (k ∷ ks)) where
+  abbrev a : List Part
+  a = holder path (mentions_in s)
+
+  abbrev body : List Part
+  body = (reading_at i (lines s)).body
+
+  abbrev keys : List (List ℕ)
+  keys = line.first ∷ (line.prefix ++ k ∷ ks)
+
+  pub dotted_path : path ≡ body ++ map key keys
+  dotted_path =
+      new ∙ ap (λ (x : List Part). x ++ map key (k ∷ ks)) line.whole
+      ∙ append_assoc body (map key (line.first ∷ line.prefix)) (map key (k ∷ ks))
+      ∙ ap (λ (x : List Part). body ++ x) (sym (map-append key (line.first ∷ line.prefix) (k ∷ ks)))
+
+  pub dotted_change : (v : Value) → item_number path (mentions_in s) ≡ None → end_of s a ≡ None
+      → last_line (leads_dotted a) start (lines s) ≡ Some i
+      → change s (insert path v) ≡ at_line s (suc i) (keyval (name_with keys) v ∷ [])
+  dotted_change v no_item ends found =
+      let rest : drop (length a) path ≡ map key (k ∷ ks) =
+      ap (drop (length a)) new ∙ drop_prefix_parts a (map key (k ∷ ks)) in
+      let written : keys_in (drop (length body) (a ++ drop (length a) path)) ≡ keys =
+      ap (λ (x : List Part). keys_in (drop (length body) (a ++ x))) rest
+      ∙ ap (λ (x : List Part). keys_in (drop (length body) x)) (sym new ∙ dotted_path)
+      ∙ ap keys_in (drop_prefix_parts body (map key keys)) ∙ keys_of_map keys in
+      change_there s path v i no_item ends found
+      ∙ ap (λ (x : List (List ℕ)). at_line s (suc i) (keyval (name_with x) v ∷ [])) written
+
 -- From no refusal: the keyval is put in after the last whose key continues from the holder, and the new document is
 -- right.
 pub insert_after_dotted : (profile : Profile) (limit : ℕ) (s : Document) (path : List Part) (v : Value) (i : ℕ)
@@ -241,19 +273,10 @@ insert_after_dotted profile limit s path v i granted no_item ends found texts va
     let l : IsDottedLine s a i = dotted_line s a i found in
     let body : List Part = (reading_at i (lines s)).body in
     let keys : List (List ℕ) = l.first ∷ (l.prefix ++ k ∷ ks) in
-    let whole : path ≡ body ++ map key keys =
-    new.whole ∙ ap (λ (x : List Part). x ++ map key (k ∷ ks)) l.whole
-    ∙ append_assoc body (map key (l.first ∷ l.prefix)) (map key (k ∷ ks))
-    ∙ ap (λ (x : List Part). body ++ x) (sym (map-append key (l.first ∷ l.prefix) (k ∷ ks))) in
+    let whole : path ≡ body ++ map key keys = dotted_path s path i k ks l new.whole in
     let mine : AllOf (IsKeyText profile) keys = later_keys profile body path keys whole texts in
-    let written : keys_in (drop (length body) (a ++ drop (length a) path)) ≡ keys =
-    ap (λ (x : List Part). keys_in (drop (length body) (a ++ x))) new.rest
-    ∙ ap (λ (x : List Part). keys_in (drop (length body) x)) (sym new.whole ∙ whole)
-    ∙ ap keys_in (drop_prefix_parts body (map key keys)) ∙ keys_of_map keys in
     let o : Option (Changed Document) = at_line s (suc i) (keyval (name_with keys) v ∷ []) in
-    let same : change s (insert path v) ≡ o =
-    change_there s path v i no_item ends found
-    ∙ ap (λ (x : List (List ℕ)). at_line s (suc i) (keyval (name_with x) v ∷ [])) written in
+    let same : change s (insert path v) ≡ o = dotted_change s path i k ks l new.whole v no_item ends found in
     let law : EachTo (IsKeyvalLaw s (body ++ map key keys) v) o =
     dotted_law profile s (suc i) body l.first l.prefix k ks v l.few l.at_body mine
     (subst (λ (x : List Part). list_any (is_at (x ++ key k ∷ [])) ms ≡ false) l.whole new.fresh) l.doubles

@@ -141,11 +141,12 @@ value_firm s b n value e = unsaid_of_none is_value value_number b s (dotted_node
 -- ---- the place
 
 -- No header defines the holder. The keyval is written after the line of the last one that continues from it, with the
--- keys of the path from there on.
+-- keys of the path from the body of that line on.
 pub record IsDottedPlaced (s : Document) (path : List Part) (v : Value) (from number : ℕ) : Type 0 where
   pub bare : end_of s (holder path (mentions_in s)) ≡ None
   pub last : ℕ
   pub found : last_line (leads_dotted (holder path (mentions_in s))) start (lines s) ≡ Some last
+  pub base : from ≡ length (reading_at last (lines s)).body
   pub first : List ℕ
   pub more : List (List ℕ)
   pub texts : keys_in (drop from path) ≡ first ∷ more
@@ -202,6 +203,7 @@ module _ (profile : Profile) (limit : ℕ) (s : Document) (path : List Part) (v 
         bare = bare;
         last = i;
         found = found;
+        base = length_is;
         first = d.base.from.first;
         more = keys_in rest;
         texts = keys;

@@ -1,6 +1,6 @@
 -- An insert of one key or of several at the end of a body: what its path and its new keys are.
 --
--- The path continues from its holder by the new keys (NewPath), which mean themselves where they are written. Nothing
+-- The path continues from its holder by the new keys (NewKeys), which mean themselves where they are written. Nothing
 -- is said of the path of the first one.
 --
 -- Theorems: `rest`, `texts`, `means`, `end`, `unsaid`; `first_is`, `path_goes_on`: the path of the first new key.
@@ -10,7 +10,7 @@ use Rattle.std.specs.Prelude.{IsUtf8}
 use Rattle.std.specs.List.{AllByRecursion, list_any}
 use Rattle.keep_types.specs.declared.leaf.Profile.{Profile}
 use Rattle.keep_syntax.specs.Tree.{Value, Document}
-use Rattle.keep_path.specs.Path.{EndsInKey, Part, key, last_part}
+use Rattle.keep_path.specs.Path.{Part, key}
 use Rattle.keep_meaning.specs.Meaning.{keys_of, mentions_in}
 use Rattle.keep_meaning.specs.Nodes.{is_at}
 use Rattle.keep_edit_spec.specs.AddedLines.{first_new}
@@ -21,7 +21,7 @@ use Rattle.keep_edit_spec.proofs.Common.BodyEnd.{IsBodyEnd, end_is}
 use Rattle.keep_edit_spec.proofs.Common.NewLines.{IsKeyText, key_means}
 use Rattle.keep_edit_spec.proofs.Common.Runs.{AllOf}
 use Rattle.keep_edit_spec.proofs.Insert.InsertLine.{later_keys}
-use Rattle.keep_edit_spec.proofs.Insert.NewPath.{IsNewPath, drop_prefix_parts, ends_in_key, new_path}
+use Rattle.keep_edit_spec.proofs.Insert.NewKeys as keys
 use Rattle.keep_edit_spec.proofs.Rename.KeyTexts.{key_texts}
 
 take_next : (a b : List Part) (p : Part) → take (suc (length a)) (a ++ p ∷ b) ≡ a ++ p ∷ []
@@ -50,15 +50,10 @@ module _ (profile : Profile) (limit : ℕ) (s : Document) (path : List Part) (te
   a = holder path (mentions_in s)
 
   pub no_item : item_number path (mentions_in s) ≡ None
-  no_item =
-      let last : EndsInKey (a ++ map key (text ∷ more)) = ends_in_key a text more in
-      rw (ap last_part new ∙ last.1, item_number) refl
-
-  is_new : IsNewPath path (mentions_in s)
-  is_new = new_path profile limit (mentions_in s) path value no_item allowed
+  no_item = keys.no_item profile limit s path text more value allowed new
 
   pub rest : drop (length a) path ≡ map key (text ∷ more)
-  rest = ap (drop (length a)) new ∙ drop_prefix_parts a (map key (text ∷ more))
+  rest = keys.rest profile limit s path text more value allowed new
 
   pub texts : AllOf (IsKeyText profile) (text ∷ more)
   texts = later_keys profile a path (text ∷ more) new (key_texts profile (keys_in path) utf8)
@@ -70,7 +65,4 @@ module _ (profile : Profile) (limit : ℕ) (s : Document) (path : List Part) (te
   end = end_is s a n ends
 
   pub unsaid : list_any (is_at (a ++ key text ∷ [])) (mentions_in s) ≡ false
-  unsaid =
-      let first : key text ∷ map key more ≡ key is_new.first ∷ map key is_new.more = sym rest ∙ is_new.rest in
-      let same : text ≡ is_new.first = cc in
-      ap (λ (t : List ℕ). list_any (is_at (a ++ key t ∷ [])) (mentions_in s)) same ∙ is_new.fresh
+  unsaid = keys.unsaid profile limit s path text more value allowed new

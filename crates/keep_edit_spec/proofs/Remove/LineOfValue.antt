@@ -1,17 +1,18 @@
 -- The line on which the value of a path is (`IsLineValue`): where its key has one part it is a line of which
--- `RemoveTakesValue` speaks, and where no node is below the value, too, one of which `RemoveTakesLine` does. Its
--- numbers are those that the syntax has with the value.
+-- `RemoveTakesValue` speaks, and where no node is below the value, too, one of which `RemoveTakesLine` does. Where its
+-- key has several parts, and no node is below the value, it is one of which `RemoveTakesKeys` does. Its numbers are
+-- those that the syntax has with the value.
 --
 -- A value in which something is nested has a node below it (`childless`), so here nothing is. What the syntax counts
 -- before a line are the statements, the values and the key parts that the lines before it say (`lines_counted`).
 --
--- Theorems: `value_line`, `line_of_value` and `line_numbers`.
+-- Theorems: `value_line`, `line_of_value`, `keys_line_of_value` and `line_numbers`.
 use Rattle.std.proofs.Common.{◌≡◌, ℕ, suc, ◌+◌, List, [], ◌∷◌, ◌++◌, length, map, refl, sym, ap, subst, ◌∙◌, append-nil}
 use Rattle.std.proofs.Common.{append_assoc, arith, None, Some}
 use Rattle.std.specs.List.{cons_option, filter_map}
 use Rattle.keep_syntax.specs.Numbered as syntax
 use Rattle.keep_syntax.specs.Numbered.{content_statements, content_parts, content_values, content_start, line_start}
-use Rattle.keep_syntax.specs.Numbered.{next_line, first_line, after_lines}
+use Rattle.keep_syntax.specs.Numbered.{next_line, first_line, after_lines, key_count}
 use Rattle.keep_syntax.specs.Tree.{Content, blank, keyval, header, element, Entries, none, entry, Further, Name, Value}
 use Rattle.keep_syntax.specs.Tree.{Line, Ended, Document}
 use Rattle.keep_path.specs.NodeInfos.{LineNumbers}
@@ -27,7 +28,7 @@ use Rattle.keep_meaning.specs.Meaning.{reading_after_lines, statement_of, step, 
 use Rattle.keep_meaning.specs.Nodes.{children, node_paths}
 use Rattle.keep_meaning.proofs.Shared.{count_after-keys, count_after-values, count_from-statements, marked-content}
 use Rattle.keep_meaning.proofs.Shared.{valued-content}
-use Rattle.keep_edit_spec.specs.KeyvalLines.{IsLineOf, IsValueLine}
+use Rattle.keep_edit_spec.specs.KeyvalLines.{IsKeysLineOf, IsLineOf, IsValueLine}
 use Rattle.keep_edit_spec.proofs.Common.SetDocument.{whole_mentions}
 use Rattle.keep_edit_spec.proofs.Common.SetLaw.{run}
 use Rattle.keep_edit_spec.proofs.Remove.RemoveLinePlace.{IsLineValue, head_line, lines_split, tail_lines}
@@ -167,6 +168,29 @@ module _ (path : List Part) (s : Document) (pre rest : List Ended) (was : s.ende
     one = one_part name.key.more (sym v.keys ∙ one);
     empty = empty alone;
   }
+
+  pub keys_line_of_value : (v.own.keys ≡ 1 → ⊥) → children path (node_paths (mentions_in s)) ≡ []
+      → (line : IsKeysLineOf s path (map line_of pre) held) × (v.own.keys ≡ key_count line.name.key)
+  keys_line_of_value several alone = by name.key.more refl
+    where
+      by : (fs : List Further) → name.key.more ≡ fs
+          → (line : IsKeysLineOf s path (map line_of pre) held) × (v.own.keys ≡ key_count line.name.key)
+      by [] no_more = absurd (several (v.keys ∙ ap (λ (fs : List Further). suc (length fs)) no_more))
+      by (next ∷ further) are = (
+        record {
+          line = head_line rest s.last;
+          after = tail_lines rest s.last;
+          name = name;
+          next = next;
+          further = further;
+          here = lines_are;
+          content = v.its_line.content;
+          place = v.its_line.named;
+          several = are;
+          empty = empty alone;
+        },
+        v.keys,
+      )
 
   pub line_numbers : numbers_after (filter_map line_statement (map line_of pre))
       ≡ record { statement = v.number; value = v.value.number; key = v.own.first_key }

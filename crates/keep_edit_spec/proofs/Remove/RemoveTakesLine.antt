@@ -1,120 +1,29 @@
--- A remove of a keyval's line, with its comment left or without, takes a line.
+-- A remove of a keyval's line takes it.
 --
--- Both ways leave the statements of the other lines. Which line the remove takes hold of is known by the rules: no two
--- lines give one path a value (`no_two`), so it is the line that is meant (`same_line`).
+-- All other statements stay (LineTaken), and nothing is said at the path by any of them, since by the rules what is
+-- beside a keyval's line is beside its path.
 --
 -- Theorem: `remove_takes_line`; and `takes` where something is in the value, for the document where nothing is.
-use Rattle.std.proofs.Common.{◌≡◌, ℕ, zero, suc, ◌≤◌, Bool, true, false, cond, ◌||◌, List, [], ◌∷◌, ◌++◌, length, map}
-use Rattle.std.proofs.Common.{take, drop, refl, sym, ap, ap₂, subst, ◌∙◌, ◌⊎◌, inl, inr, append-nil, arith}
-use Rattle.std.proofs.Common.{length-append, Option, Some, None}
+use Rattle.std.proofs.Common.{◌≡◌, Bool, true, false, ◌||◌, List, [], ◌∷◌, ◌++◌, map, refl, sym, ap, ap₂, subst, ◌∙◌}
+use Rattle.std.proofs.Common.{append-nil, Some, None}
 use Rattle.std.specs.List.{cons_option, list_any}
-use Rattle.std.proofs.lemmas.List.{length-map}
 use Rattle.keep_syntax.specs.Tree.{Content, Entries, Further, Name, Value, Line, Document, keyval}
 use Rattle.keep_path.specs.Path.{Part, key, strip}
 use Rattle.keep_path.proofs.Shared.{path_decides}
 use Rattle.keep_meaning.specs.Counts.{statements_in}
 use Rattle.keep_meaning.specs.Marks as marks
-use Rattle.keep_meaning.specs.Marks.{Mention, Reading, Statement, below, start, value as kinds_value}
-use Rattle.keep_meaning.specs.Meaning.{after_line, body_fact, entries_mentions, further_value, key_value}
-use Rattle.keep_meaning.specs.Meaning.{keyed_mentions, keys_of, keyval_mentions, line_of, lines, lines_mentions}
-use Rattle.keep_meaning.specs.Meaning.{mentions_in, reading_after_lines, statement_of, step, valued_mentions}
+use Rattle.keep_meaning.specs.Marks.{Mention, Statement, start, value as kinds_value}
+use Rattle.keep_meaning.specs.Meaning.{body_fact, further_value, key_value, keyed_mentions, lines, lines_mentions}
+use Rattle.keep_meaning.specs.Meaning.{mentions_in, reading_after_lines, statement_of, valued_mentions}
 use Rattle.keep_meaning.specs.Nodes.{is_at, is_node, is_root}
 use Rattle.keep_meaning.specs.Rules.{ObeysRules}
-use Rattle.keep_meaning.proofs.Shared.{lines_mentions-statements}
-use Rattle.keep_edit_spec.specs.Changed.{Changed, or_else}
-use Rattle.keep_edit_spec.specs.Edits.{changed_or_same, clear_line, edited_document, is_own, nested, remove}
-use Rattle.keep_edit_spec.specs.Edits.{without_lines}
+use Rattle.keep_edit_spec.specs.Edits.{edited_document, remove}
 use Rattle.keep_edit_spec.specs.KeyvalLines.{HasLineAt, IsValueLine, RemoveTakesLine, bare_value}
-use Rattle.keep_edit_spec.specs.Lines.{begins, body_length, in_document, in_lines, last_line, with_page}
-use Rattle.keep_edit_spec.specs.Values.{removal}
 use Rattle.keep_edit_spec.proofs.Common.InValue.{beside_keyval}
-use Rattle.keep_edit_spec.proofs.Common.LineLaws.{lines_mentions-append}
-use Rattle.keep_edit_spec.proofs.Common.LineStatements.{dropped_statements, reading_statements, statements-append}
-use Rattle.keep_edit_spec.proofs.Common.LineStatements.{statements_of}
-use Rattle.keep_edit_spec.proofs.Common.Marks.{rules_of_document}
-use Rattle.keep_edit_spec.proofs.Common.Runs.{AllOf, IsDisjoint, Rules, all_join, all_left, all_right, strip-append}
-use Rattle.keep_edit_spec.proofs.Common.SetDocument.{page_lines, whole_mentions}
-use Rattle.keep_edit_spec.proofs.Common.SetLaw.{EachTo, to_within}
-use Rattle.keep_edit_spec.proofs.Remove.RemoveLines.{IsFound, IsLastLine, IsOwnLine, LinesCleared, drop_prefix_of}
-use Rattle.keep_edit_spec.proofs.Remove.RemoveLines.{found, keyval_run, lines_cleared, own_line, take_prefix}
-
--- ---- one line
-
--- what a keyval's line says is at its path
-said_at : (path : List Part) (pre post : List Line) (l : Line)
-    → IsOwnLine (reading_after_lines start pre).body path l.content
-    → AllOf (IsDisjoint path) (lines_mentions start (pre ++ l ∷ post)) → ⊥
-said_at path pre post l own h =
-    let r : Reading = reading_after_lines start pre in
-    let p : List Part = r.body ++ step 0 (Some own.name) in
-    let ms : List Mention = map (below r.body) (keyval_mentions own.name own.held) in
-    let vs : List Mention =
-    valued_mentions (kinds_value (body_fact own.held.body)) (entries_mentions 0 own.held.nested) in
-    let ways : List Mention = map (below r.body) (keyed_mentions (keys_of own.name.key) []) in
-    let right : List Mention = lines_mentions r post in
-    let cut : AllOf (IsDisjoint path) (lines_mentions start pre ++ (ms ++ right)) =
-    subst (AllOf (IsDisjoint path)) (whole_mentions pre post l own.name own.held own.was) h in
-    let mine : AllOf (IsDisjoint path) ms =
-    all_left (IsDisjoint path) ms right (all_right (IsDisjoint path) (lines_mentions start pre) (ms ++ right) cut) in
-    let run : AllOf (IsDisjoint path) (map (below p) vs) =
-    all_right (IsDisjoint path) ways (map (below p) vs)
-    (subst (AllOf (IsDisjoint path)) (keyval_run r.body own.name own.held) mine) in
-    let clash : None ≡ Some [] =
-    sym run.0 ∙ ap (λ (q : List Part). strip q (p ++ [])) (sym own.place) ∙ strip-append p [] in
-    cc
-
--- no two lines give the path a value
-no_two : (path : List Part) (earlier pre mid post : List Line) (l l' : Line) → earlier ≡ pre ++ l ∷ mid
-    → IsOwnLine (reading_after_lines start pre).body path l.content
-    → IsOwnLine (reading_after_lines start earlier).body path l'.content
-    → Rules (lines_mentions start (earlier ++ l' ∷ post)) → ⊥
-no_two path earlier pre mid post l l' e own own' rules =
-    let b = beside_keyval earlier post own'.name own'.held
-    (subst Rules (whole_mentions earlier post l' own'.name own'.held own'.was) rules) in
-    said_at path pre mid l own
-    (subst (λ (q : List Part). AllOf (IsDisjoint q) (lines_mentions start (pre ++ l ∷ mid))) own'.place
-    (subst (λ (ls : List Line).
-    AllOf (IsDisjoint ((reading_after_lines start earlier).body ++ step 0 (Some own'.name))) (lines_mentions start ls))
-    e b.before))
-
--- two cuts of one list
-two_cuts : (xs ys us vs : List Line) (x y : Line) → xs ++ x ∷ us ≡ ys ++ y ∷ vs
-    → ((xs ≡ ys) × (us ≡ vs)) ⊎ (((m : List Line) × (xs ≡ ys ++ y ∷ m)) ⊎ ((m : List Line) × (ys ≡ xs ++ x ∷ m)))
-two_cuts [] [] us vs x y e = inl (refl, (let same : us ≡ vs = cc in same))
-two_cuts [] (b ∷ ys) us vs x y e = let same : b ≡ x = cc in inr (inr (ys, ap (λ (z : Line). z ∷ ys) same))
-two_cuts (a ∷ xs) [] us vs x y e = let same : a ≡ y = cc in inr (inl (xs, ap (λ (z : Line). z ∷ xs) same))
-two_cuts (a ∷ xs) (b ∷ ys) us vs x y e =
-    let head : a ≡ b = cc in
-    let tail : xs ++ x ∷ us ≡ ys ++ y ∷ vs = cc in
-    by head (two_cuts xs ys us vs x y tail)
-  where
-    by : a ≡ b
-        → ((xs ≡ ys) × (us ≡ vs)) ⊎ (((m : List Line) × (xs ≡ ys ++ y ∷ m)) ⊎ ((m : List Line) × (ys ≡ xs ++ x ∷ m)))
-        → ((a ∷ xs ≡ b ∷ ys) × (us ≡ vs))
-        ⊎ (((m : List Line) × (a ∷ xs ≡ b ∷ ys ++ y ∷ m)) ⊎ ((m : List Line) × (b ∷ ys ≡ a ∷ xs ++ x ∷ m)))
-    by head (inl h) = inl (ap₂ (λ (z : Line) (l : List Line). z ∷ l) head h.0, h.1)
-    by head (inr (inl h)) = inr (inl (h.0, ap₂ (λ (z : Line) (l : List Line). z ∷ l) head h.1))
-    by head (inr (inr h)) = inr (inr (h.0, ap₂ (λ (z : Line) (l : List Line). z ∷ l) (sym head) h.1))
-
--- a line that passes is found
-not_found : (test : Reading → Line → Bool) (r : Reading) (pre post : List Line) (l : Line)
-    → test (reading_after_lines r pre) l ≡ true → last_line test r (pre ++ l ∷ post) ≡ None → ⊥
-not_found test r [] post l h e =
-    by (last_line test (after_line r l) post)
-    (ap (λ (b : Bool).
-    elim (last_line test (after_line r l) post) [ Some n ↦ Some (suc n) | None ↦ cond b (Some zero) None ]) (sym h) ∙ e)
-  where
-    by : (o : Option ℕ) → ◌≡◌ {A = Option ℕ} (elim o [ Some n ↦ Some (suc n) | None ↦ Some zero ]) None → ⊥
-    by None e = cc
-    by (Some n) e = cc
-not_found test r (x ∷ pre) post l h e =
-    by (last_line test (after_line r x) (pre ++ l ∷ post)) e (not_found test (after_line r x) pre post l h)
-  where
-    by : (o : Option ℕ)
-        → ◌≡◌ {A = Option ℕ} (elim o [ Some n ↦ Some (suc n) | None ↦ cond (test r x) (Some zero) None ]) None
-        → (o ≡ None → ⊥) → ⊥
-    by None e more = more refl
-    by (Some n) e more = cc
+use Rattle.keep_edit_spec.proofs.Common.LineStatements.{reading_statements, statements-append, statements_of}
+use Rattle.keep_edit_spec.proofs.Common.Runs.{AllOf, IsDisjoint, Rules, all_join, strip-append}
+use Rattle.keep_edit_spec.proofs.Common.SetDocument.{whole_mentions}
+use Rattle.keep_edit_spec.proofs.Remove.LineTaken.{rules, said_left, statements_left}
 
 -- nothing is said there
 not_at : (p : List Part) (ms : List Mention) → AllOf (IsDisjoint p) ms → list_any (is_at p) ms ≡ false
@@ -155,145 +64,53 @@ module _ (s : Document) (path : List Part) (before : List Line) (value : Value)
     (h : IsValueLine s path before value)
     (bare : Document) (whole : statements_in bare ≡ statements_of before ++ bare_statement h.name value
     ∷ statements_of h.after) where
-  rules : Rules (lines_mentions start (before ++ h.line ∷ h.after))
-  rules = subst (λ (ls : List Line). Rules (lines_mentions start ls)) h.here (rules_of_document s obeys)
+  abbrev now : Document
+  now = edited_document s (remove path)
 
-  own : IsOwnLine (reading_after_lines start before).body path h.line.content
-  own = record { name = h.name; held = value; was = h.content; place = h.place }
-
-  -- another line with the path is this one
-  same_line : (pre post : List Line) (l : Line) → lines s ≡ pre ++ l ∷ post
-      → IsOwnLine (reading_after_lines start pre).body path l.content → (pre ≡ before) × (post ≡ h.after)
-  same_line pre post l is mine = by (two_cuts pre before post h.after l h.line (sym is ∙ h.here))
-    where
-      by : ((pre ≡ before) × (post ≡ h.after))
-          ⊎ (((m : List Line) × (pre ≡ before ++ h.line ∷ m)) ⊎ ((m : List Line) × (before ≡ pre ++ l ∷ m)))
-          → (pre ≡ before) × (post ≡ h.after)
-      by (inl same) = same
-      by (inr (inl later)) =
-          absurd (no_two path pre before later.0 post h.line l later.1 own mine
-          (subst (λ (ls : List Line). Rules (lines_mentions start ls)) is (rules_of_document s obeys)))
-      by (inr (inr earlier)) = absurd (no_two path before pre earlier.0 h.after l h.line earlier.1 mine own rules)
+  others : statements_in now ≡ statements_of (before ++ h.after)
+  others = statements_left s path before h.after h.line h.name value obeys h.here h.content h.place
 
   named : (reading_after_lines start before).body ++ key (key_value h.name.key.first) ∷ [] ≡ path
   named = ap (λ (fs : List Further).
       (reading_after_lines start before).body ++ key (key_value h.name.key.first) ∷ map key (map further_value fs))
       (sym h.one) ∙ h.place
 
-  fresh : (d : Document) → statements_in d ≡ statements_of (before ++ h.after) → is_node path (mentions_in d) ≡ false
-  fresh d is =
+  fresh : is_node path (mentions_in now) ≡ false
+  fresh =
       let left : List Mention = lines_mentions start before in
       let right : List Mention = lines_mentions (reading_after_lines start before) h.after in
       let b = beside_keyval before h.after h.name value
-      (subst Rules (whole_mentions before h.after h.line h.name value h.content) rules) in
+      (subst Rules (whole_mentions before h.after h.line h.name value h.content)
+      (rules s path before h.after h.line h.name value obeys h.here h.content h.place)) in
       let all : AllOf (IsDisjoint path) (left ++ right) =
       subst (λ (q : List Part). AllOf (IsDisjoint q) (left ++ right)) h.place
       (all_join (IsDisjoint _) left right b.before b.after) in
-      let mentioned : mentions_in d ≡ left ++ right =
-      lines_mentions-statements start (lines d) ∙ ap (marks.mentions_from start) is
-      ∙ sym (lines_mentions-statements start (before ++ h.after)) ∙ lines_mentions-append start before h.after in
       ap₂ (λ (x y : Bool). x || y) (ap is_root (sym named) ∙ not_root (reading_after_lines start before).body)
-      (ap (list_any (is_at path)) mentioned ∙ not_at path (left ++ right) all)
+      (ap (list_any (is_at path))
+      (said_left s path before h.after h.line h.name value obeys h.here h.content h.place now others)
+      ∙ not_at path (left ++ right) all)
     where
       not_root : (p : List Part) → is_root (p ++ key (key_value h.name.key.first) ∷ []) ≡ false
       not_root [] = refl
       not_root (x ∷ p) = refl
 
-  -- the statements of the other lines are left
-  taken : (d : Document) (pre post : List Line) (l : Line) → lines s ≡ pre ++ l ∷ post
-      → IsOwnLine (reading_after_lines start pre).body path l.content
-      → statements_in d ≡ statements_of (pre ++ post) → HasLineAt d bare path (body_fact value.body) before
-  taken d pre post l is mine left =
-      let same = same_line pre post l is mine in
-      let others : statements_in d ≡ statements_of (before ++ h.after) =
-      left ∙ ap₂ (λ (xs ys : List Line). statements_of (xs ++ ys)) same.0 same.1 in
-      record {
-        line = record {
-          before = statements_of before;
-          after = statements_of h.after;
-          text = key_value h.name.key.first;
-          fact = body_fact value.body;
-          old = others ∙ statements-append before h.after;
-          new = whole;
-        };
-        after = refl;
-        place = ap (λ (r : Reading). r.body ++ key (key_value h.name.key.first) ∷ []) (reading_statements start before)
-            ∙ named;
-        gives = refl;
-        fresh = fresh d others;
-      }
-
-  -- ---- the two ways
-
-  cleared : EachTo (λ d. HasLineAt d bare path (body_fact value.body) before)
-      (in_document s (in_lines (clear_line path) start s.ended s.last))
-  cleared =
-      to_within (λ p. LinesCleared start path (lines s) (page_lines p))
-      (λ d. HasLineAt d bare path (body_fact value.body) before) (with_page s) _ []
-      (in_lines (clear_line path) start s.ended s.last)
-      (λ p c. taken (with_page s p) c.pre c.post c.old c.was c.own
-      (ap statements_of c.is ∙ statements-append c.pre (c.now ∷ c.post)
-      ∙ ap (λ (x : Content). statements_of c.pre ++ cons_option (statement_of x) (statements_of c.post)) c.clear
-      ∙ sym (statements-append c.pre c.post)))
-      (lines_cleared path start s.ended s.last)
-
-  abbrev is_mine : Reading → Line → Bool
-  is_mine r l = is_own path r l.content
-
-  dropped : (i : ℕ) → IsLastLine is_mine start (lines s) i
-      → HasLineAt (changed_or_same s (without_lines s i 1)).to bare path (body_fact value.body) before
-  dropped i f =
-      let few : i ≤ length s.ended =
-      omega (
-        arith,
-        sym f.number,
-        ap length f.was,
-        length-append (map line_of s.ended) (s.last ∷ []),
-        length-map s.ended line_of,
-        length-append f.pre (f.line ∷ f.post),
-      ) in
-      taken (changed_or_same s (without_lines s i 1)).to f.pre f.post f.line f.was
-      (own_line path (reading_after_lines start f.pre) f.line.content f.passes)
-      (dropped_statements i 1 s.ended s.last few
-      ∙ ap (λ (x : List Line). statements_of (take i x ++ drop 1 (drop i x))) f.was
-      ∙ ap (λ (k : ℕ). statements_of (take k (f.pre ++ f.line ∷ f.post) ++ drop 1 (drop k (f.pre ++ f.line ∷ f.post))))
-      (sym f.number)
-      ∙ ap₂ (λ (x y : List Line). statements_of (x ++ drop 1 y)) (take_prefix f.pre (f.line ∷ f.post))
-      (drop_prefix_of f.pre (f.line ∷ f.post)))
-
-  is_there : last_line is_mine start (lines s) ≡ None → ⊥
-  is_there gone =
-      not_found is_mine start before h.after h.line
-      (ap (is_own path (reading_after_lines start before)) h.content
-      ∙ (path_decides ((reading_after_lines start before).body ++ step 0 (Some h.name)) path).1 h.place)
-      (ap (last_line is_mine start) (sym h.here) ∙ gone)
-
-  -- what would be removed if no line gave the path a value
-  abbrev otherwise : Option (Changed Document)
-  otherwise =
-      or_else (elim (last_line (begins path) start (lines s)) [
-        | None ↦ None
-        | Some i ↦ without_lines s i (suc (body_length (drop (suc i) (lines s))))
-      ])
-      (nested removal path s)
-
-  abbrev unless_cleared : Option (Changed Document)
-  unless_cleared =
-      or_else (elim (last_line is_mine start (lines s)) [ None ↦ None | Some i ↦ without_lines s i 1 ]) otherwise
-
-  pub takes : HasLineAt (edited_document s (remove path)) bare path (body_fact value.body) before
-  takes = by (in_document s (in_lines (clear_line path) start s.ended s.last)) cleared
-    where
-      drops : (o : Option ℕ) → last_line is_mine start (lines s) ≡ o → IsFound is_mine start (lines s) o
-          → HasLineAt (changed_or_same s (or_else (elim o [ None ↦ None | Some i ↦ without_lines s i 1 ]) otherwise)).to
-          bare path (body_fact value.body) before
-      drops None e f = absurd (is_there e)
-      drops (Some i) e f = dropped i f
-
-      by : (o : Option (Changed Document)) → EachTo (λ d. HasLineAt d bare path (body_fact value.body) before) o
-          → HasLineAt (changed_or_same s (or_else o unless_cleared)).to bare path (body_fact value.body) before
-      by (Some c) h = h
-      by None h = drops (last_line is_mine start (lines s)) refl (found is_mine start (lines s))
+  pub takes : HasLineAt now bare path (body_fact value.body) before
+  takes = record {
+    line = record {
+      before = statements_of before;
+      after = statements_of h.after;
+      text = key_value h.name.key.first;
+      fact = body_fact value.body;
+      old = others ∙ statements-append before h.after;
+      new = whole;
+    };
+    after = refl;
+    place =
+        ap (λ (r : marks.Reading). r.body ++ key (key_value h.name.key.first) ∷ []) (reading_statements start before)
+        ∙ named;
+    gives = refl;
+    fresh = fresh;
+  }
 
 pub remove_takes_line : RemoveTakesLine
 remove_takes_line s path before value obeys h =

@@ -6,7 +6,7 @@
 -- is so line by line (`lines_around`).
 --
 -- Theorems: `moved_document`: the document says the same with the paths changed, and all numbers stay;
--- `lines_around`: line by line, where one keyval is another.
+-- `lines_around`: line by line, where one keyval is another; `split_even`.
 use Rattle.std.proofs.Common.{◌≡◌, ◌+◌, Bool, true, false, cond, List, [], ◌∷◌, ◌++◌, length, map, refl, sym, ap, ap₂}
 use Rattle.std.proofs.Common.{subst, ◌∙◌, arith, length-append, Option, Some, None}
 use Rattle.std.specs.Prelude.{⊤}
@@ -154,7 +154,8 @@ split_same g (x ∷ xs) ys zs e =
     let (same, after) = split_same g xs ys zs rest in
     (ap₂ (λ y l. y ∷ l) one same, after)
 
-split_even : {A : Type 0} (xs us ys vs : List A) → length xs ≡ length us → xs ++ ys ≡ us ++ vs → (xs ≡ us) × (ys ≡ vs)
+pub split_even : {A : Type 0} (xs us ys vs : List A) → length xs ≡ length us → xs ++ ys ≡ us ++ vs
+    → (xs ≡ us) × (ys ≡ vs)
 split_even [] [] ys vs many e = (refl, e)
 split_even [] (u ∷ us) ys vs many e = absurd (omega (arith, many))
 split_even (x ∷ xs) [] ys vs many e = absurd (omega (arith, many))

@@ -1,7 +1,7 @@
 //! The tree with one key more, that of a line: its node comes between those that are there.
 ghost use Rattle.std.specs.Prelude.{◌≡◌, ◌<◌, ◌∷◌, ◌++◌, [], OnErr, OnOk, false, length, true};
 ghost use Rattle.std.specs.List.{insert};
-ghost use Rattle.keep_path.specs.NodeInfos.{line_info, with_last, with_node};
+ghost use Rattle.keep_path.specs.NodeInfos.{dotted_info, line_info, with_last, with_node};
 ghost use Rattle.keep_path.specs.Path.{key};
 ghost use Rattle.keep_index_store.specs.Children.{holding};
 ghost use Rattle.keep_index_store.specs.Facts.{info_of};
@@ -28,7 +28,7 @@ pub fn holds_of(kind: Kind) -> Holds
 {
     match kind {
         Kind::Array => Holds::Items,
-        Kind::Inline => Holds::Keys,
+        Kind::Inline | Kind::Table => Holds::Keys,
         _ => Holds::Nothing,
     }
 }
@@ -40,6 +40,16 @@ pub fn line_facts(line: LineNumbers, kind: Kind) -> NodeFacts
     NodeFacts {
         role: Some(Role::Value),
         ..NodeFacts::named(kind, line.key, Origin::Value(line.value))
+    }
+}
+
+/// The facts about the node of a line's key from which its keyval continues by dots.
+pub fn dotted_facts(line: LineNumbers) -> NodeFacts
+    ensures { info_of result ≡ dotted_info (numbers_of line) }
+{
+    NodeFacts {
+        role: Some(Role::Dotted),
+        ..NodeFacts::named(Kind::Table, line.key, Origin::Dotted(line.value))
     }
 }
 

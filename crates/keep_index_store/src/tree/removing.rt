@@ -62,14 +62,16 @@ impl Tree {
         Ok(())
     }
 
-    /// Takes away the node of a line, as `remove_key` does, and all nodes in its value. The document had `old` values
-    /// and key parts, and has `bare` with the line and nothing in its value.
+    /// Takes away the node of a line, as `remove_key` does, and all nodes below it: those in its value, or those of the
+    /// keys by which it continues. The document had `old` values and key parts, and has `bare` with the line, where it
+    /// has one key and nothing in its value.
     ///
     /// # Errors
     ///
-    /// `NotInPlace` where the node is no child by key, or has no value; where the nodes below it do not follow it;
-    /// where a number would not fit where it is stored or the parent of some node is not stored in 8 bytes; and where
-    /// memory was refused. Then nothing is changed.
+    /// `NotInPlace` where the node is no child by key, or is neither that of a value nor that of a key from which one
+    /// keyval continues by dots; where the nodes below it do not follow it; where a number would not fit where it is
+    /// stored or the parent of some node is not stored in 8 bytes; and where memory was refused. Then nothing is
+    /// changed.
     pub fn remove_value(
         &mut self,
         id: usize,

@@ -20,13 +20,14 @@ pub struct ValueShifts {
     pub beside: NumberShifts,
 }
 
-/// How numbers are moved where the value of the node with these facts gives place to another. None where it has no
-/// value, or no key, or where a number has more bits than it can have.
+/// How numbers are moved where what is below the node with these facts gives place to other nodes: a node of a value,
+/// or of a key from which one keyval continues by dots. None where it is neither, or has no key, or where a number has
+/// more bits than it can have.
 pub fn value_shifts(own: NodeInfo, old: Totals, new: Totals) -> Option<ValueShifts>
     ensures inside { IfSome result (λ by. by.inside ≡ shifts_inside own) }
     ensures beside { IfSome result (λ by. by.beside ≡ shifts_beside own old new) }
 {
-    let (Some(key), Origin::Value(value)) = (own.key, own.origin) else {
+    let (Some(key), Origin::Value(value) | Origin::Dotted(value)) = (own.key, own.origin) else {
         return None;
     };
     let next_key = key.checked_add(1)?;
@@ -119,13 +120,15 @@ pub fn replace_value(
 impl Tree {
     /// The nodes below a node give place to those of another tree below its root, and the node has this kind. It is
     /// that of a value with a key, and the other tree has the nodes of a value alone, whose values have numbers from 1
-    /// on, and its key parts from 0 on. The document had `old` values and key parts, and now has `new`: numbers of what
-    /// comes after the value are moved by that.
+    /// on, and its key parts from 0 on; or it is that of a key from which one keyval continues by dots, and the other
+    /// tree has the nodes of its further keys alone, whose value has the number 0. The document had `old` values and
+    /// key parts, and now has `new`: numbers of what comes after the value are moved by that.
     ///
     /// # Errors
     ///
-    /// `NotInPlace` where the node is no child by key, or has no value; where the nodes below it do not follow it;
-    /// where a number would not fit where it is stored; and where memory was refused. Then nothing is changed.
+    /// `NotInPlace` where the node is no child by key, or is neither that of a value nor that of such a key; where the
+    /// nodes below it do not follow it; where a number would not fit where it is stored; and where memory was refused.
+    /// Then nothing is changed.
     pub fn replace_below(
         &mut self,
         id: usize,

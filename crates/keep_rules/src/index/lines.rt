@@ -1,6 +1,7 @@
 //! The index where a line comes or goes: it changes in place.
-ghost use Rattle.std.specs.Prelude.{◌≡◌, ◌<◌, ◌≤◌, ◌∷◌, ◌++◌, [], ℕ, IfSome, OnErr, OnOk, length};
+ghost use Rattle.std.specs.Prelude.{◌≡◌, ◌<◌, ◌≤◌, ◌∷◌, ◌++◌, [], ℕ, IfSome, List, OnErr, OnOk, drop, length, map};
 ghost use Rattle.keep_types.specs.declared.node.Kind.{Kind};
+ghost use Rattle.keep_types.specs.declared.node.Kind.TheVariants.{Table};
 ghost use Rattle.keep_syntax.specs.Tree.{Value};
 ghost use Rattle.keep_index_store.specs.Below.{totals_in};
 ghost use Rattle.keep_index_store.specs.Renumbering.{numbers_of};
@@ -8,13 +9,15 @@ ghost use Rattle.keep_meaning.specs.LinesMore as spec;
 ghost use Rattle.keep_meaning.specs.Meaning.{body_fact};
 ghost use Rattle.keep_meaning.specs.Nodes.{fact_kind};
 ghost use Rattle.keep_meaning.specs.OtherValues.{nodes_in_value};
-ghost use Rattle.keep_path.specs.NodeInfos.{line_info, root_infos, with_last, with_node, without_node};
+ghost use Rattle.keep_path.specs.KeysAlone.{keys_alone};
+ghost use Rattle.keep_path.specs.NodeInfos.{line_info, root_infos, with_last, with_node, with_table, without_node};
 ghost use Rattle.keep_path.specs.NodesBelow.{AreBelow, with_value};
 ghost use Rattle.keep_path.specs.Path.{key};
 ghost use Rattle.keep_rules.specs.LinePlaces.{IsPlaceOf, one_more};
 ghost use Rattle.keep_rules.specs.Lookup.{path_numbered};
 ghost use Rattle.keep_rules.specs.ValueTexts.{IsTextOfValue};
 
+use super::new_keys::{NewKeys, key_at, nodes_of_keys};
 use super::values::nodes_of_value;
 use super::{Index, NodeId};
 use crate::value::ValueText;
@@ -151,6 +154,55 @@ impl Index {
         self.nodes.insert_value(parent.0, text, line, at, given)
     }
 
+    /// One line more defines keys of the table `parent`: its keys go on by dots, and its value is of this kind, with
+    /// nothing nested in it. The node of the first of them is a table, and comes before the first that is met after the
+    /// line; the nodes of the others come each after the one before it. `line` has the numbers of the line's statement,
+    /// of its value and of the first of these keys in the syntax, and the facts about all others have their numbers
+    /// with the line. The document had `old` values and key parts in all, and now has `new`. It takes the memory of the
+    /// new nodes and their keys.
+    ///
+    /// # Errors
+    ///
+    /// `NotInPlace` where `parent` takes no keys or has the first of these, where there are fewer than two or one of
+    /// the steps is an index, where a number would not fit where it is stored, and where memory was refused; then
+    /// nothing has changed, and the index has to be built anew.
+    pub fn insert_keys(
+        &mut self,
+        parent: NodeId,
+        keys: NewKeys<'_>,
+        line: LineNumbers,
+        kind: Kind,
+        old: Totals,
+        new: Totals,
+    ) -> Result<(), NotInPlace>
+        requires { parent.0 < length self.old.paths }
+        ensures inserted { OnOk result ((at : ℕ) → IsPlaceOf (numbers_of line) self.old.infos at
+            → (first : List ℕ) (further : List (List ℕ))
+            → drop keys.entry.from keys.entry.path.now ≡ map key (first ∷ further)
+            → self.new ≡ with_value (with_table self.old at (numbers_of line)
+            (path_numbered self.old parent.0 ++ key first ∷ [])) at 0 (one_more (totals_in old)) (totals_in new)
+            (keys_alone further kind) Table) }
+        ensures refused { OnErr result (self.new ≡ self.old) }
+    {
+        let NewKeys { path, from } = keys;
+        if path.len().saturating_sub(1) <= from {
+            return Err(NotInPlace);
+        }
+        let first = key_at(path, from)?;
+        let Some(bare) = with_line(old) else {
+            return Err(NotInPlace);
+        };
+        let inside = nodes_of_keys(self.nodes.allocator(), path, from + 1, kind)?;
+        let at = first_met_from(&self.nodes, line);
+        let given = NewValue {
+            inside,
+            kind: Kind::Table,
+            old: bare,
+            new,
+        };
+        self.nodes.insert_table(parent.0, first, line, at, given)
+    }
+
     /// The line of a node goes: a keyval of one key part, with a value in which nothing is nested. Each node after it
     /// has the number before its own. `line` has the numbers of the line in the syntax, and the facts about all others
     /// have their numbers without it. It takes no memory.
@@ -167,13 +219,14 @@ impl Index {
         self.nodes.remove_key(node.0, line)
     }
 
-    /// The line of a node goes: a keyval of one key part, and all nodes in its value with it. The document had `old`
-    /// values and key parts in all, and now has `new`.
+    /// The line of a node goes: a keyval of one key part, and all nodes in its value with it; or a keyval that goes on
+    /// from the node by dots, the only one that does, and the nodes of its further keys. The document had `old` values
+    /// and key parts in all, and now has `new`.
     ///
     /// # Errors
     ///
-    /// Those of `remove_line`, and `NotInPlace` where the nodes in the value do not follow its own, or memory was
-    /// refused; then nothing has changed, and the index has to be built anew.
+    /// Those of `remove_line`, but that the node may have children, and `NotInPlace` where the nodes below it do not
+    /// follow it, or memory was refused; then nothing has changed, and the index has to be built anew.
     pub fn remove_value(
         &mut self,
         node: NodeId,

@@ -56,8 +56,9 @@ impl Index {
     ///
     /// # Errors
     ///
-    /// `NotInPlace` where the node is an item or an element, or has no value, where a number would not fit where it is
-    /// stored, and where memory was refused; then nothing has changed, and the index has to be built anew.
+    /// `NotInPlace` where the node is an item or an element, or is neither that of a value nor that of a key from which
+    /// a keyval continues by dots, where a number would not fit where it is stored, and where memory was refused; then
+    /// nothing has changed, and the index has to be built anew.
     pub fn set_value(
         &mut self,
         node: NodeId,

@@ -10,3 +10,11 @@ returns-in-AddedValue-clause-changed c = λ d was done.
     (λ v text.
     from_ok _ c.insert_value.result (sym c.is_ok-in-AddedValue.ensures.value ∙ done) c.insert_value.ensures.inserted _
     can.2 v text)
+
+pub returns-in-AddedKeys-clause-changed : goal.returns-in-AddedKeys-clause-changed
+returns-in-AddedKeys-clause-changed c = λ d was done.
+    let can = subst (CanChange c.args.index.now) c.in-AddedKeys.is c.requires in
+    rw (c.in-AddedKeys.is, sym (c.totals_of-in-AddedKeys.ensures d was.is))
+    (λ first further keys.
+    from_ok _ c.insert_keys.result (sym c.is_ok-in-AddedKeys.ensures.value ∙ done) c.insert_keys.ensures.inserted _
+    can.2 first further keys)

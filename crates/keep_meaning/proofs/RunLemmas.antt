@@ -1,15 +1,14 @@
--- Another value in the place of one: which paths there are with either (`paths_are`), and what is said at each (`here`,
--- `elsewhere`, `inside`).
+-- A run of mentions in a document, as a value with a key says it: which paths there are with it (`paths_are`), and what
+-- is said at each (`here`, `elsewhere`, `inside`).
 --
--- A value has one run of mentions: its own, and then those in it, at longer paths. What is said before the run and
--- after it is said of other paths. So the paths of a run are met together, right after the value's own, and those met
--- after it are the same with either run (`further`). What is said in a run is what the value alone says, with the
--- value's path before each path and with the numbers that it has there (`run_moved`). The facts about a node go by what
--- is said of it, in its order: with other numbers for that they have these numbers, and nothing else changes
--- (`info_moved`).
+-- A run is a mention by a key part, and then those at longer paths. What is said before the run and after it is said of
+-- other paths. So the paths of a run are met together, right after its own, and those met after it are the same with
+-- any run there (`further`). What is said in a run is what it alone says, with its path before each path and with the
+-- numbers that it has there (`run_moved`). The facts about a node go by what is said of it, in its order: with other
+-- numbers for that they have these numbers, and nothing else changes (`info_moved`).
 --
--- Theorems: `paths_are`: the paths with a value; `inside`: below its path is said what the value alone says;
--- `info_moved`: with other numbers nothing else changes in the facts.
+-- Theorems: `paths_are`: the paths with a run; `inside`: below its path is said what the run alone says; `info_moved`:
+-- with other numbers nothing else changes in the facts.
 use Rattle.std.proofs.Common.{◌≡◌, ℕ, suc, ◌+◌, ◌-◌, ◌<◌, ◌≤◌, Bool, true, false, cond, ◌||◌, List, [], ◌∷◌, ◌++◌, map}
 use Rattle.std.proofs.Common.{refl, sym, ap, ap₂, ◌∙◌, arith, append-nil, append_assoc, Option, Some, None}
 use Rattle.std.specs.Prelude.{fold, if◌then◌else◌}
@@ -36,7 +35,7 @@ use Rattle.keep_meaning.specs.Nodes.{is_begun, is_define, is_dotted, is_element,
 use Rattle.keep_meaning.specs.Nodes.{is_through, first_number, last_number, key_number, mention_kind_of, mention_of}
 use Rattle.keep_meaning.specs.Nodes.{mentioned_kind, mentioned_node, mentioned_origin, node_info, node_paths}
 use Rattle.keep_meaning.specs.Nodes.{numbered_at, paths_with, statement_number, value_number}
-use Rattle.keep_meaning.specs.OtherValues.{IsApart, said_by_value}
+use Rattle.keep_meaning.specs.OtherValues.{IsApart}
 use Rattle.keep_meaning.proofs.CountLemmas.{mentions-numbered_mentions}
 use Rattle.keep_meaning.proofs.LineNodeLemmas.{fitting, fitting_later, map_twice, path_of}
 use Rattle.keep_meaning.proofs.LineNumberLemmas.{AllOf, all_join, all_of}
@@ -86,7 +85,7 @@ same_below path p q = by (same_path (path ++ p) (path ++ q)) (same_path p q) the
     back : same_path p q ≡ true → same_path (path ++ p) (path ++ q) ≡ true
     back e = (path_decides (path ++ p) (path ++ q)).1 (ap (λ (r : List Part). path ++ r) ((path_decides p q).0 e))
 
-same_self : (p : List Part) → same_path p p ≡ true
+pub same_self : (p : List Part) → same_path p p ≡ true
 same_self p = (path_decides p p).1 refl
 
 not_root : (p : List Part) → is_root p ≡ false → same_path p [] ≡ false
@@ -274,7 +273,7 @@ deeper_under p (m ∷ ms) h = ((refl, h.0), deeper_under p ms h.1)
 of_body : (ms : List Mention) → AllOf IsDeeper ms → AllOf IsOfBody ms
 of_body ms h = all_of IsDeeper IsOfBody (λ m g. g.1) ms h
 
-deeper_keys : (k : List ℕ) (ks : List (List ℕ)) (ms : List Mention) → AllOf IsOfBody ms
+pub deeper_keys : (k : List ℕ) (ks : List (List ℕ)) (ms : List Mention) → AllOf IsOfBody ms
     → AllOf IsDeeper (keyed_mentions (k ∷ ks) ms)
 deeper_keys k [] ms h = deeper_under (key k) ms h
 deeper_keys k (l ∷ ks) ms h =
@@ -301,11 +300,10 @@ all_paths [] h = tt
 all_paths (m ∷ ms) h = (h.0.0, all_paths ms h.1)
 
 -- so the paths that are met in it are longer ones
-pub deeper_met : (es : Entries)
-    → AllOf (λ (q : List Part). is_root q ≡ false) (deeper (map path_of (entries_mentions 0 es)))
-deeper_met es =
-    all_further (λ (q : List Part). is_root q ≡ false) ([] ∷ []) [] (map path_of (entries_mentions 0 es)) tt
-    (all_paths (entries_mentions 0 es) (deeper_inside 0 es))
+pub deeper_met : (ms : List Mention) → AllOf IsDeeper ms
+    → AllOf (λ (q : List Part). is_root q ≡ false) (deeper (map path_of ms))
+deeper_met ms deep =
+    all_further (λ (q : List Part). is_root q ≡ false) ([] ∷ []) [] (map path_of ms) tt (all_paths ms deep)
 
 pub all_numbered : (P : Mention → Type 0) (c : Count) (ms : List Mention) → AllOf P ms
     → AllOf (λ (n : Numbered). P n.mention) (numbered_mentions c ms)
@@ -481,10 +479,15 @@ high_shifts from old new n high = ap (λ (b : Bool). cond b n ((n + new) - old))
 pub inner_grows : (more n : ℕ) → shifted 0 0 more n ≡ n + more
 inner_grows more n = let same : (n + more) - 0 ≡ n + more = omega arith in high_shifts 0 0 more n (omega arith) ∙ same
 
--- ---- one document with a value
+-- ---- one document with a run: a mention by a key part, and what is said below its path
 
-abbrev pub alone : Count
-alone = record { statements = 0; values = 1; keys = 0 }
+-- what comes before that which is said below, alone: the value, if the first mention states one
+abbrev pub count_alone : MentionKind → Count
+count_alone k = record { statements = 0; values = one_if (is_value k); keys = 0 }
+
+-- a run of this path, after so much
+abbrev pub said_by_run : Count → List Part → MentionKind → List Mention → List Numbered
+said_by_run c path k nested = numbered_mentions c (record { path = path; kind = k } ∷ map (below path) nested)
 
 -- none of these is said of the path
 abbrev IsNotAt : List Part → Numbered → Type 0
@@ -494,7 +497,8 @@ none_said : (q : List Part) (ns : List Numbered) → AllOf (IsNotAt q) ns → nu
 none_said q [] h = refl
 none_said q (n ∷ ns) h = ap (λ (b : Bool). cond b (n ∷ numbered_at q ns) (numbered_at q ns)) h.0 ∙ none_said q ns h.1
 
-none_under : (q path : List Part) (P : Mention → Type 0) → ((m : Mention) → P m → same_path (path ++ m.path) q ≡ false)
+pub none_under : (q path : List Part) (P : Mention → Type 0)
+    → ((m : Mention) → P m → same_path (path ++ m.path) q ≡ false)
     → (c : Count) (ms : List Mention) → AllOf P ms → numbered_at q (numbered_mentions c (map (below path) ms)) ≡ []
 none_under q path P apart c [] h = refl
 none_under q path P apart c (m ∷ ms) h =
@@ -512,16 +516,16 @@ pub off_paths : (path : List Part) (ns : List Numbered) → AllOf (IsApart path)
 off_paths path [] h = tt
 off_paths path (n ∷ ns) h = (h.0, off_paths path ns h.1)
 
--- in the run of a value with this path, after so much
+-- in the run of this path, after so much
 module _ (path : List Part) (c : Count) where
-  abbrev pub in_value : Numbered → Numbered
-  in_value = moved path (λ (s : ℕ). c.statements) (shifted 0 0 c.values) (shifted 0 0 (suc c.keys))
+  abbrev pub in_run : Numbered → Numbered
+  in_run = moved path (λ (s : ℕ). c.statements) (shifted 0 0 c.values) (shifted 0 0 (suc c.keys))
 
-  abbrev pub count_in_value : Count → Count
-  count_in_value = moved_count path (λ (s : ℕ). c.statements) (shifted 0 0 c.values) (shifted 0 0 (suc c.keys))
+  abbrev pub count_in_run : Count → Count
+  count_in_run = moved_count path (λ (s : ℕ). c.statements) (shifted 0 0 c.values) (shifted 0 0 (suc c.keys))
 
   count_grows : (d : Count) (m : Mention)
-      → count_with_mention (count_in_value d) (below path m) ≡ count_in_value (count_with_mention d m)
+      → count_with_mention (count_in_run d) (below path m) ≡ count_in_run (count_with_mention d m)
   count_grows d m =
       let v : ℕ = one_if (is_value m.kind) in
       let k : ℕ = one_if (is_mark m.kind) in
@@ -532,46 +536,45 @@ module _ (path : List Part) (c : Count) where
       ap₂ (λ (v k : ℕ). record { statements = c.statements; values = v; keys = k }) values keys
 
   run_from : (d : Count) (ms : List Mention)
-      → numbered_mentions (count_in_value d) (map (below path) ms) ≡ map in_value (numbered_mentions d ms)
+      → numbered_mentions (count_in_run d) (map (below path) ms) ≡ map in_run (numbered_mentions d ms)
   run_from d [] = refl
   run_from d (m ∷ ms) =
-      ap (λ (ns : List Numbered). record { mention = below path m; before = count_in_value d } ∷ ns)
+      ap (λ (ns : List Numbered). record { mention = below path m; before = count_in_run d } ∷ ns)
       (ap (λ (e : Count). numbered_mentions e (map (below path) ms)) (count_grows d m)
       ∙ run_from (count_with_mention d m) ms)
 
-  abbrev own : Fact → Mention
-  own f = record { path = path; kind = mentions_value f }
+  abbrev own : MentionKind → Mention
+  own k = record { path = path; kind = k }
 
-  run_moved : (f : Fact) (ms : List Mention)
-      → numbered_mentions (count_with_mention c (own f)) (map (below path) ms)
-      ≡ map in_value (numbered_mentions alone ms)
-  run_moved f ms =
-      let values : c.values + 1 ≡ shifted 0 0 c.values 1 = omega (arith, inner_grows c.values 1) in
-      let keys : c.keys + 1 ≡ shifted 0 0 (suc c.keys) 0 = omega (arith, inner_grows (suc c.keys) 0) in
-      ap₂ (λ (v k : ℕ).
-      numbered_mentions (record { statements = c.statements; values = v; keys = k }) (map (below path) ms)) values keys
-      ∙ run_from alone ms
+  run_moved : (k : MentionKind) → is_mark k ≡ true → (ms : List Mention)
+      → numbered_mentions (count_with_mention c (own k)) (map (below path) ms)
+      ≡ map in_run (numbered_mentions (count_alone k) ms)
+  run_moved k marked ms =
+      let more : ℕ = one_if (is_value k) in
+      let values : c.values + more ≡ shifted 0 0 c.values more = omega (arith, inner_grows c.values more) in
+      let keys : c.keys + one_if (is_mark k) ≡ shifted 0 0 (suc c.keys) 0 =
+      omega (arith, inner_grows (suc c.keys) 0, ap one_if marked) in
+      ap₂ (λ (v n : ℕ).
+      numbered_mentions (record { statements = c.statements; values = v; keys = n }) (map (below path) ms)) values keys
+      ∙ run_from (count_alone k) ms
 
-  module _ (f : Fact) (es : Entries) (xs ys : List Numbered) (off_xs : AllOf (IsApart path) xs)
-      (off_ys : AllOf (IsApart path) ys) where
+  module _ (k : MentionKind) (marked : is_mark k ≡ true) (nested : List Mention) (deep : AllOf IsDeeper nested)
+      (xs ys : List Numbered) (off_xs : AllOf (IsApart path) xs) (off_ys : AllOf (IsApart path) ys) where
     abbrev pub all_said : List Numbered
-    all_said = xs ++ (said_by_value c path f es ++ ys)
-
-    abbrev nested : List Mention
-    nested = entries_mentions 0 es
+    all_said = xs ++ (said_by_run c path k nested ++ ys)
 
     abbrev first : Numbered
-    first = record { mention = own f; before = c }
+    first = record { mention = own k; before = c }
 
     abbrev rest : List Numbered
-    rest = numbered_mentions (count_with_mention c (own f)) (map (below path) nested)
+    rest = numbered_mentions (count_with_mention c (own k)) (map (below path) nested)
 
     parts_at : (q : List Part)
-        → numbered_at q all_said ≡ numbered_at q xs ++ (numbered_at q (said_by_value c path f es) ++ numbered_at q ys)
+        → numbered_at q all_said ≡ numbered_at q xs ++ (numbered_at q (said_by_run c path k nested) ++ numbered_at q ys)
     parts_at q =
-        filter-append (is_numbered_at q) xs (said_by_value c path f es ++ ys)
+        filter-append (is_numbered_at q) xs (said_by_run c path k nested ++ ys)
         ∙ ap (λ (l : List Numbered). numbered_at q xs ++ l)
-        (filter-append (is_numbered_at q) (said_by_value c path f es) ys)
+        (filter-append (is_numbered_at q) (said_by_run c path k nested) ys)
 
     off_numbered : (more : List Part) (ns : List Numbered) → AllOf (IsApart path) ns
         → numbered_at (path ++ more) ns ≡ []
@@ -582,19 +585,19 @@ module _ (path : List Part) (c : Count) where
     off_own : (ns : List Numbered) → AllOf (IsApart path) ns → numbered_at path ns ≡ []
     off_own ns h = none_said path ns (all_of (IsApart path) (IsNotAt path) (λ n g. off_self path n.mention.path g) ns h)
 
-    -- of the path only its value says something
+    -- of the path only its first mention says something
     pub here : numbered_at path all_said ≡ first ∷ []
     here =
         parts_at path
-        ∙ ap₂ (λ (l m : List Numbered). l ++ (numbered_at path (said_by_value c path f es) ++ m)) (off_own xs off_xs)
+        ∙ ap₂ (λ (l m : List Numbered). l ++ (numbered_at path (said_by_run c path k nested) ++ m)) (off_own xs off_xs)
         (off_own ys off_ys)
-        ∙ append-nil (numbered_at path (said_by_value c path f es))
+        ∙ append-nil (numbered_at path (said_by_run c path k nested))
         ∙ ap (λ (b : Bool). cond b (first ∷ numbered_at path rest) (numbered_at path rest)) (same_self path)
         ∙ ap (λ (l : List Numbered). first ∷ l)
-        (none_under path path IsDeeper (λ m g. deeper_not path m.path g.0) (count_with_mention c (own f)) nested
-        (deeper_inside 0 es))
+        (none_under path path IsDeeper (λ m g. deeper_not path m.path g.0) (count_with_mention c (own k)) nested
+        deep)
 
-    -- of another path that is not below it, the value says nothing
+    -- of another path that is not below it, the run says nothing
     pub elsewhere : (q : List Part) → IsOff path q → numbered_at q all_said ≡ numbered_at q xs ++ numbered_at q ys
     elsewhere q off =
         let differs : same_path path q ≡ false =
@@ -603,32 +606,32 @@ module _ (path : List Part) (c : Count) where
         ∙ ap (λ (l : List Numbered). numbered_at q xs ++ (l ++ numbered_at q ys))
         (ap (λ (b : Bool). cond b (first ∷ numbered_at q rest) (numbered_at q rest)) differs
         ∙ none_under q path (λ (m : Mention). same_path (path ++ m.path) q ≡ false) (λ m g. g)
-        (count_with_mention c (own f)) nested
+        (count_with_mention c (own k)) nested
         (all_any (λ (m : Mention). same_path (path ++ m.path) q ≡ false) (λ m. off_turned path q m.path off) nested))
 
-    -- of a path below it, what the value alone says
+    -- of a path below it, what the run alone says
     pub inside : (more : List Part) → is_root more ≡ false
-        → numbered_at (path ++ more) all_said ≡ map in_value (numbered_at more (numbered_mentions alone nested))
+        → numbered_at (path ++ more) all_said ≡ map in_run (numbered_at more (numbered_mentions (count_alone k) nested))
     inside more longer =
         let q : List Part = path ++ more in
         let differs : same_path path q ≡ false = same_turned path q ∙ deeper_not path more longer in
         parts_at q
-        ∙ ap₂ (λ (l m : List Numbered). l ++ (numbered_at q (said_by_value c path f es) ++ m))
+        ∙ ap₂ (λ (l m : List Numbered). l ++ (numbered_at q (said_by_run c path k nested) ++ m))
         (off_numbered more xs off_xs) (off_numbered more ys off_ys)
-        ∙ append-nil (numbered_at q (said_by_value c path f es))
+        ∙ append-nil (numbered_at q (said_by_run c path k nested))
         ∙ ap (λ (b : Bool). cond b (first ∷ numbered_at q rest) (numbered_at q rest)) differs
-        ∙ ap (numbered_at q) (run_moved f nested)
+        ∙ ap (numbered_at q) (run_moved k marked nested)
         ∙ numbered_moved path (λ (s : ℕ). c.statements) (shifted 0 0 c.values) (shifted 0 0 (suc c.keys)) q more
-        (λ m. same_below path m.path more) (numbered_mentions alone nested)
+        (λ m. same_below path m.path more) (numbered_mentions (count_alone k) nested)
 
-    said_paths : map mention_of all_said ≡ map mention_of xs ++ (own f ∷ (map (below path) nested ++ map mention_of ys))
+    said_paths : map mention_of all_said ≡ map mention_of xs ++ (own k ∷ (map (below path) nested ++ map mention_of ys))
     said_paths =
-        map-append mention_of xs (said_by_value c path f es ++ ys)
-        ∙ ap (λ (l : List Mention). map mention_of xs ++ l) (map-append mention_of (said_by_value c path f es) ys)
-        ∙ ap (λ (l : List Mention). map mention_of xs ++ (own f ∷ (l ++ map mention_of ys)))
-        (mentions-numbered_mentions (count_with_mention c (own f)) (map (below path) nested))
+        map-append mention_of xs (said_by_run c path k nested ++ ys)
+        ∙ ap (λ (l : List Mention). map mention_of xs ++ l) (map-append mention_of (said_by_run c path k nested) ys)
+        ∙ ap (λ (l : List Mention). map mention_of xs ++ (own k ∷ (l ++ map mention_of ys)))
+        (mentions-numbered_mentions (count_with_mention c (own k)) (map (below path) nested))
 
-    -- the paths in the value are met together, after its own
+    -- the paths in the run are met together, after its own
     pub paths_are : (met : FirstMet path (map path_of (map mention_of xs)))
         → node_paths (map mention_of all_said) ≡ met.front
         ++ (path ∷ (map (λ (x : List Part). path ++ x) (deeper (map path_of nested))
@@ -638,7 +641,7 @@ module _ (path : List Part) (c : Count) where
         let after : List (List Part) = map path_of (map mention_of ys) in
         ap node_paths said_paths
         ∙ ap (fold paths_with ([] ∷ [])) (
-        map-append path_of (map mention_of xs) (own f ∷ (map (below path) nested ++ map mention_of ys))
+        map-append path_of (map mention_of xs) (own k ∷ (map (below path) nested ++ map mention_of ys))
         ∙ ap (λ (l : List (List Part)). before ++ (path ∷ l))
         (map-append path_of (map (below path) nested) (map mention_of ys))
         ∙ ap (λ (l : List (List Part)). before ++ (path ∷ (l ++ after)))

@@ -5,7 +5,7 @@ use Rattle.keep_path.proofs.Shared.{infos_back}
 use Rattle.keep_index_store.specs.Renumbering.{numbers_of}
 use Rattle.keep_index_store.specs.Tree.{node_infos}
 use Rattle.keep_index_store.specs.Trie.{paths_of}
-use Rattle.keep_index_store.proofs.tree.Tree.insert_value.Goals as goal
+use Rattle.keep_index_store.proofs.tree.Tree.insert_line_node.Goals as goal
 
 pub returns-then-not-insert_with_value-clause-refused : goal.returns-then-not-insert_with_value-clause-refused
 returns-then-not-insert_with_value-clause-refused c =

@@ -8,11 +8,12 @@ use Rattle.keep_syntax.specs.Tree.{Document}
 use Rattle.keep_path.specs.Path.{Part, same_path}
 use Rattle.keep_path.proofs.Shared.{path_decides}
 use Rattle.keep_meaning.specs.Counts.{numbered_in}
+use Rattle.keep_meaning.specs.LinesMore.{node_infos}
 use Rattle.keep_meaning.specs.Marks.{Mention}
 use Rattle.keep_meaning.specs.Nodes.{node_number, node_paths}
 use Rattle.keep_meaning.proofs.Shared.{mentions-numbered_in, paths-nodes_in}
-use Rattle.keep_rules.proofs.Shared.{met_or_unmet, node_paths-distinct, one_place}
-use Rattle.keep_edit_plan.specs.Reading.{telling_in}
+use Rattle.keep_rules.proofs.AllInfoLemmas.{met_or_unmet, node_paths-distinct}
+use Rattle.keep_rules.proofs.RoleStateLemmas.{one_place}
 
 -- a path that stands there has a number
 pub has_number : (ps : List (List Part)) (i : ℕ) (p : List Part) → i < length ps → get_or ps i [] ≡ p
@@ -31,7 +32,7 @@ number_at ps differ i p low here = elim (met_or_unmet ps p) [
   | inr u ↦ absurd (has_number ps i p low here u.is)
 ]
 
-pub paths_differ : (s : Document) → AllPairs (λ p q. p ≢ q) (telling_in s).paths
+pub paths_differ : (s : Document) → AllPairs (λ p q. p ≢ q) (node_infos s).paths
 paths_differ s =
     subst (λ (ps : List (List Part)). AllPairs (λ p q. p ≢ q) ps) (sym (paths-nodes_in s))
     (subst (λ (ms : List Mention). AllPairs (λ p q. p ≢ q) (node_paths ms)) (mentions-numbered_in s)

@@ -1,0 +1,230 @@
+-- An insert of several keys at the end of a body, with nothing in its value, gives the index the node of the first of
+-- them, and below it those of the others.
+--
+-- The path goes on from its holder by keys (`keys`), of which the law of the edit says that the new document has a line
+-- more by them. The line comes in the body of the holder (`body_is`), so its keys are those of the path (`same_keys`),
+-- and its first key's node comes where the facts say that the first node is met after the line (`at`). So the nodes are
+-- those that the law of such a line tells (`facts`).
+--
+-- Theorem: `keys_added`; `first_of_keys`: two ways to go on by keys to one path are the same.
+use Rattle.std.proofs.Common.{◌≡◌, ℕ, ◌-◌, ◌≤◌, Bor, false, List, [], ◌∷◌, ◌++◌, length, map, take, drop, refl, sym}
+use Rattle.std.proofs.Common.{ap, subst, ◌∙◌, arith, append_assoc, length-drop, Option, Some, None, Ok}
+use Rattle.std.proofs.lemmas.List.{append-nil, append_cancel_left}
+use Rattle.keep_types.specs.declared.node.Kind.{Kind}
+use Rattle.keep_types.specs.declared.node.Kind.TheVariants.{Table}
+use Rattle.keep_syntax.specs.declared.syntax.Syntax.{Syntax}
+use Rattle.keep_syntax.specs.Tree.{Value, Document, value_depth}
+use Rattle.keep_path.specs.KeysAlone.{keys_alone}
+use Rattle.keep_path.specs.NodeInfos as node_infos
+use Rattle.keep_path.specs.NodeInfos.{NodeInfos, with_table}
+use Rattle.keep_path.specs.NodesBelow.{Totals, one_more, with_value}
+use Rattle.keep_path.specs.Path.{Part, AreUtf8, key}
+use Rattle.keep_index_store.specs.Below.{totals_in}
+use Rattle.keep_index_store.specs.declared.renumbering.LineNumbers.{LineNumbers}
+use Rattle.keep_index_store.specs.declared.shift.Totals as shift
+use Rattle.keep_index_store.specs.Renumbering.{numbers_of}
+use Rattle.keep_meaning.specs.KeysMore.{HasKeysMore, KeysAddNodes, KeysAreFound}
+use Rattle.keep_meaning.specs.LinesMore.{nodes_after, numbers_after, path_after}
+use Rattle.keep_meaning.specs.Marks.{Reading, Statement, reading_after, start}
+use Rattle.keep_meaning.specs.Meaning.{body_fact, lines, mentions_in}
+use Rattle.keep_meaning.specs.Nodes.{fact_kind, infos_in, is_node, node_number}
+use Rattle.keep_meaning.specs.OtherValues.{totals_of}
+use Rattle.keep_meaning.proofs.Shared.{paths-nodes_in}
+use Rattle.keep_rules.specs.declared.index.NodeId.{NodeId}
+use Rattle.keep_rules.specs.LinePlaces.{IsPlaceOf}
+use Rattle.keep_rules.specs.LinesNested.{KeysAreNested}
+use Rattle.keep_rules.specs.Lookup.{path_numbered}
+use Rattle.keep_rules.proofs.Shared.{number_is, place_is}
+use Rattle.keep_edit_spec.specs.Edits.{edited_document, insert}
+use Rattle.keep_edit_spec.specs.KeyvalLines.{HasKeysAt, InsertAddsKeys}
+use Rattle.keep_edit_spec.specs.Look.{holder}
+use Rattle.keep_edit_spec.proofs.Shared.{IsNewPath, end_is, new_path, reading_statements}
+use Rattle.keep_edit_plan.specs.IndexChanges.{IsIndexChange}
+use Rattle.keep_edit_plan.specs.Inserting.{IsInsertionOf}
+use Rattle.keep_edit_plan.specs.LineNumbers.{AreNumbersAfter}
+use Rattle.keep_edit_plan.specs.Reading.{limit, ProfiledText, Holds, IsTextOfTree, IsTextOfValue, telling_in}
+use Rattle.keep_edit_plan.specs.declared.insert.Insertion.{Insertion}
+use Rattle.keep_edit_plan.specs.declared.insert.Spot.TheVariants.{AfterBody}
+use Rattle.keep_edit_plan.specs.declared.plan.IndexChange.TheVariants as change
+use Rattle.keep_edit_plan.proofs.AnswerLaws.{stated_is}
+use Rattle.keep_edit_plan.proofs.KeyLaws.{no_number}
+use Rattle.keep_edit_plan.proofs.KeysLaws.{keys_utf8}
+use Rattle.keep_edit_plan.proofs.KindLaws.{no_entries}
+use Rattle.keep_edit_plan.proofs.LineChangeLaws as line_change
+use Rattle.keep_edit_plan.proofs.LineChangeLaws.{place_in}
+
+-- ---- keys at the end of a path
+
+keys_same : (ks ls : List (List ℕ)) → map key ks ≡ map key ls → ks ≡ ls
+keys_same [] [] e = refl
+keys_same [] (l ∷ ls) e = absurd cc
+keys_same (k ∷ ks) [] e = absurd cc
+keys_same (k ∷ ks) (l ∷ ls) e =
+    let first : k ≡ l = cc in
+    let rest : map key ks ≡ map key ls = cc in
+    ap (λ (x : List ℕ). x ∷ ks) first ∙ ap (λ (xs : List (List ℕ)). l ∷ xs) (keys_same ks ls rest)
+
+one_first : (k l : List ℕ) (ks ls : List (List ℕ)) → k ∷ ks ≡ l ∷ ls → (k ≡ l) × (ks ≡ ls)
+one_first k l ks ls e = (let first : k ≡ l = cc in first, let rest : ks ≡ ls = cc in rest)
+
+pub first_of_keys : (a : List Part) (k l : List ℕ) (ks ls : List (List ℕ))
+    → (a ++ key k ∷ []) ++ map key ks ≡ a ++ map key (l ∷ ls) → (k ≡ l) × (ks ≡ ls)
+first_of_keys a k l ks ls e =
+    one_first k l ks ls
+    (keys_same (k ∷ ks) (l ∷ ls) (append_cancel_left a (key k ∷ map key ks) (map key (l ∷ ls))
+    (sym (append_assoc a (key k ∷ []) (map key ks)) ∙ e)))
+
+-- ---- the insert
+
+module _ (adds : InsertAddsKeys) (add_nodes : KeysAddNodes) (are_found : KeysAreFound) (are_nested : KeysAreNested)
+    (d : ProfiledText) (syntax : Syntax) (index : NodeInfos) (given : Bor (List Part)) (s : Document) (v : Value)
+    (bytes : List ℕ) (i : Insertion)
+    (holds : Holds d syntax index) (read : IsTextOfTree d s) (value : IsTextOfValue bytes v)
+    (there : IsInsertionOf d.profile given.now v s (Ok i)) (utf8 : AreUtf8 given.now) (header : Option ℕ)
+    (after_body : i.spot ≡ AfterBody header) (several : length given.now - i.from ≡ 1 → ⊥)
+    (flat : value_depth v ≤ 0)
+    (parent : NodeId) (found : node_number index.paths (take i.from given.now) ≡ Some parent.0)
+    (numbers : LineNumbers) (are : AreNumbersAfter (holder given.now (mentions_in s)) s numbers) (kind : Kind)
+    (kind_is : kind ≡ fact_kind (body_fact v.body)) (old : shift.Totals) (many : totals_in old ≡ totals_of s) where
+  abbrev path : List Part
+  path = given.now
+
+  abbrev a : List Part
+  a = holder path (mentions_in s)
+
+  abbrev new : Document
+  new = edited_document s (insert path v)
+
+  abbrev old_index : NodeInfos
+  old_index = telling_in s
+
+  abbrev place : ℕ
+  place = place_in s numbers
+
+  -- the new steps are keys: two at least
+  record AreKeys : Type 0 where
+    first : List ℕ
+    next : List ℕ
+    further : List (List ℕ)
+    whole : path ≡ a ++ map key (first ∷ next ∷ further)
+    left : drop i.from path ≡ map key (first ∷ next ∷ further)
+
+  keys : AreKeys
+  keys =
+      let spot = line_change.spot d syntax index path s v bytes i holds read value there utf8 header after_body in
+      let at_holder : i.from ≡ length a =
+      line_change.at_holder d syntax index path s v bytes i holds read value there utf8 header after_body in
+      let its : IsNewPath path (mentions_in s) = new_path d.profile limit (mentions_in s) path v spot.0 there.0 in
+      by its.first its.more its.whole (ap (λ (n : ℕ). drop n path) at_holder ∙ its.rest)
+    where
+      by : (first : List ℕ) (more : List (List ℕ)) → path ≡ a ++ map key (first ∷ more)
+          → drop i.from path ≡ map key (first ∷ more) → AreKeys
+      by first [] whole left =
+          absurd (several (sym (length-drop i.from path) ∙ ap (λ (p : List Part). length p) left))
+      by first (next ∷ further) whole left =
+          record { first = first; next = next; further = further; whole = whole; left = left }
+
+  abbrev first_path : List Part
+  first_path = a ++ key keys.first ∷ []
+
+  -- ---- the line
+
+  added : HasKeysAt s new path (body_fact v.body) (take are.line (lines s))
+  added =
+      adds d.profile limit s path keys.first keys.next keys.further v are.line (keys_utf8 path utf8) there.0 keys.whole
+      are.ends (no_entries v.body v.nested value.reads.valid.nested (omega (arith, flat)))
+
+  abbrev line : HasKeysMore s new
+  line = added.line
+
+  body_is : (reading_after start line.before).body ≡ a
+  body_is =
+      ap (λ (ss : List Statement). (reading_after start ss).body) added.after
+      ∙ ap (λ (r : Reading). r.body) (reading_statements start (take are.line (lines s)))
+      ∙ (end_is s a are.line are.ends).body
+
+  same_keys : (line.first ≡ keys.first) × (line.next ∷ line.further ≡ keys.next ∷ keys.further)
+  same_keys =
+      first_of_keys a line.first keys.first (line.next ∷ line.further) (keys.next ∷ keys.further)
+      (ap (λ (p : List Part). (p ++ key line.first ∷ []) ++ map key (line.next ∷ line.further)) (sym body_is)
+      ∙ added.place ∙ keys.whole)
+
+  path_is : path_after line.before line.first ≡ first_path
+  path_is =
+      ap (λ (p : List Part). p ++ key line.first ∷ []) body_is
+      ∙ ap (λ (k : List ℕ). a ++ key k ∷ []) same_keys.0
+
+  numbers_are : numbers_after line.before ≡ numbers_of numbers
+  numbers_are = ap numbers_after added.after ∙ sym are.counted
+
+  is_place : IsPlaceOf (numbers_of numbers) (infos_in s) (nodes_after line.before)
+  is_place =
+      let (within, parts) = are_found s new line read.obeys in
+      subst (λ (n : node_infos.LineNumbers). IsPlaceOf n (infos_in s) (nodes_after line.before)) numbers_are
+      (record { within = within; parts = parts })
+
+  at : nodes_after line.before ≡ place
+  at = place_is (numbers_of numbers) (infos_in s) (nodes_after line.before) is_place
+
+  -- ---- its nodes
+
+  -- no node is at the path of the first key
+  fresh : node_number old_index.paths first_path ≡ None
+  fresh =
+      let unsaid : is_node first_path (mentions_in s) ≡ false =
+      ap (λ (p : List Part). is_node p (mentions_in s))
+      (sym (append-nil (path_after line.before line.first) ∙ path_is)) ∙ added.unsaid [] in
+      ap (λ (ps : List (List Part)). node_number ps first_path) (paths-nodes_in s)
+      ∙ no_number first_path (mentions_in s) unsaid
+
+  abbrev told : Totals → ℕ → node_infos.LineNumbers → List Part → List (List ℕ) → Kind → NodeInfos
+  told bare n own p ks k =
+      with_value (with_table old_index n own p) n 0 bare (totals_of new) (keys_alone ks k) Table
+
+  facts : telling_in new
+      ≡ told (one_more (totals_of s)) place (numbers_of numbers) first_path (keys.next ∷ keys.further) kind
+  facts =
+      let bare : Totals = one_more (totals_of s) in
+      let ks : List (List ℕ) = line.next ∷ line.further in
+      let k : Kind = fact_kind line.fact in
+      add_nodes s new line added.unsaid
+      ∙ ap (λ (n : ℕ). told bare n (numbers_after line.before) (path_after line.before line.first) ks k) at
+      ∙ ap (λ (own : node_infos.LineNumbers). told bare place own (path_after line.before line.first) ks k) numbers_are
+      ∙ ap (λ (p : List Part). told bare place (numbers_of numbers) p ks k) path_is
+      ∙ ap (λ (ls : List (List ℕ)). told bare place (numbers_of numbers) first_path ls k) same_keys.1
+      ∙ ap (told bare place (numbers_of numbers) first_path (keys.next ∷ keys.further))
+      (ap fact_kind added.gives ∙ sym kind_is)
+
+  pub keys_added : IsIndexChange s new
+      (change.AddedKeys parent (record { path = given; from = i.from }) numbers kind old)
+  keys_added =
+      let here : node_number old_index.paths (take i.from path) ≡ Some parent.0 =
+      ap (λ (t : NodeInfos). node_number t.paths (take i.from path)) (sym (stated_is d syntax index s holds read))
+      ∙ found in
+      let (low, its_path) = number_is old_index.paths (take i.from path) parent.0 here in
+      let parent_is : path_numbered old_index parent.0 ≡ a =
+      its_path
+      ∙ line_change.prefix d syntax index path s v bytes i holds read value there utf8 header after_body in
+      record {
+        can = (
+          low,
+          λ first further left.
+              (let same : map key (first ∷ further) ≡ map key (keys.first ∷ keys.next ∷ keys.further) =
+              sym left ∙ keys.left in
+              let one : first ≡ keys.first = cc in
+              ap (λ (p : List Part). node_number old_index.paths (p ++ key first ∷ [])) parent_is
+              ∙ ap (λ (k : List ℕ). node_number old_index.paths (a ++ key k ∷ [])) one ∙ fresh),
+          subst (IsPlaceOf (numbers_of numbers) (infos_in s)) at is_place,
+        );
+        facts = λ u is.
+            is keys.first (keys.next ∷ keys.further) keys.left
+            ∙ ap (λ (p : List Part).
+            told (one_more (totals_in old)) place (numbers_of numbers) (p ++ key keys.first ∷ [])
+            (keys.next ∷ keys.further) kind) parent_is
+            ∙ ap (λ (t : Totals).
+            told (one_more t) place (numbers_of numbers) first_path (keys.next ∷ keys.further) kind) many
+            ∙ sym facts;
+        nested =
+            are_nested s new line added.unsaid read.obeys
+            (line_change.nested d syntax index path s v bytes i holds read value there utf8 header after_body);
+      }
