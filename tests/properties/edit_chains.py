@@ -68,7 +68,8 @@ def edit_of(random, entries, size):
     if name == "set":
         return b"set", path, random.choice(VALUES)
     if name == "insert":
-        at = b"%s[%d]" % (path, random.randrange(3)) if kind == b"array" else prefix + fresh
+        keys = [fresh, *random.choices(KEYS, k=random.choice((0, 0, 0, 1, 2)))]
+        at = b"%s[%d]" % (path, random.randrange(3)) if kind == b"array" else prefix + b".".join(keys)
         return b"insert", at, random.choice(VALUES)
     if name == "rename":
         return b"rename", path, fresh
