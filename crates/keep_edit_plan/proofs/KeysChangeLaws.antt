@@ -1,5 +1,5 @@
 -- An insert of several keys at the end of a body, with nothing in its value, gives the index the node of the first of
--- them, and below it those of the others.
+-- them, and below it those of the others. It passes no table (`passes_none`).
 --
 -- The path goes on from its holder by keys (`keys`), of which the law of the edit says that the new document has a line
 -- more by them. The line comes in the body of the holder (`body_is`), so its keys are those of the path (`same_keys`),
@@ -7,17 +7,24 @@
 -- those that the law of such a line tells (`facts`).
 --
 -- Theorem: `keys_added`; `first_of_keys`: two ways to go on by keys to one path are the same.
-use Rattle.std.proofs.Common.{◌≡◌, ℕ, ◌-◌, ◌≤◌, Bor, false, List, [], ◌∷◌, ◌++◌, length, map, take, drop, refl, sym}
-use Rattle.std.proofs.Common.{ap, subst, ◌∙◌, arith, append_assoc, length-drop, Option, Some, None, Ok}
+use Rattle.std.proofs.Common.{◌≡◌, ℕ, ◌+◌, ◌-◌, ◌≤◌, Bor, false, List, [], ◌∷◌, ◌++◌, length, map, take, drop, refl}
+use Rattle.std.proofs.Common.{sym, ap, ap₂, subst, ◌∙◌, arith, append_assoc, length-drop, Option, Some, None, Ok, inl}
+use Rattle.std.proofs.Common.{inr}
+use Rattle.std.specs.Option.{option_map}
+use Rattle.std.proofs.lemmas.Bool.{cases_lt}
 use Rattle.std.proofs.lemmas.List.{append-nil, append_cancel_left}
 use Rattle.keep_types.specs.declared.node.Kind.{Kind}
 use Rattle.keep_types.specs.declared.node.Kind.TheVariants.{Table}
+use Rattle.keep_types.specs.declared.node.NodeInfo.{NodeInfo}
+use Rattle.keep_types.specs.declared.node.Origin.{Origin}
+use Rattle.keep_types.specs.declared.node.Origin.TheVariants as origin
 use Rattle.keep_syntax.specs.declared.syntax.Syntax.{Syntax}
 use Rattle.keep_syntax.specs.Tree.{Value, Document, value_depth}
+use Rattle.keep_path.specs.Dots.{after_parts, totals_after_parts, with_keys, with_parts_from}
 use Rattle.keep_path.specs.KeysAlone.{keys_alone}
 use Rattle.keep_path.specs.NodeInfos as node_infos
-use Rattle.keep_path.specs.NodeInfos.{NodeInfos, with_table}
-use Rattle.keep_path.specs.NodesBelow.{Totals, one_more, with_value}
+use Rattle.keep_path.specs.NodeInfos.{NodeInfos, renumbered_origin, with_table}
+use Rattle.keep_path.specs.NodesBelow.{Totals, one_more, shifted, with_numbers, with_value}
 use Rattle.keep_path.specs.Path.{Part, AreUtf8, key}
 use Rattle.keep_index_store.specs.Below.{totals_in}
 use Rattle.keep_index_store.specs.declared.renumbering.LineNumbers.{LineNumbers}
@@ -29,6 +36,7 @@ use Rattle.keep_meaning.specs.Marks.{Reading, Statement, reading_after, start}
 use Rattle.keep_meaning.specs.Meaning.{body_fact, lines, mentions_in}
 use Rattle.keep_meaning.specs.Nodes.{fact_kind, infos_in, is_node, node_number}
 use Rattle.keep_meaning.specs.OtherValues.{totals_of}
+use Rattle.keep_meaning.proofs.RunLemmas.{high_shifts, low_stays}
 use Rattle.keep_meaning.proofs.Shared.{paths-nodes_in}
 use Rattle.keep_rules.specs.declared.index.NodeId.{NodeId}
 use Rattle.keep_rules.specs.LinePlaces.{IsPlaceOf}
@@ -73,6 +81,48 @@ first_of_keys a k l ks ls e =
     one_first k l ks ls
     (keys_same (k ∷ ks) (l ∷ ls) (append_cancel_left a (key k ∷ map key ks) (map key (l ∷ ls))
     (sym (append_assoc a (key k ∷ []) (map key ks)) ∙ e)))
+
+-- ---- a line that passes no table
+
+-- no number is another where no key part comes
+same_number : (from n : ℕ) → shifted from 0 0 n ≡ n
+same_number from n = elim (cases_lt n from) [
+  | inl low ↦ low_stays from 0 0 n low
+  | inr high ↦ let same : (n + 0) - 0 ≡ n = omega arith in high_shifts from 0 0 n high ∙ same
+]
+
+same_key : (from : ℕ) (o : Option ℕ) → option_map (shifted from 0 0) o ≡ o
+same_key from None = refl
+same_key from (Some n) = ap Some (same_number from n)
+
+same_origin : (o : Origin) → renumbered_origin (λ s. s) (λ v. v) o ≡ o
+same_origin origin.Root = refl
+same_origin (origin.Value v) = refl
+same_origin (origin.Header s) = refl
+same_origin (origin.Element s) = refl
+same_origin (origin.Dotted v) = refl
+same_origin (origin.Through s) = refl
+same_origin origin.Tables = refl
+
+same_infos : (from : ℕ) (is : List NodeInfo) → map (with_numbers (λ v. v) (shifted from 0 0)) is ≡ is
+same_infos from [] = refl
+same_infos from (i ∷ is) =
+    ap₂ (λ (x : NodeInfo) (xs : List NodeInfo). x ∷ xs)
+    (ap₂ (λ (k : Option ℕ) (o : Origin). record i { key = k; origin = o }) (same_key from i.key) (same_origin i.origin))
+    (same_infos from is)
+
+passes_none : (t : NodeInfos) (at : ℕ) (line : node_infos.LineNumbers) (path : List Part) (ks : List (List ℕ))
+    (k : Kind) (old new : Totals)
+    → with_keys (with_parts_from line.key 0 t) at (after_parts 0 line) path ks k (totals_after_parts 0 old) new
+    ≡ with_keys t at line path ks k old new
+passes_none t at line path ks k old new =
+    let key_is : line.key + 0 ≡ line.key = omega arith in
+    let keys_are : old.keys + 0 ≡ old.keys = omega arith in
+    ap (λ (is : List NodeInfo).
+    with_keys (record t { infos = is }) at (after_parts 0 line) path ks k (totals_after_parts 0 old) new)
+    (same_infos line.key t.infos)
+    ∙ ap₂ (λ (own all : ℕ).
+    with_keys t at (record line { key = own }) path ks k (record old { keys = all }) new) key_is keys_are
 
 -- ---- the insert
 
@@ -196,7 +246,7 @@ module _ (adds : InsertAddsKeys) (add_nodes : KeysAddNodes) (are_found : KeysAre
       (ap fact_kind added.gives ∙ sym kind_is)
 
   pub keys_added : IsIndexChange s new
-      (change.AddedKeys parent (record { path = given; from = i.from }) numbers kind old)
+      (change.AddedKeys parent (record { path = given; from = i.from; passed = 0 }) numbers kind old)
   keys_added =
       let here : node_number old_index.paths (take i.from path) ≡ Some parent.0 =
       ap (λ (t : NodeInfos). node_number t.paths (take i.from path)) (sym (stated_is d syntax index s holds read))
@@ -217,7 +267,9 @@ module _ (adds : InsertAddsKeys) (add_nodes : KeysAddNodes) (are_found : KeysAre
           subst (IsPlaceOf (numbers_of numbers) (infos_in s)) at is_place,
         );
         facts = λ u is.
-            is keys.first (keys.next ∷ keys.further) keys.left
+            is keys.first (keys.next ∷ keys.further) keys.left a [] [] (parent_is ∙ sym (append-nil a)) refl refl
+            ∙ passes_none old_index place (numbers_of numbers) (path_numbered old_index parent.0 ++ key keys.first ∷ [])
+            (keys.next ∷ keys.further) kind (totals_in old) (totals_of new)
             ∙ ap (λ (p : List Part).
             told (one_more (totals_in old)) place (numbers_of numbers) (p ++ key keys.first ∷ [])
             (keys.next ∷ keys.further) kind) parent_is

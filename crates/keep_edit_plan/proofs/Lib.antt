@@ -37,6 +37,7 @@ pub mod InsertInsideLaws
 pub mod LastLineLaws
 pub mod LineChangeLaws
 pub mod KeysChangeLaws
+pub mod DotsChangeLaws
 pub mod AddedLineLaws
 pub mod AddedDottedLaws
 pub mod BroughtHeaderLaws

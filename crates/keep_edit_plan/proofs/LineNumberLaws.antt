@@ -1,15 +1,17 @@
--- The numbers of a keyval's line that is put in at the end of a body are how many statements, values and key parts come
--- before it.
+-- The numbers of a keyval's line that is put in, at the end of a body or after another keyval's line, are how many
+-- statements, values and key parts come before it.
 --
 -- They are counted along the statements (`count_from`), and the syntax has them at the next statement, or, of values,
 -- at the next that has one, since a header has no value (`content_next`). After the last statement they are all.
 --
--- Theorem: `numbers_counted`.
+-- Theorems: `numbers_counted`: at the end of a body; `numbers_past_line`: after a line.
 use Rattle.std.proofs.Common.{◌≡◌, ℕ, zero, suc, ◌+◌, ◌≤◌, ◌<◌, List, [], ◌∷◌, ◌++◌, length, map, take, drop, slice_get}
 use Rattle.std.proofs.Common.{refl, sym, ap, subst, ◌∙◌, arith, Option, Some, None}
 use Rattle.std.specs.List.{filter_map, cons_option}
 use Rattle.std.proofs.lemmas.List.{append-nil, length-append, length-drop, length-take}
+use Rattle.std.proofs.lemmas.Option.{slice_get_within}
 use Rattle.keep_types.specs.declared.syntax.KeyPart.{KeyPart}
+use Rattle.keep_types.specs.declared.syntax.Owner.TheVariants as owner
 use Rattle.keep_types.specs.declared.syntax.Statement.{Statement as Listed}
 use Rattle.keep_types.specs.declared.syntax.StatementKind.{StatementKind}
 use Rattle.keep_types.specs.declared.syntax.StatementKind.TheVariants as kind
@@ -35,7 +37,7 @@ use Rattle.keep_meaning.proofs.Shared.{count_from-statements, statements-count, 
 use Rattle.keep_edit_spec.specs.Insertion.{body_count, next_statement}
 use Rattle.keep_edit_spec.proofs.Shared.{EndsBefore, count_few, header_ends, headed_within, root_ends}
 use Rattle.keep_edit_plan.specs.Inserting.{IsKeyvalSpot}
-use Rattle.keep_edit_plan.specs.LineNumbers.{AreNumbersAfter, next_key, next_value}
+use Rattle.keep_edit_plan.specs.LineNumbers.{AreNumbersAfter, AreNumbersPast, IsOnLine, next_key, next_value}
 use Rattle.keep_edit_plan.specs.Reading.{Holds, ProfiledText, IsTextOfTree}
 use Rattle.keep_edit_plan.specs.declared.insert.Spot.TheVariants.{AfterBody}
 use Rattle.keep_edit_plan.proofs.AnswerLaws.{tree_is}
@@ -225,6 +227,32 @@ ends_before a s from None spot =
     subst (λ (p : List Part). EndsBefore s p (next_statement None (syntax.statements s))) (sym spot.0) (root_ends s)
 ends_before a s from (Some n) spot = header_ends a s n spot.0
 
+-- before a statement of the document
+numbers_at : (stored : Syntax) (s : Document) (m : ℕ) (numbers : Numbers) → IsSyntaxOf stored s
+    → m ≤ length (syntax.statements s) → numbers.statement ≡ m
+    → numbers.value ≡ next_value (length (values_of stored)) (drop numbers.statement (statements_of stored))
+    → numbers.key ≡ next_key (length (parts_of stored)) (drop numbers.statement (statements_of stored))
+    → numbers_of numbers ≡ numbers_after (take m (statements_in s))
+numbers_at stored s m numbers is few number value key =
+    let left : drop numbers.statement (statements_of stored) ≡ drop m (syntax.statements s) =
+    ap (λ (n : ℕ). drop n (statements_of stored)) number ∙ ap (drop m) is.statements in
+    let next : IsNext (count_from no_count start (take m (statements_in s))) (drop m (syntax.statements s))
+    (length (syntax.parts s)) (length (syntax.values s)) = counts_at s m in
+    same_numbers (numbers_of numbers) (numbers_after (take m (statements_in s)))
+    (let e : numbers.statement ≡ (count_from no_count start (take m (statements_in s))).statements =
+    omega (
+      arith,
+      number,
+      few,
+      count_from-statements no_count start (take m (statements_in s)),
+      length-take m (statements_in s),
+      statements-count s,
+    ) in e)
+    (value ∙ ap (λ (l : List ValueInfo). next_value (length l) (drop numbers.statement (statements_of stored)))
+    is.values ∙ ap (next_value (length (syntax.values s))) left ∙ sym next.value)
+    (key ∙ ap (λ (l : List KeyPart). next_key (length l) (drop numbers.statement (statements_of stored))) is.parts
+    ∙ ap (next_key (length (syntax.parts s))) left ∙ sym next.key)
+
 pub numbers_counted : (d : ProfiledText) (stored : Syntax) (index : NodeInfos) (s : Document) (a : List Part) (from : ℕ)
     (head : Option ℕ) (numbers : Numbers) → Holds d stored index → IsTextOfTree d s
     → IsKeyvalSpot a s from (AfterBody head) → numbers.statement ≡ next_statement head (statements_of stored)
@@ -232,36 +260,54 @@ pub numbers_counted : (d : ProfiledText) (stored : Syntax) (index : NodeInfos) (
     → numbers.key ≡ next_key (length (parts_of stored)) (drop numbers.statement (statements_of stored))
     → AreNumbersAfter a s numbers
 numbers_counted d stored index s a from head numbers holds read spot statement value key =
-    by (subst (IsSyntaxOf stored) (tree_is d stored index s holds read) holds.is)
-  where
-    by : IsSyntaxOf stored s → AreNumbersAfter a s numbers
-    by is =
-        let m : ℕ = next_statement head (syntax.statements s) in
-        let ends : EndsBefore s a m = ends_before a s from head spot in
-        let number : numbers.statement ≡ m = statement ∙ ap (next_statement head) is.statements in
-        let left : drop numbers.statement (statements_of stored) ≡ drop m (syntax.statements s) =
-        ap (λ (n : ℕ). drop n (statements_of stored)) number ∙ ap (drop m) is.statements in
-        let next : IsNext (count_from no_count start (take m (statements_in s))) (drop m (syntax.statements s))
-        (length (syntax.parts s)) (length (syntax.values s)) = counts_at s m in
-        let few : m ≤ length (syntax.statements s) =
-        next_few head (syntax.statements s) (header_listed a s from head spot) in
-        record {
-          line = ends.line;
-          ends = ends.ends;
-          counted = same_numbers (numbers_of numbers) (numbers_after (take m (statements_in s)))
-              (let e : numbers.statement ≡ (count_from no_count start (take m (statements_in s))).statements =
-              omega (
-                arith,
-                number,
-                few,
-                count_from-statements no_count start (take m (statements_in s)),
-                length-take m (statements_in s),
-                statements-count s,
-              ) in e)
-              (value ∙ ap (λ (l : List ValueInfo).
-              next_value (length l) (drop numbers.statement (statements_of stored))) is.values
-              ∙ ap (next_value (length (syntax.values s))) left ∙ sym next.value)
-              (key ∙ ap (λ (l : List KeyPart). next_key (length l) (drop numbers.statement (statements_of stored)))
-              is.parts ∙ ap (next_key (length (syntax.parts s))) left ∙ sym next.key)
-              ∙ ap numbers_after (sym ends.counted);
-        }
+    let is : IsSyntaxOf stored s = subst (IsSyntaxOf stored) (tree_is d stored index s holds read) holds.is in
+    let m : ℕ = next_statement head (syntax.statements s) in
+    let ends : EndsBefore s a m = ends_before a s from head spot in
+    record {
+      line = ends.line;
+      ends = ends.ends;
+      counted =
+          numbers_at stored s m numbers is (next_few head (syntax.statements s) (header_listed a s from head spot))
+          (statement ∙ ap (next_statement head) is.statements) value key
+          ∙ ap numbers_after (sym ends.counted);
+    }
+
+-- ---- after a keyval's line
+
+module _ (d : ProfiledText) (stored : Syntax) (index : NodeInfos) (s : Document) (holds : Holds d stored index)
+    (read : IsTextOfTree d s) (keyval_number line : ℕ) (on : IsOnLine s keyval_number line) where
+  its_syntax : IsSyntaxOf stored s
+  its_syntax = subst (IsSyntaxOf stored) (tree_is d stored index s holds read) holds.is
+
+  its_value : slice_get (values_of stored) keyval_number ≡ Some on.own
+  its_value = ap (λ (l : List ValueInfo). slice_get l keyval_number) its_syntax.values ∙ on.here
+
+  pub keyval_within : keyval_number < length (values_of stored)
+  keyval_within = slice_get_within (values_of stored) keyval_number on.own its_value
+
+  module _ (info : ValueInfo) (there : slice_get (values_of stored) keyval_number ≡ Some info) where
+    own_is : info ≡ on.own
+    own_is = let same : Some info ≡ Some on.own = sym there ∙ its_value in cc
+
+    pub on_some_line : ((n : ℕ) → info.owner ≡ owner.Line n → ⊥) → ⊥
+    on_some_line none = none on.statement (ap (λ (i : ValueInfo). i.owner) own_is ∙ on.owned)
+
+    module _ (statement : ℕ) (owned : info.owner ≡ owner.Line statement) where
+      statement_is : statement ≡ on.statement
+      statement_is =
+          let same : owner.Line statement ≡ owner.Line on.statement =
+          sym owned ∙ ap (λ (i : ValueInfo). i.owner) own_is ∙ on.owned in
+          cc
+
+      pub statement_within : statement < length (statements_of stored)
+      statement_within =
+          omega (arith, statement_is, on.within, ap (λ (l : List Listed). length l) its_syntax.statements)
+
+      pub numbers_past_line : (numbers : Numbers) → numbers.statement ≡ suc statement
+          → numbers.value ≡ next_value (length (values_of stored)) (drop numbers.statement (statements_of stored))
+          → numbers.key ≡ next_key (length (parts_of stored)) (drop numbers.statement (statements_of stored))
+          → AreNumbersPast line s numbers
+      numbers_past_line numbers next value key =
+          numbers_at stored s (suc on.statement) numbers its_syntax (omega (arith, on.within))
+          (omega (arith, next, statement_is)) value key
+          ∙ ap numbers_after (sym on.counted)

@@ -1,8 +1,7 @@
 -- What an edit changes of the index, where it need not be built anew.
-use Rattle.std.specs.Prelude.{◌≡◌, ◌<◌, [], ◌∷◌, ◌++◌, List, None, drop, length, map}
+use Rattle.std.specs.Prelude.{◌≡◌, ◌<◌, [], ◌∷◌, ◌++◌, List, None, Some, drop, length, map}
 use Rattle.std.specs.Prelude.{ℕ}
 use Rattle.keep_types.specs.declared.node.Kind.{Kind as NodeKind}
-use Rattle.keep_types.specs.declared.node.Kind.TheVariants.{Table}
 use Rattle.keep_syntax.specs.Tree.{Document, Value as TreeValue}
 use Rattle.keep_meaning.specs.Counts.{statements_in}
 use Rattle.keep_meaning.specs.Marks.{start, reading_after}
@@ -10,11 +9,12 @@ use Rattle.keep_meaning.specs.Meaning.{body_fact, mentions_in}
 use Rattle.keep_meaning.specs.Nodes.{fact_kind, node_number}
 use Rattle.keep_meaning.specs.OtherValues.{nodes_in_value, totals_of}
 use Rattle.keep_meaning.specs.StatementsMore.{AreNumbersAtEnd, said_next}
-use Rattle.keep_path.specs.KeysAlone.{keys_alone}
+use Rattle.keep_path.specs.Dots.{after_parts, totals_after_parts, with_dots, with_keys, with_parts_from}
+use Rattle.keep_path.specs.KeysAlone.{paths_below}
 use Rattle.keep_path.specs.NodeInfos.{NodeInfos, line_info, root_infos, with_kind, with_last, with_node, with_path}
-use Rattle.keep_path.specs.NodeInfos.{with_table, without_node}
+use Rattle.keep_path.specs.NodeInfos.{without_node}
 use Rattle.keep_path.specs.NodesBelow.{AreBelow, with_value}
-use Rattle.keep_path.specs.Path.{EndsInKey, beside, key}
+use Rattle.keep_path.specs.Path.{EndsInKey, Part, beside, key}
 pub use Rattle.keep_index_store.specs.Below.{totals_in}
 use Rattle.keep_index_store.specs.Renumbering.{numbers_of}
 use Rattle.keep_rules.specs.LinePlaces.{IsPlaceOf, met_before, one_more}
@@ -83,9 +83,12 @@ IsChanged t d (AddedValue parent text line value old) u =
     (fact_kind (body_fact v.body))
 IsChanged t d (AddedKeys parent keys line kind old) u =
     (first : List ℕ) (further : List (List ℕ)) → drop keys.from keys.path.now ≡ map key (first ∷ further)
-    → u ≡ with_value (with_table t (met_before (numbers_of line) t.infos) (numbers_of line)
-    (path_numbered t parent.0 ++ key first ∷ []))
-    (met_before (numbers_of line) t.infos) 0 (one_more (totals_in old)) (totals_of d) (keys_alone further kind) Table
+    → (base : List Part) (passed : List (List ℕ)) (ids : List ℕ) → path_numbered t parent.0 ≡ base ++ map key passed
+    → length passed ≡ keys.passed → map (node_number t.paths) (paths_below base passed) ≡ map Some ids
+    → u ≡ with_dots line.value ids (with_keys (with_parts_from line.key keys.passed t)
+    (met_before (numbers_of line) t.infos) (after_parts keys.passed (numbers_of line))
+    (path_numbered t parent.0 ++ key first ∷ []) further kind (totals_after_parts keys.passed (totals_in old))
+    (totals_of d))
 IsChanged t d (RemovedValue node line old) u =
     (gone : ℕ) (k : NodeKind) → AreBelow t.paths node.0 gone
     → u ≡ without_node (with_value t node.0 gone (totals_in old) (one_more (totals_of d)) root_infos k) node.0

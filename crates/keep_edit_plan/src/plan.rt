@@ -63,9 +63,9 @@ pub enum IndexChange<'a> {
         value: &'a ValueText,
         totals: Totals,
     },
-    /// A line comes with these numbers: below a table there is one node more, by the first of these keys, and below it
-    /// those of the others, the last with a value of this kind, in which nothing is; the document had so many values
-    /// and key parts.
+    /// A line comes with these numbers: below a table there is one node more, by the first of these keys that is new,
+    /// and below it those of the others, the last with a value of this kind, in which nothing is. The tables of dotted
+    /// keys that its keys pass have one keyval more. The document had so many values and key parts.
     AddedKeys {
         parent: NodeId,
         keys: NewKeys<'a>,

@@ -77,7 +77,7 @@ pub use Rattle.keep_edit_spec.proofs.Insert.PutIsValue.{put_item_is_value, put_k
 pub use Rattle.keep_edit_spec.proofs.Insert.InsertAddsLine.{insert_adds_line}
 pub use Rattle.keep_edit_spec.proofs.Insert.InsertAddsKeys.{insert_adds_keys}
 pub use Rattle.keep_edit_spec.proofs.Insert.InsertAddsDots.{insert_adds_dots}
-pub use Rattle.keep_edit_spec.proofs.Insert.DotsPassed.{PassesTo, passed_to_holder}
+pub use Rattle.keep_edit_spec.proofs.Insert.DotsPassed.{IsNamed, PassesTo, passed_are_named, passed_to_holder}
 pub use Rattle.keep_edit_spec.proofs.Insert.InsertAddsValue.{insert_adds_value}
 pub use Rattle.keep_edit_spec.proofs.Remove.RemoveEntry.{all_prefix, past_stops}
 pub use Rattle.keep_edit_spec.proofs.Remove.RemovePlace.{preserved_is, run_ends}

@@ -57,4 +57,8 @@ pub mod BelowTrieLemmas
 pub mod BelowTreeLemmas
 pub mod RemovedValueLemmas
 pub mod InsertedValueLemmas
+pub mod LoweredLemmas
+pub mod DotsLemmas
+pub mod PartsLemmas
+pub mod TakerLemmas
 pub mod Shared

@@ -23,4 +23,5 @@ pub mod Replacing
 pub mod Joined
 pub mod KeysBelow
 pub mod Inserted
+pub mod Dots
 pub use Rattle.keep_path.specs.Path

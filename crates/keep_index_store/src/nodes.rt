@@ -16,6 +16,7 @@ ghost use Rattle.keep_index_store.specs.Trie.{by_key, by_index};
 
 mod adding;
 mod below;
+mod dots;
 mod joining;
 mod removing;
 mod renumbering;

@@ -3,6 +3,7 @@ ghost use Rattle.std.specs.Prelude.{◌≡◌, IfNone, IfOk, IfSome, None, OnErr
 ghost use Rattle.keep_index_store.specs.Packed.{Fits, facts_in, short_facts, joined_short};
 ghost use Rattle.keep_index_store.specs.Facts.{joined_facts};
 
+mod dots;
 mod renumbering;
 mod shifting;
 

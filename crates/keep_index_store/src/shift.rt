@@ -2,6 +2,7 @@
 ghost use Rattle.std.specs.Prelude.{◌≡◌, ℕ, ◌+◌, ◌-◌, ◌<◌, ◌^◌, min, true};
 ghost use Rattle.keep_index_store.specs.declared.facts.NodeFacts.{NodeFacts};
 ghost use Rattle.keep_index_store.specs.Below.{shifted_by, shifted_facts, value_shift};
+ghost use Rattle.keep_index_store.specs.Dots.{IsLowering};
 ghost use Rattle.keep_index_store.specs.Shifting.{CanShift, first_moved, first_number};
 
 use crate::facts::{NodeFacts, OriginKind};
@@ -175,6 +176,7 @@ impl NodeFacts {
     pub(crate) fn shifted(self, by: NumberShifts) -> NodeFacts
         ensures moved { CanShift by self → result ≡ shifted_facts by self }
         ensures small { result.key < 2 ^ 32 → result.number < 2 ^ 32 → CanShift by self }
+        ensures lowered { IsLowering by → result ≡ shifted_facts by self }
     {
         NodeFacts {
             key: if self.marks == 0 {

@@ -11,6 +11,7 @@ ghost use Rattle.keep_index_store.specs.Trie.{part_at, paths_of, path_at, state_
 ghost use Rattle.keep_path.specs.NodeInfos.{with_path};
 ghost use Rattle.keep_path.specs.Path.{EndsInKey, beside, key, index};
 
+mod dots;
 mod inserting;
 mod inserting_value;
 mod joining;

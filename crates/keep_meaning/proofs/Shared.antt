@@ -18,6 +18,7 @@ pub use Rattle.keep_meaning.proofs.CountLemmas.{lines_mentions-statements, menti
 pub use Rattle.keep_meaning.proofs.CountLemmas.{mentions-numbered_mentions, node_at-elsewhere, numbered_mentions-append}
 pub use Rattle.keep_meaning.proofs.CountLemmas.{paths-nodes, paths-nodes_in, mentions_in-statements}
 pub use Rattle.keep_meaning.proofs.DecodeLaws.{means_value}
+pub use Rattle.keep_meaning.proofs.DotsLaws.{dots_are_found}
 pub use Rattle.keep_meaning.proofs.BoundLaws.{mentions_few, nodes_few}
 pub use Rattle.keep_meaning.proofs.BodyLaws.{body_has_no_element, body_is_node, tables_are_nodes}
 pub use Rattle.keep_meaning.proofs.LineLaws.{few_before, line_adds_node, line_takes_node}

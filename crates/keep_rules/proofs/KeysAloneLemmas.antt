@@ -7,23 +7,28 @@
 -- that are keys are those of one list of keys only (`keys_same`).
 --
 -- Theorems: `begun`, `fresh`, `goes_on` and `all_come`: the chain before its first key, below which a next one is new,
--- with a next one, and with the last; `first_same` and `rest_same`: the first of these keys, and the others.
+-- with a next one, and with the last; `first_same` and `rest_same`: the first of these keys, and the others;
+-- `first_alone` and `first_of_several`: the nodes of all of them.
 use Rattle.std.proofs.Common.{◌≡◌, ℕ, zero, suc, ◌+◌, ◌-◌, ◌<◌, ◌≤◌, List, [], ◌∷◌, ◌++◌, length, get_or, map, drop}
 use Rattle.std.proofs.Common.{refl, sym, ◌∙◌, ap, ap₂, arith, length-append, slice_get, Option, Some}
 use Rattle.std.specs.Prelude.{Contains}
-use Rattle.std.proofs.lemmas.List.{append-nil, append_assoc, drop-drop, length-map, map-append}
+use Rattle.std.proofs.lemmas.List.{append-nil, append_assoc, drop-drop, length-drop, length-map, map-append}
 use Rattle.std.proofs.Math.ListN.{drop_of_length-le}
 use Rattle.std.proofs.lemmas.Option.{get_or_from_slice_get, slice_get_within}
 use Rattle.keep_types.specs.declared.node.Kind.{Kind}
+use Rattle.keep_types.specs.declared.node.Kind.TheVariants.{Table}
 use Rattle.keep_types.specs.declared.node.NodeInfo.{NodeInfo}
 use Rattle.keep_types.specs.declared.role.Role.{Role}
+use Rattle.keep_path.specs.Dots.{with_keys}
 use Rattle.keep_path.specs.KeysAlone.{key_infos, key_numbers, keys_alone, paths_below}
-use Rattle.keep_path.specs.NodeInfos.{NodeInfos, dotted_info, line_info, no_info, with_last}
+use Rattle.keep_path.specs.NodeInfos.{LineNumbers, NodeInfos, dotted_info, line_info, no_info, with_last, with_node}
+use Rattle.keep_path.specs.NodeInfos.{with_table}
+use Rattle.keep_path.specs.NodesBelow.{Totals, one_more, with_value}
 use Rattle.keep_path.specs.Path.{Part, key}
 use Rattle.keep_index_store.specs.Growth.{Grows}
 use Rattle.keep_index_store.specs.Tree.{IsRoot, TrieInfos, node_infos}
 use Rattle.keep_index_store.specs.Trie.{TrieNode, by_key, holds_at, path_at, paths_of}
-use Rattle.keep_index_store.proofs.Shared.{holds_last, longer}
+use Rattle.keep_index_store.proofs.Shared.{holds_last, longer, paths_more}
 
 -- ---- lists of keys
 
@@ -51,6 +56,19 @@ next_step (q ∷ qs) zero p e = ap (λ x. x ∷ qs) (get_or_from_slice_get (q �
 next_step (q ∷ qs) (suc n) p e =
     next_step qs n p e ∙ ap (λ k. p ∷ drop k (q ∷ qs)) (let k : suc (n + 1) ≡ suc n + 1 = omega arith in k)
 
+-- the node of the first key of a line, where there are further ones and where there are none
+module _ (t : NodeInfos) (at : ℕ) (line : LineNumbers) (path : List Part) (k : Kind) (old new : Totals) where
+  with_one : (further : List (List ℕ)) → length further ≡ 0
+      → with_node t at line path k ≡ with_keys t at line path further k old new
+  with_one [] none = refl
+  with_one (x ∷ xs) none = absurd (omega (arith, none))
+
+  with_several : (further : List (List ℕ)) → 0 < length further
+      → with_value (with_table t at line path) at 0 (one_more old) new (keys_alone further k) Table
+      ≡ with_keys t at line path further k old new
+  with_several [] some = absurd (omega (arith, some))
+  with_several (x ∷ xs) some = refl
+
 -- the first key of a line, and the further ones
 module _ (path : List Part) (from : ℕ) (first : List ℕ) (further : List (List ℕ))
     (are : drop from path ≡ map key (first ∷ further)) where
@@ -63,21 +81,27 @@ module _ (path : List Part) (from : ℕ) (first : List ℕ) (further : List (Lis
   pub rest_same : drop (from + 1) path ≡ map key further
   rest_same = sym (drop-drop 1 from path) ∙ ap (drop 1) are
 
+  count : length path - from ≡ suc (length further)
+  count =
+      omega (arith, length-drop from path, ap length are, length-map (first ∷ further) (λ (text : List ℕ). key text))
+
+  pub first_alone : length path - 1 ≤ from → (t : NodeInfos) (at : ℕ) (line : LineNumbers) (to : List Part) (k : Kind)
+      (old new : Totals) → with_node t at line to k ≡ with_keys t at line to further k old new
+  first_alone last t at line to k old new = with_one t at line to k old new further (omega (arith, last, count))
+
+  pub first_of_several : from < length path - 1 → (t : NodeInfos) (at : ℕ) (line : LineNumbers) (to : List Part)
+      (k : Kind) (old new : Totals)
+      → with_value (with_table t at line to) at 0 (one_more old) new (keys_alone further k) Table
+      ≡ with_keys t at line to further k old new
+  first_of_several more t at line to k old new =
+      with_several t at line to k old new further (omega (arith, more, count))
+
 -- ---- paths
 
 path_end : (path : List Part) (ks : List (List ℕ))
     → get_or (path ∷ paths_below path ks) (length ks) [] ≡ path ++ map key ks
 path_end path [] = sym (append-nil path)
 path_end path (k ∷ ks) = path_end (path ++ key k ∷ []) ks ∙ append_assoc path (key k ∷ []) (map key ks)
-
-paths_more : (path : List Part) (ks : List (List ℕ)) (k : List ℕ)
-    → paths_below path (ks ++ k ∷ []) ≡ paths_below path ks ++ ((path ++ map key ks) ++ key k ∷ []) ∷ []
-paths_more path [] k = ap (λ p. (p ++ key k ∷ []) ∷ []) (sym (append-nil path))
-paths_more path (j ∷ ks) k =
-    ap (λ ps. (path ++ key j ∷ []) ∷ ps)
-    (paths_more (path ++ key j ∷ []) ks k
-    ∙ ap (λ p. paths_below (path ++ key j ∷ []) ks ++ (p ++ key k ∷ []) ∷ [])
-    (append_assoc path (key j ∷ []) (map key ks)))
 
 few_steps : (path : List Part) (ks : List (List ℕ)) (i : ℕ) (d : List Part) → i < length (path ∷ paths_below path ks)
     → length (get_or (path ∷ paths_below path ks) i d) ≤ length path + length ks

@@ -52,6 +52,7 @@ mod ValueNestedLaws
 mod KeysNestedLaws
 mod DotsNestedLaws
 mod KeysAloneLemmas
+mod PassedLemmas
 pub mod LinePlaceLemmas
 mod DocumentLemmas
 mod ElementLemmas

@@ -25,6 +25,7 @@ pub mod ValuesNested
 pub mod StatementsKnown
 pub mod StatementsNested
 pub mod LinePlaces
+pub mod PassedTables
 pub mod ReadDocuments
 pub mod HeaderJoins
 pub mod ValueTexts

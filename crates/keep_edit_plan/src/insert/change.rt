@@ -37,7 +37,8 @@ impl<'a> DocumentRef<'a> {
                 path,
             ),
             Spot::AfterBody(_) => self.line_change(path, insertion, value),
-            Spot::AfterLine(_) | Spot::NewSection(_) => None,
+            Spot::AfterLine(_) => self.dots_change(path, insertion, value),
+            Spot::NewSection(_) => None,
         }
     }
 
@@ -123,6 +124,7 @@ impl<'a> DocumentRef<'a> {
         let keys = NewKeys {
             path,
             from: insertion.from,
+            passed: 0,
         };
         let parent = self.index.find_first(path, keys.from)?;
         Some(IndexChange::AddedKeys {
@@ -131,6 +133,46 @@ impl<'a> DocumentRef<'a> {
             line: self.line_numbers(header),
             kind: value.kind(),
             totals: totals_of(self.syntax),
+        })
+    }
+
+    /// What an insertion changes of the index, if that is one line more after the last one that leads through a table
+    /// of dotted keys, with nothing in its value. Its keys pass the tables from that line's body on. It takes no
+    /// memory.
+    fn dots_change<'p>(
+        &self,
+        path: &'p Path,
+        insertion: Insertion,
+        value: &'p ValueText,
+    ) -> Option<IndexChange<'p>>
+        requires aimed { (s : tree.Document) × IsTextOfTree self.now s
+            × ((v : tree.Value) × IsTextOfValue value.now v
+            × IsInsertionOf self.now.profile path.now v s (Ok insertion)) }
+        requires utf8 { AreUtf8 path.now }
+        ensures { (s : tree.Document) → IsTextOfTree self.now s → (v : tree.Value) → IsTextOfValue value.now v
+            → IsInsertionOf self.now.profile path.now v s (Ok insertion)
+            → IfSome result (IsIndexChange s (edited_document s (insert path.now v))) }
+    {
+        // The invariant of a document is known to the proof from where a field of it is looked at.
+        let syntax = self.syntax;
+        let Spot::AfterLine(keyval) = insertion.spot else {
+            return None;
+        };
+        if value.depth() != 0 {
+            return None;
+        }
+        let holder = self.holder_of(path);
+        let keys = NewKeys {
+            path,
+            from: holder.len,
+            passed: holder.len - insertion.from,
+        };
+        Some(IndexChange::AddedKeys {
+            parent: holder.id,
+            keys,
+            line: self.numbers_past(keyval),
+            kind: value.kind(),
+            totals: totals_of(syntax),
         })
     }
 }

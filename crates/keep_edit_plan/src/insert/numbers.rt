@@ -1,4 +1,4 @@
-//! The numbers of a line that is put in at the end of a body.
+//! The numbers of a line that is put in: at the end of a body, or after another line.
 ghost use Rattle.std.specs.Prelude.{◌≡◌, ◌+◌, ◌≤◌, ◌<◌, ℕ, List, Some, length, drop};
 ghost use Rattle.keep_index_store.specs.Renumbering.{numbers_of};
 ghost use Rattle.keep_path.specs.Path.{Part};
@@ -6,13 +6,13 @@ ghost use Rattle.keep_syntax.specs.Contract.{parts_of, statements_of, values_of}
 ghost use Rattle.keep_syntax.specs.Tree as tree;
 ghost use Rattle.keep_edit_spec.specs.Insertion.{body_count, next_statement};
 ghost use Rattle.keep_edit_plan.specs.Inserting.{IsKeyvalSpot};
-ghost use Rattle.keep_edit_plan.specs.LineNumbers.{AreNumbersAfter, next_key, next_value};
+ghost use Rattle.keep_edit_plan.specs.LineNumbers.{AreNumbersAfter, AreNumbersPast, IsOnLine, next_key, next_value};
 ghost use Rattle.keep_edit_plan.specs.Reading.{IsTextOfTree};
 ghost use Rattle.keep_edit_plan.specs.declared.insert.Spot.TheVariants.{AfterBody};
 
 use crate::document::DocumentRef;
 use keep_rules::LineNumbers;
-use keep_syntax::{StatementKind, Syntax};
+use keep_syntax::{Owner, StatementKind, Syntax};
 
 impl<'a> DocumentRef<'a> {
     /// The numbers of a keyval that is put in after the body of the header with this statement number, or of the root.
@@ -23,13 +23,34 @@ impl<'a> DocumentRef<'a> {
         ensures { (s : tree.Document) → IsTextOfTree self.now s → (a : List Part) (from : ℕ)
             → IsKeyvalSpot a s from (AfterBody header) → AreNumbersAfter a s result }
     {
-        let syntax = self.syntax;
-        let statement = next_statement(syntax, header);
-        LineNumbers {
-            statement,
-            value: next_value(syntax, statement),
-            key: next_key(syntax, statement),
+        numbers_from(self.syntax, next_statement(self.syntax, header))
+    }
+
+    /// The numbers of a keyval that is put in after the line of the keyval with this value number. It takes no memory.
+    pub(crate) fn numbers_past(&self, keyval: usize) -> LineNumbers
+        requires { (s : tree.Document) × IsTextOfTree self.now s × ((line : ℕ) × IsOnLine s keyval line) }
+        ensures { (s : tree.Document) → IsTextOfTree self.now s → (line : ℕ) → IsOnLine s keyval line
+            → AreNumbersPast line s result }
+    {
+        match self.syntax.value(keyval).owner {
+            Owner::Line(statement) => numbers_from(self.syntax, statement + 1),
+            _ => unreachable!(),
         }
+    }
+}
+
+/// The numbers of a keyval that is put in as this statement.
+fn numbers_from(syntax: &Syntax, statement: usize) -> LineNumbers
+    ensures statement { result.statement ≡ statement }
+    ensures value { result.value ≡ next_value (length (values_of syntax.now))
+        (drop result.statement (statements_of syntax.now)) }
+    ensures key { result.key ≡ next_key (length (parts_of syntax.now))
+        (drop result.statement (statements_of syntax.now)) }
+{
+    LineNumbers {
+        statement,
+        value: next_value(syntax, statement),
+        key: next_key(syntax, statement),
     }
 }
 

@@ -5,35 +5,40 @@
 -- that line, and the number that is known of the node is that of the line's value.
 --
 -- Theorem: `dotted_at`.
-use Rattle.std.proofs.Common.{◌≡◌, ℕ, suc, Bool, true, false, List, [], ◌∷◌, ◌++◌, length, map, take, slice_get, refl}
-use Rattle.std.proofs.Common.{sym, ap, subst, ◌∙◌, append_assoc, length-append, arith, Option, Some, None, ◌⊎◌, inl}
-use Rattle.std.proofs.Common.{inr}
-use Rattle.std.proofs.lemmas.List.{map-append, append-nil}
+use Rattle.std.proofs.Common.{◌≡◌, ℕ, zero, suc, Bool, true, false, List, [], ◌∷◌, ◌++◌, length, map, take, slice_get}
+use Rattle.std.proofs.Common.{refl, sym, ap, subst, ◌∙◌, append_assoc, length-append, arith, Option, Some, None}
+use Rattle.std.proofs.Common.{◌⊎◌, inl, inr}
+use Rattle.std.specs.List.{cons_option}
+use Rattle.std.proofs.lemmas.List.{map-append, append-nil, length-map}
 use Rattle.keep_types.specs.declared.syntax.Owner.TheVariants as owner
-use Rattle.keep_types.specs.declared.syntax.Statement.{Statement}
+use Rattle.keep_types.specs.declared.syntax.Statement.{Statement as Listed}
 use Rattle.keep_types.specs.declared.syntax.ValueInfo.{ValueInfo}
 use Rattle.keep_syntax.specs.Tree.{Written, Gap, Name, Value, Content, blank, keyval, header, element, Line, Ended}
 use Rattle.keep_syntax.specs.Tree.{Document}
 use Rattle.keep_syntax.specs.Numbered as syntax
 use Rattle.keep_path.specs.Path.{Part, key, same_path}
-use Rattle.keep_meaning.specs.Marks.{MentionKind, value, Mention, Reading, start, below}
+use Rattle.keep_path.specs.NodeInfos.{LineNumbers}
+use Rattle.keep_meaning.specs.Marks.{MentionKind, value, Mention, Reading, Statement, start, below}
+use Rattle.keep_meaning.specs.Marks.{keyval as keyval_statement}
 use Rattle.keep_meaning.specs.Fact.{Fact}
 use Rattle.keep_meaning.specs.Meaning.{keys_of, key_value, further_value, body_fact, valued_mentions, keyed_mentions}
 use Rattle.keep_meaning.specs.Meaning.{entries_mentions, step, keyval_mentions, line_mentions, after_line}
-use Rattle.keep_meaning.specs.Meaning.{lines_mentions, reading_after_lines, line_of, lines, mentions_in}
-use Rattle.keep_meaning.specs.Counts.{is_value, numbered_in}
+use Rattle.keep_meaning.specs.Meaning.{lines_mentions, reading_after_lines, line_of, lines, mentions_in, statement_of}
+use Rattle.keep_meaning.specs.Counts.{is_value, line_statement, no_count, numbered_in, statements_in}
 use Rattle.keep_meaning.specs.Nodes.{is_at, numbered_at, last_number, value_number, is_dotted}
-use Rattle.keep_meaning.proofs.Shared.{valued, valued-append, valued-below, valued-keyed}
+use Rattle.keep_meaning.proofs.Shared.{count_from-statements, valued, valued-append, valued-below, valued-keyed}
 use Rattle.keep_edit_spec.specs.Lines.{last_line, leads_dotted, ended_text}
 use Rattle.keep_edit_spec.proofs.Common.Runs.{AllOf, SomeOf, Rules, all_join, same_path-sound, same_path-refl}
 use Rattle.keep_edit_spec.proofs.Common.Doubles.{IsMentioned, has_some}
 use Rattle.keep_edit_spec.proofs.Common.LineLaws.{lines_mentions-append}
+use Rattle.keep_edit_spec.proofs.Common.LineStatements.{statements-append, statements_of}
 use Rattle.keep_edit_spec.proofs.Common.SetDocument.{mentions_of}
 use Rattle.keep_edit_spec.proofs.Common.SetLaw.{keyed_split}
 use Rattle.keep_edit_spec.proofs.Common.Stops.{some_unbelow}
 use Rattle.keep_edit_spec.proofs.Common.ValueNumber.{NoneAt, number_of_value, number_of_last, false_unless}
 use Rattle.keep_edit_spec.proofs.Remove.RemoveLinePlace.{head_line, tail_lines, head_text, lines_split, IsPageLine}
 use Rattle.keep_edit_spec.proofs.Remove.RemoveLinePlace.{page_line, IsOwnLine, IsLineValue, line_value}
+use Rattle.keep_edit_spec.proofs.Remove.LineOfValue.{line_numbers}
 use Rattle.keep_edit_spec.proofs.Remove.RemoveSectionPlace.{none_some}
 use Rattle.keep_edit_spec.proofs.Insert.DottedBase.{IsDottedIn, in_left, in_right, in_below, deep_in, nested_keyval}
 use Rattle.keep_edit_spec.proofs.Insert.DottedBase.{dotted_where}
@@ -103,6 +108,42 @@ module _ (is : MentionKind → Bool) (path : List Part) where
   last_mentioned : (ms : List Mention) → SomeOf (IsMentioned is path) ms → IsLastMentioned ms
   last_mentioned ms s = elim (look ms) [ inl h ↦ h | inr none ↦ absurd (never ms none s) ]
 
+-- ---- the statements up to a keyval's line
+
+taken_to : {A : Type 0} (xs : List A) (y : A) (ys : List A) (n : ℕ) → n ≡ length xs
+    → take (suc n) (xs ++ y ∷ ys) ≡ xs ++ y ∷ []
+taken_to [] y [] zero e = refl
+taken_to [] y (z ∷ ys) zero e = refl
+taken_to [] y ys (suc n) e = absurd (omega (arith, e))
+taken_to (x ∷ xs) y ys zero e = absurd (omega (arith, e))
+taken_to {A} (x ∷ xs) y ys (suc n) e = ap (λ (l : List A). x ∷ l) (taken_to xs y ys n (omega (arith, e)))
+
+counted_to : (path : List Part) (s : Document) (pre rest : List Ended) (was : s.ended ≡ pre ++ rest)
+    (v : IsLineValue path s pre rest) (i : ℕ) → i ≡ length pre
+    → statements_of (take (suc i) (lines s)) ≡ take (suc v.number) (statements_in s)
+counted_to path s pre rest was v i number =
+    let earlier : List Statement = statements_of (map line_of pre) in
+    let l : Line = head_line rest s.last in
+    let stated : Statement = keyval_statement (keyval_mentions v.its_line.name v.its_line.held) in
+    let says : line_statement l ≡ Some stated = ap statement_of v.its_line.content in
+    let there : lines s ≡ map line_of pre ++ l ∷ tail_lines rest s.last =
+    ap (λ (es : List Ended). map line_of es ++ s.last ∷ []) was ∙ lines_split pre rest s.last in
+    let so_many : v.number ≡ length earlier =
+    omega (
+      arith,
+      ap (λ (n : LineNumbers). n.statement) (line_numbers path s pre rest was v),
+      count_from-statements no_count start earlier,
+    ) in
+    ap (λ (ls : List Line). statements_of (take (suc i) ls)) there
+    ∙ ap statements_of (taken_to (map line_of pre) l (tail_lines rest s.last) i
+    (omega (arith, number, length-map pre line_of)))
+    ∙ statements-append (map line_of pre) (l ∷ [])
+    ∙ ap (λ (o : Option Statement). earlier ++ cons_option o []) says
+    ∙ sym (taken_to earlier stated (statements_of (tail_lines rest s.last)) v.number so_many)
+    ∙ ap (take (suc v.number)) (sym (ap statements_of there
+    ∙ statements-append (map line_of pre) (l ∷ tail_lines rest s.last)
+    ∙ ap (λ (o : Option Statement). earlier ++ cons_option o (statements_of (tail_lines rest s.last))) says))
+
 -- ---- the line
 
 record IsKeyvalLine (a : List Part) (r : Reading) (c : Content) : Type 0 where
@@ -133,9 +174,10 @@ pub record IsDottedAt (a : List Part) (s : Document) (i : ℕ) : Type 0 where
   pub here : slice_get (syntax.values s) number ≡ Some own
   pub line : ℕ
   pub owned : own.owner ≡ owner.Line line
-  pub statement : Statement
+  pub statement : Listed
   pub there : slice_get (syntax.statements s) line ≡ Some statement
   pub ends : statement.line.end ≡ line_begins s (suc i)
+  pub counted : statements_of (take (suc i) (lines s)) ≡ take (suc line) (statements_in s)
   pub before : IsLineBefore s (suc i)
   pub base : IsLineBase s a (reading_after_lines start (take i (lines s))).body
 
@@ -280,6 +322,7 @@ dotted_at a s i rules found =
         ap (λ (t : List ℕ). length t) prefix,
         length-append (ended_text h.pre) (head_text h.rest s.last),
       );
+      counted = counted_to own_path s h.pre h.rest h.was v i h.number;
       before =
           record {
             pre = h.pre;

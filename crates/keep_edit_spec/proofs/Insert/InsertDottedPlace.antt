@@ -10,7 +10,7 @@ use Rattle.std.proofs.Common.{◌≡◌, false, ℕ, zero, suc, ◌+◌, ◌-◌
 use Rattle.std.proofs.Common.{drop, slice_get, refl, sym, ap, subst, ◌∙◌, append_assoc, length-append, arith, Option}
 use Rattle.std.proofs.Common.{Some, None, inl, inr}
 use Rattle.keep_types.proofs.Shared.{one_of_two}
-use Rattle.std.specs.List.{list_any}
+use Rattle.std.specs.List.{filter_map, list_any}
 use Rattle.std.proofs.lemmas.Bool.{cases_lt}
 use Rattle.std.proofs.lemmas.List.{length-map, map-append, take-append-drop}
 use Rattle.keep_types.specs.declared.leaf.Profile.{Profile}
@@ -24,7 +24,7 @@ use Rattle.keep_path.specs.Path.{Part, key}
 use Rattle.keep_types.specs.declared.node.Origin.TheVariants as origin
 use Rattle.keep_meaning.specs.Marks.{start}
 use Rattle.keep_meaning.specs.Meaning.{lines, mentions_in}
-use Rattle.keep_meaning.specs.Counts.{is_value, numbered_in}
+use Rattle.keep_meaning.specs.Counts.{is_value, line_statement, numbered_in, statements_in}
 use Rattle.keep_meaning.specs.Nodes.{numbered_at, last_number, statement_number, value_number, is_define, is_begun}
 use Rattle.keep_meaning.specs.Nodes.{is_dotted, is_element, is_through}
 use Rattle.keep_edit_spec.specs.Edits.{insert, at_line, change, end_of, name_with}
@@ -157,6 +157,7 @@ pub record IsDottedPlaced (s : Document) (path : List Part) (v : Value) (from nu
   pub owned : own.owner ≡ owner.Line line
   pub statement : Statement
   pub there : slice_get (syntax.statements s) line ≡ Some statement
+  pub counted : filter_map line_statement (take (suc last) (lines s)) ≡ take (suc line) (statements_in s)
   pub keys : list_any is_index (drop from path) ≡ false
   pub placed : IsLowPlace s (insert path v)
       (line_at (text s) (newline_of s).text (bom_width s) statement.line.end (keys_in (drop from path)) v)
@@ -214,6 +215,7 @@ module _ (profile : Profile) (limit : ℕ) (s : Document) (path : List Part) (v 
         owned = d.owned;
         statement = d.statement;
         there = d.there;
+        counted = d.counted;
         keys = ap (list_any is_index) (cut
             ∙ sym (map-append key (d.base.from.first ∷ d.base.from.prefix) (new.first ∷ new.more)))
             ∙ keys_alone ((d.base.from.first ∷ d.base.from.prefix) ++ (new.first ∷ new.more));

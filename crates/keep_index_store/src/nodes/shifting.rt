@@ -1,6 +1,7 @@
 //! The facts about all nodes, where their numbers of values and of key parts are moved in place.
 ghost use Rattle.std.specs.Prelude.{◌≡◌, false, map, true};
 ghost use Rattle.keep_index_store.specs.Below.{with_shifted_facts, with_shifted_stored};
+ghost use Rattle.keep_index_store.specs.Dots.{IsLowering};
 ghost use Rattle.keep_index_store.specs.Shifting.{AllCanShift};
 
 use super::{Node, Nodes};
@@ -30,6 +31,17 @@ fn shift_each(nodes: &mut [Node], by: NumberShifts)
     }
 }
 
+/// Moves the numbers of all nodes, none of which is greater then.
+fn lower_each(nodes: &mut [Node], by: NumberShifts)
+    requires { IsLowering by }
+    ensures { nodes.new ≡ map (with_shifted_stored by) nodes.old }
+{
+    let first = FirstNumbers::of(by);
+    for node in nodes.iter_mut() {
+        node.facts.lower(&first);
+    }
+}
+
 /// Moves the numbers of all nodes, and says whether it was done: not where one could have more than 32 bits. Then
 /// nothing is changed. It takes no memory, and does not go over the nodes where no number is moved.
 pub fn shift_all(nodes: &mut [Node], by: NumberShifts) -> bool
@@ -54,5 +66,13 @@ impl Nodes {
         ensures unchanged { result ≡ false → self.new ≡ self.old }
     {
         shift_all(self.list.as_mut_slice(), by)
+    }
+
+    /// Moves the numbers in the facts about all nodes, none of which is greater then. It takes no memory.
+    pub fn lower_numbers(&mut self, by: NumberShifts)
+        requires { IsLowering by }
+        ensures { self.new.items ≡ map (with_shifted_facts by) self.old.items }
+    {
+        lower_each(self.list.as_mut_slice(), by);
     }
 }

@@ -1,6 +1,7 @@
 //! The stored facts about a node, where their numbers of values and of key parts are moved in place.
 ghost use Rattle.std.specs.Prelude.{◌≡◌, true};
 ghost use Rattle.keep_index_store.specs.Below.{shifted_facts};
+ghost use Rattle.keep_index_store.specs.Dots.{IsLowering};
 ghost use Rattle.keep_index_store.specs.Shifting.{CanShift, ShortCanShift, shifted_short};
 
 use super::{Form, LONG, PackedFacts, ShortFacts};
@@ -28,6 +29,18 @@ impl ShortFacts {
             self.key = by.shifts().keys.moved(self.key);
         }
     }
+
+    /// Moves the numbers, none of which is greater then.
+    #[inline(always)]
+    fn lower(&mut self, by: &FirstNumbers)
+        requires { IsLowering by.now }
+        ensures { self.new ≡ shifted_short by.now self.old }
+    {
+        // The proof knows that numbers have 32 bits from where they are read.
+        let _key = self.key as usize;
+        let _number = self.number as usize;
+        self.shift(by);
+    }
 }
 
 impl PackedFacts {
@@ -54,6 +67,18 @@ impl PackedFacts {
     {
         match &mut self.form {
             Form::Packed { short, .. } => short.shift(by),
+            Form::Boxed(facts) => **facts = facts.shifted(by.shifts()),
+        }
+    }
+
+    /// Moves the numbers, none of which is greater then, in the form that is there, so that it takes no memory.
+    #[inline(always)]
+    pub fn lower(&mut self, by: &FirstNumbers)
+        requires { IsLowering by.now }
+        ensures { self.new ≡ shifted_facts by.now self.old }
+    {
+        match &mut self.form {
+            Form::Packed { short, .. } => short.lower(by),
             Form::Boxed(facts) => **facts = facts.shifted(by.shifts()),
         }
     }

@@ -1,23 +1,25 @@
 //! The index where a line comes or goes: it changes in place.
-ghost use Rattle.std.specs.Prelude.{◌≡◌, ◌<◌, ◌≤◌, ◌∷◌, ◌++◌, [], ℕ, IfSome, List, OnErr, OnOk, drop, length, map};
+ghost use Rattle.std.specs.Prelude.{◌≡◌, ◌<◌, ◌≤◌, ◌∷◌, ◌++◌, [], ℕ, IfSome, List, OnErr, OnOk, Some, drop, length};
+ghost use Rattle.std.specs.Prelude.{map};
 ghost use Rattle.keep_types.specs.declared.node.Kind.{Kind};
-ghost use Rattle.keep_types.specs.declared.node.Kind.TheVariants.{Table};
 ghost use Rattle.keep_syntax.specs.Tree.{Value};
 ghost use Rattle.keep_index_store.specs.Below.{totals_in};
 ghost use Rattle.keep_index_store.specs.Renumbering.{numbers_of};
 ghost use Rattle.keep_meaning.specs.LinesMore as spec;
 ghost use Rattle.keep_meaning.specs.Meaning.{body_fact};
-ghost use Rattle.keep_meaning.specs.Nodes.{fact_kind};
+ghost use Rattle.keep_meaning.specs.Nodes.{fact_kind, node_number};
 ghost use Rattle.keep_meaning.specs.OtherValues.{nodes_in_value};
-ghost use Rattle.keep_path.specs.KeysAlone.{keys_alone};
-ghost use Rattle.keep_path.specs.NodeInfos.{line_info, root_infos, with_last, with_node, with_table, without_node};
+ghost use Rattle.keep_path.specs.Dots.{after_parts, totals_after_parts, with_dots, with_keys, with_parts_from};
+ghost use Rattle.keep_path.specs.KeysAlone.{paths_below};
+ghost use Rattle.keep_path.specs.NodeInfos.{line_info, root_infos, with_last, with_node, without_node};
 ghost use Rattle.keep_path.specs.NodesBelow.{AreBelow, with_value};
-ghost use Rattle.keep_path.specs.Path.{key};
+ghost use Rattle.keep_path.specs.Path.{Part, key};
 ghost use Rattle.keep_rules.specs.LinePlaces.{IsPlaceOf, one_more};
 ghost use Rattle.keep_rules.specs.Lookup.{path_numbered};
+ghost use Rattle.keep_rules.specs.PassedTables.{ArePassed};
 ghost use Rattle.keep_rules.specs.ValueTexts.{IsTextOfValue};
 
-use super::new_keys::{NewKeys, key_at, nodes_of_keys};
+use super::new_keys::{KeyPlace, NewKeys, insert_past};
 use super::values::nodes_of_value;
 use super::{Index, NodeId};
 use crate::value::ValueText;
@@ -41,7 +43,8 @@ fn is_met_from(info: &NodeInfo, line: LineNumbers) -> bool
 /// The number of the first node that is met at the line or after it, if all from there on are and none before: a search
 /// by halves.
 fn first_met_from(nodes: &Tree, line: LineNumbers) -> usize
-    ensures { (at : ℕ) → IsPlaceOf (numbers_of line) nodes.now.infos at → result ≡ at }
+    ensures place { (at : ℕ) → IsPlaceOf (numbers_of line) nodes.now.infos at → result ≡ at }
+    ensures within { result ≤ length nodes.now.infos }
 {
     let mut low = 0;
     let mut high = nodes.len();
@@ -57,7 +60,7 @@ fn first_met_from(nodes: &Tree, line: LineNumbers) -> usize
 }
 
 /// How many values and key parts a document has with one line more, of one key part and with nothing in its value.
-fn with_line(totals: Totals) -> Option<Totals>
+pub(crate) fn with_line(totals: Totals) -> Option<Totals>
     ensures { IfSome result (λ more. totals_in more ≡ one_more (totals_in totals)) }
 {
     Some(Totals {
@@ -154,18 +157,21 @@ impl Index {
         self.nodes.insert_value(parent.0, text, line, at, given)
     }
 
-    /// One line more defines keys of the table `parent`: its keys go on by dots, and its value is of this kind, with
-    /// nothing nested in it. The node of the first of them is a table, and comes before the first that is met after the
-    /// line; the nodes of the others come each after the one before it. `line` has the numbers of the line's statement,
-    /// of its value and of the first of these keys in the syntax, and the facts about all others have their numbers
-    /// with the line. The document had `old` values and key parts in all, and now has `new`. It takes the memory of the
-    /// new nodes and their keys.
+    /// One line more defines keys below the table `parent`: its key goes on by dots, and its value is of this kind,
+    /// with nothing nested in it. The first keys of the line, `keys.passed` of them, name tables of dotted keys that
+    /// are there, of which `parent` is the last: each has one mention more, and has this line as the last that goes on
+    /// from it, unless a later one does. The node of the first new key comes before the first that is met after the
+    /// line, those of the others each after the one before it, and all but the last are tables. `line` has the numbers
+    /// of the line's statement, of its value and of its first key part in the syntax, and the facts about all others
+    /// have their numbers with the line. The document had `old` values and key parts in all, and now has `new`. It
+    /// takes the memory of the new nodes and their keys, and of the passed tables' numbers.
     ///
     /// # Errors
     ///
-    /// `NotInPlace` where `parent` takes no keys or has the first of these, where there are fewer than two or one of
-    /// the steps is an index, where a number would not fit where it is stored, and where memory was refused; then
-    /// nothing has changed, and the index has to be built anew.
+    /// `NotInPlace` where `parent` takes no keys or has the first new one, where there is none or one of the steps is
+    /// an index, where a node that is passed is no table of dotted keys, or has more mentions than 16 bits count, or
+    /// there are fewer below the root, where a number would not fit where it is stored, and where memory was refused;
+    /// then nothing has changed, and the index has to be built anew.
     pub fn insert_keys(
         &mut self,
         parent: NodeId,
@@ -179,28 +185,26 @@ impl Index {
         ensures inserted { OnOk result ((at : ℕ) → IsPlaceOf (numbers_of line) self.old.infos at
             → (first : List ℕ) (further : List (List ℕ))
             → drop keys.entry.from keys.entry.path.now ≡ map key (first ∷ further)
-            → self.new ≡ with_value (with_table self.old at (numbers_of line)
-            (path_numbered self.old parent.0 ++ key first ∷ [])) at 0 (one_more (totals_in old)) (totals_in new)
-            (keys_alone further kind) Table) }
+            → (base : List Part) (passed : List (List ℕ)) (ids : List ℕ)
+            → path_numbered self.old parent.0 ≡ base ++ map key passed → length passed ≡ keys.entry.passed
+            → map (node_number self.old.paths) (paths_below base passed) ≡ map Some ids
+            → self.new ≡ with_dots line.value ids
+            (with_keys (with_parts_from line.key keys.entry.passed self.old) at
+            (after_parts keys.entry.passed (numbers_of line)) (path_numbered self.old parent.0 ++ key first ∷ [])
+            further kind (totals_after_parts keys.entry.passed (totals_in old)) (totals_in new))) }
+        ensures passed { OnOk result ((at : ℕ) → IsPlaceOf (numbers_of line) self.old.infos at
+            → (base : List Part) (passed : List (List ℕ))
+            → path_numbered self.old parent.0 ≡ base ++ map key passed → length passed ≡ keys.entry.passed
+            → (ids : List ℕ) × ArePassed self.old at (paths_below base passed) ids) }
         ensures refused { OnErr result (self.new ≡ self.old) }
     {
-        let NewKeys { path, from } = keys;
-        if path.len().saturating_sub(1) <= from {
-            return Err(NotInPlace);
-        }
-        let first = key_at(path, from)?;
-        let Some(bare) = with_line(old) else {
-            return Err(NotInPlace);
-        };
-        let inside = nodes_of_keys(self.nodes.allocator(), path, from + 1, kind)?;
         let at = first_met_from(&self.nodes, line);
-        let given = NewValue {
-            inside,
-            kind: Kind::Table,
-            old: bare,
-            new,
+        let place = KeyPlace {
+            parent: parent.0,
+            at,
+            line,
         };
-        self.nodes.insert_table(parent.0, first, line, at, given)
+        insert_past(&mut self.nodes, place, keys, kind, old, new)
     }
 
     /// The line of a node goes: a keyval of one key part, with a value in which nothing is nested. Each node after it

@@ -17,7 +17,7 @@ pub returns-clause-inserted : goal.returns-clause-inserted
 returns-clause-inserted c =
     OnOk-map c.insert_key.result _ _ (λ is at from.
     let there =
-    c.first_met_from-at.ensures at (subst (λ (x : NodeInfos). IsPlaceOf (numbers_of c.args.line) x.infos at)
+    c.first_met_from-at.ensures.place at (subst (λ (x : NodeInfos). IsPlaceOf (numbers_of c.args.line) x.infos at)
     (sym c.self.view_is) from) in
     is
     ∙ ap (λ n.

@@ -28,7 +28,7 @@ returns-clause-inserted c =
     kind) at 0 bare (totals_in c.args.new) inside kind in
     OnOk-map c.insert_value.result _ _ (λ is at from v text.
     let there =
-    c.first_met_from-at.ensures at (subst (λ (x : NodeInfos). IsPlaceOf (numbers_of c.args.line) x.infos at)
+    c.first_met_from-at.ensures.place at (subst (λ (x : NodeInfos). IsPlaceOf (numbers_of c.args.line) x.infos at)
     (sym c.self.view_is) from) in
     is
     ∙ ap (λ (n : ℕ). after before n (totals_in c.in-Some.bare) (node_infos c.in_ok-inside.inside) c.kind-kind.result)

@@ -6,7 +6,7 @@ use Rattle.keep_rules.proofs.index.lines.first_met_from.Given as goal
 
 abbrev pub invariant-loop-low : goal.invariant-loop-low
 invariant-loop-low l =
-    (l.high ≤ length l.nodes.trie)
+    (l.high ≤ length l.nodes.trie) × (l.low ≤ l.high)
     × ((at : ℕ) → IsPlaceOf (numbers_of l.line) l.nodes.infos at → (l.low ≤ at) × (at ≤ l.high))
 
 abbrev pub decreases-loop-low : goal.decreases-loop-low
