@@ -184,7 +184,7 @@ impl Before<'_> {
             Edit::Insert(_, _) if header.is_some_and(|header| is_key_below(edit, header)) => {
                 self.part_at_end()
             }
-            Edit::Insert(path, _) => self.part_of_insert(path),
+            Edit::Insert(path, value) => self.part_of_insert(path, value.depth() > 0),
             Edit::Remove(path) => self.part_of_remove(path),
             Edit::Set(path, value) if value.depth() > 0 => self
                 .part_of_value(path)
@@ -202,24 +202,29 @@ impl Before<'_> {
         READING / (20 + len / 120).min(300 + len / 340)
     }
 
-    /// The same of an insert: two take as long with several keys, or into tables that no header defines, since the
-    /// index is built anew for them; else 23.
-    fn part_of_insert(&self, path: &Path) -> usize {
-        let Some(parent) = self.index.find_first(path, path.len().saturating_sub(1)) else {
+    /// The same of an insert: two take as long below a table that only other headers go through, and with several keys
+    /// and a value that `holds` items or pairs, since the index is built anew for them; else 23.
+    fn part_of_insert(&self, path: &Path, holds: bool) -> usize {
+        let steps = self.as_ref().reach(path).steps;
+        let Some(parent) = self.index.find_first(path, steps) else {
             return READING / 2;
         };
+        let has_several_keys = path.len() > steps.saturating_add(1);
         match self.index.node(parent).origin {
-            Origin::Dotted(_) | Origin::Through(_) => READING / 2,
             Origin::Value(number) => self.part_of_line(number).saturating_add(READING / 23),
+            Origin::Through(_) => READING / 2,
+            Origin::Dotted(_) if holds => READING / 2,
+            _ if has_several_keys && holds => READING / 2,
             _ => READING / 23,
         }
     }
 
-    /// The same of a remove: two take as long of tables, elements and lines with several keys; else 23.
+    /// The same of a remove: two take as long of tables, elements and lines with several keys, of which another names
+    /// the first; else 23.
     fn part_of_remove(&self, path: &Path) -> usize {
         match self.origin_of(path) {
             Some(Origin::Header(_) | Origin::Element(_)) => READING / 2,
-            Some(Origin::Value(number)) if self.has_several_keys(number) => self
+            Some(Origin::Value(number)) if self.shares_first_key(path, number) => self
                 .part_of_line(number)
                 .saturating_add(READING / 2),
             Some(Origin::Value(number)) => self.part_of_line(number).saturating_add(READING / 23),
@@ -242,9 +247,22 @@ impl Before<'_> {
         Some(self.index.node(id).origin)
     }
 
-    /// Whether a value has a line of its own, with several keys.
-    fn has_several_keys(&self, number: usize) -> bool {
-        number < self.syntax.value_count() && self.syntax.value(number).keys > 1
+    /// Whether the value at a path has a line of its own, with several keys, of which another line names the first.
+    fn shares_first_key(&self, path: &Path, number: usize) -> bool {
+        if number >= self.syntax.value_count() {
+            return false;
+        }
+        let further = self.syntax.value(number).keys.saturating_sub(1);
+        if further == 0 {
+            return false;
+        }
+        match self
+            .index
+            .find_first(path, path.len().saturating_sub(further))
+        {
+            Some(first) => self.index.node(first).marks != 1,
+            None => true,
+        }
     }
 
     /// What it takes to read the line again in which a value is, by its number, in parts of what it takes to read the
