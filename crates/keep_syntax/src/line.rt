@@ -274,7 +274,7 @@ fn statement(
 }
 
 /// `expression` and its newline: the line at the byte `at`. Where the next line begins, or `None` if the text ends.
-/// Most lines without a statement are empty, so a line feed is looked for before all else.
+/// Most lines have a statement, and most of the others are empty, so it is tested in that order.
 #[inline(always)]
 fn line(text: &str, at: usize, limits: Limits, out: &mut Parts) -> Result<Option<usize>, ReadFault>
     requires { IsCharBoundary text.now at }
@@ -283,12 +283,12 @@ fn line(text: &str, at: usize, limits: Limits, out: &mut Parts) -> Result<Option
 {
     let begin = space(text, at, out)?;
     let byte = byte_at(text, begin);
-    if byte == b'\n' {
-        line_feed(text, begin, out)
-    } else if is_line_end(byte) {
-        line_end(text, begin, out)
-    } else {
+    if !is_line_end(byte) {
         statement(text, at, begin, limits, out)
+    } else if byte == b'\n' {
+        line_feed(text, begin, out)
+    } else {
+        line_end(text, begin, out)
     }
 }
 

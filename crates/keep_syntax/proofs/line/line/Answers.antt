@@ -27,12 +27,12 @@ returns-then-byte-eq10 c =
     (flat c.line_feed.new.out) c.line_feed.result c.in_ok-begin.ensures (rw feed refl)
     (line_ends text begin begin f1 f1 (flat c.line_feed.new.out) c.line_feed.result none c.line_feed.ensures)
 
-pub returns-then-is_line_end : goal.returns-then-is_line_end
-returns-then-is_line_end c =
+pub returns-else-byte-eq10 : goal.returns-else-byte-eq10
+returns-else-byte-eq10 c =
     blank_line c.args.limits.profile c.args.limits.depth c.args.text.now c.args.at c.in_ok-begin.begin
     (flat c.args.out.now) (flat c.space.new.out) (flat c.line_end.new.out) c.line_end.result
-    c.in_ok-begin.ensures (rw c.byte_at-byte.ensures at rw c.is_line_end.ensures at c.if-is_line_end.true)
+    c.in_ok-begin.ensures (rw c.byte_at-byte.ensures at rw c.is_line_end.ensures at c.if-not-is_line_end.false)
     c.line_end.ensures
 
-pub returns-else-is_line_end : goal.returns-else-is_line_end
-returns-else-is_line_end c = c.statement.ensures (flat c.args.out.now) c.in_ok-begin.ensures
+pub returns-then-not-is_line_end : goal.returns-then-not-is_line_end
+returns-then-not-is_line_end c = c.statement.ensures (flat c.args.out.now) c.in_ok-begin.ensures
