@@ -59,6 +59,8 @@ pub mod RemovedValueLemmas
 pub mod InsertedValueLemmas
 pub mod LoweredLemmas
 pub mod DotsLemmas
+pub mod DotsLessLemmas
+pub mod DotsLeftLemmas
 pub mod PartsLemmas
 pub mod TakerLemmas
 pub mod Shared

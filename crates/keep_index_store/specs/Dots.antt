@@ -1,10 +1,10 @@
 -- Tables of dotted keys that a line more goes on from, and key parts that are no more before those of other lines.
-use Rattle.std.specs.Prelude.{◌≡◌, ℕ, zero, suc, ◌+◌, ◌<◌, ◌≤◌, ◌^◌, max, All, List, [], ◌∷◌, ◌++◌, length, map}
+use Rattle.std.specs.Prelude.{◌≡◌, ℕ, zero, suc, ◌+◌, ◌<◌, ◌≤◌, ◌^◌, max, All, List, [], ◌∷◌, ◌++◌, length}
 use Rattle.std.specs.Prelude.{slice_index_or}
 use Rattle.keep_types.specs.declared.node.NodeInfo.{NodeInfo}
 use Rattle.keep_types.specs.declared.node.Origin.TheVariants as origin
-use Rattle.keep_path.specs.NodeInfos.{NodeInfos, no_info}
-use Rattle.keep_path.specs.NodesBelow.{shifted, with_numbers}
+pub use Rattle.keep_path.specs.Dots.{without_parts}
+use Rattle.keep_path.specs.NodeInfos.{no_info}
 use Rattle.keep_index_store.specs.declared.facts.NodeFacts.{NodeFacts}
 use Rattle.keep_index_store.specs.declared.shift.NumberShifts.{NumberShifts}
 use Rattle.keep_index_store.specs.Trie.{TrieNode, parent_at}
@@ -41,11 +41,6 @@ abbrev pub with_mention : ℕ → NodeFacts → NodeFacts
 with_mention v t = record t { marks = suc t.marks; number = max v t.number }
 
 -- ---- key parts
-
--- without so many key parts from that number on
-abbrev pub without_parts : ℕ → ℕ → NodeInfos → NodeInfos
-without_parts from gone t =
-    record t { infos = map (with_numbers (λ v. v) (shifted (from + gone) gone 0)) t.infos }
 
 -- no number is greater once it is moved
 abbrev pub IsLowering : NumberShifts → Type 0

@@ -24,4 +24,5 @@ pub mod Joined
 pub mod KeysBelow
 pub mod Inserted
 pub mod Dots
+pub mod DotsLess
 pub use Rattle.keep_path.specs.Path

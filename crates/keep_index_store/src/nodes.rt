@@ -17,6 +17,7 @@ ghost use Rattle.keep_index_store.specs.Trie.{by_key, by_index};
 mod adding;
 mod below;
 mod dots;
+mod dots_less;
 mod joining;
 mod removing;
 mod renumbering;

@@ -4,6 +4,7 @@ ghost use Rattle.keep_index_store.specs.Packed.{Fits, facts_in, short_facts, joi
 ghost use Rattle.keep_index_store.specs.Facts.{joined_facts};
 
 mod dots;
+mod dots_less;
 mod renumbering;
 mod shifting;
 

@@ -12,6 +12,7 @@ ghost use Rattle.keep_path.specs.NodeInfos.{with_path};
 ghost use Rattle.keep_path.specs.Path.{EndsInKey, beside, key, index};
 
 mod dots;
+mod dots_less;
 mod inserting;
 mod inserting_value;
 mod joining;

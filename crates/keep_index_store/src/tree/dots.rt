@@ -6,6 +6,7 @@ ghost use Rattle.keep_path.specs.Dots.{info_with_dots, with_dots, with_parts_fro
 ghost use Rattle.keep_path.specs.KeysAlone.{paths_below};
 ghost use Rattle.keep_path.specs.Path.{Part, key};
 ghost use Rattle.keep_index_store.specs.Dots.{AreTakers, CanTake, IsPassed, without_parts};
+ghost use Rattle.keep_index_store.specs.DotsLess.{AreGivers, HasSmallValue};
 ghost use Rattle.keep_index_store.specs.Tree.{info_at, node_infos};
 ghost use Rattle.keep_index_store.specs.Trie.{path_at};
 
@@ -126,6 +127,8 @@ impl Tree {
         requires { from + gone < 2 ^ 64 }
         ensures taken { node_infos self.new ≡ without_parts from gone (node_infos self.old) }
         ensures same { self.new.trie ≡ self.old.trie }
+        ensures tables { (id n : ℕ) → AreGivers self.old id n → AreGivers self.new id n }
+        ensures small { All HasSmallValue self.old.infos → All HasSmallValue self.new.infos }
     {
         let by = part_shifts(Shift {
             from: from + gone,

@@ -4,6 +4,7 @@ ghost use Rattle.std.specs.List.{remove};
 ghost use Rattle.keep_path.specs.NodeInfos.{root_infos, without_node};
 ghost use Rattle.keep_path.specs.NodesBelow.{AreBelow, with_value};
 ghost use Rattle.keep_index_store.specs.Below.{IsRunBelow, replaced_below, totals_in, with_shifted_facts};
+ghost use Rattle.keep_index_store.specs.DotsLess.{LeavesTables};
 ghost use Rattle.keep_index_store.specs.Removed.{removed_nodes};
 ghost use Rattle.keep_index_store.specs.Renumbering.{numbers_of};
 ghost use Rattle.keep_index_store.specs.Stored.{IsStored};
@@ -84,6 +85,7 @@ impl Tree {
             → node_infos self.new ≡ without_node
             (with_value (node_infos self.old) id gone (totals_in old) (totals_in bare) root_infos k)
             id (numbers_of line)) }
+        ensures tables { OnOk result (LeavesTables id old bare self.old self.new) }
         ensures trie { IsTrie self.new.trie }
         ensures root { holds_at self.new.trie 0 ≡ holds_at self.old.trie 0 }
         ensures refused { OnErr result (self.new ≡ self.old) }
