@@ -75,7 +75,8 @@ READ_BY = {
     "read_owned": [],
     # what reads a given value once more
     "nodes_in_text": ["keep_rules index::values::nodes_of_value", INDEX + "set_text"],
-    "nodes_of_value": [INDEX + "insert_value"],
+    "nodes_of_value": [INDEX + "insert_value", "keep_rules index::new_keys::nodes_with_value"],
+    "nodes_with_value": [INDEX + "insert_keys_value"],
     "set_text": [INDEX + "set_value", "keep_edit index_change::set_inside"],
     # what reads it again, for a list of edits
     "copied": [DOCUMENT + "begun"],

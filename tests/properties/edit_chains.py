@@ -37,11 +37,19 @@ def line_of(random, depth):
     return b"  " * depth + key + random.choice((b" = ", b"=")) + random.choice(VALUES) + random.choice((b"", b"", b" # why")) + b"\n"
 
 
+def dotted_of(random):
+    """Lines with scalars that make one table of dotted keys, perhaps with another one in it."""
+    table = b"of-" + random.choice(KEYS)
+    keys = random.sample(KEYS, k=random.randrange(2, 5))
+    return b"".join(b".".join((table, *random.choices((b"in", key), k=random.choice((0, 0, 1))), key)) + b" = 1\n" for key in keys)
+
+
 def section_of(random, number):
     """A header with its body."""
     name = random.choice(KEYS) + b"-%d" % number
     header = random.choice((b"[%s]", b"[%s.sub]", b"[[%s]]")) % name + b"\n"
-    return random.choice(GAPS) + header + b"".join(line_of(random, random.choice((0, 1))) for _ in range(random.randrange(5)))
+    lines = b"".join(line_of(random, random.choice((0, 1))) for _ in range(random.randrange(5)))
+    return random.choice(GAPS) + header + lines + (dotted_of(random) if random.random() < 0.5 else b"")
 
 
 def document_of(random, is_accepted):
@@ -74,7 +82,9 @@ def edit_of(random, entries, size):
     if name == "rename":
         return b"rename", path, fresh
     if name == "remove":
-        return b"remove", path, b""
+        # Half of them are of lines that make a table of dotted keys, as long as there are any.
+        dotted = [it for it, _ in entries if b"of-" in it and b".of-" in b"." + it.rsplit(b".", 1)[0]]
+        return b"remove", random.choice(dotted) if dotted and random.random() < 0.5 else path, b""
     return name.encode(), prefix + fresh if b"[" not in path else fresh, b""
 
 

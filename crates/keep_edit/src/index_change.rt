@@ -87,8 +87,29 @@ pub(crate) fn change_index(index: &mut Index, change: IndexChange<'_>, new: NewT
         } => index
             .insert_keys(parent, keys, line, kind, totals, totals_of(new.syntax))
             .is_ok(),
+        IndexChange::AddedKeysValue {
+            parent,
+            path,
+            from,
+            line,
+            value,
+            totals,
+        } => {
+            let now = totals_of(new.syntax);
+            index
+                .insert_keys_value(parent, path, from, line, value, totals, now)
+                .is_ok()
+        }
         IndexChange::RemovedValue { node, line, totals } => index
             .remove_value(node, line, totals, totals_of(new.syntax))
+            .is_ok(),
+        IndexChange::RemovedKeys {
+            node,
+            passed,
+            line,
+            totals,
+        } => index
+            .remove_keys(node, passed, line, totals, totals_of(new.syntax))
             .is_ok(),
         IndexChange::AppendedHeader {
             header,

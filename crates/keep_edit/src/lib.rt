@@ -34,11 +34,12 @@
 //! **What it costs.** Reading goes over the text once. Of a new text an edit scans the lines that it touches: in a
 //! document of 1 MB a `set` of a scalar by a scalar and a `rename` take some 0.4 % of a reading, an `insert` or a
 //! `remove` of a line 4 %, and 8 % where it has several keys. The index is built anew, which takes half a reading,
-//! where a line of several keys has a list or an inline table, or goes while another line has its first key; where an
-//! `insert` brings a header; and where a table or an element goes. Of a list of edits `apply_all` makes many in a row
-//! at once that leave one another alone, and reads the text anew after them. Who wants no more than the new text calls
-//! `text_with` and its like, which read nothing anew, and for a list `apply_but_last`, which reads nothing after the
-//! last edits. A question that answers without an allocator takes no memory.
+//! where a list or an inline table comes to a table of dotted keys that is there, or goes from one that other lines
+//! make too; where the first line of such a table goes; where an `insert` brings a header; and where a table or an
+//! element goes. Of a list of edits `apply_all` makes many in a row at once that leave one another alone, and reads the
+//! text anew after them. Who wants no more than the new text calls `text_with` and its like, which read nothing anew,
+//! and for a list `apply_but_last`, which reads nothing after the last edits. A question that answers without an
+//! allocator takes no memory.
 //!
 //! **What it does not promise.** Time; how much memory is taken; that memory is there. Out of memory is a fault of its
 //! own (`Memory`, or `AllocError`), after which nothing that was borrowed has changed.

@@ -7,7 +7,7 @@
 -- (`table_of`): the passed tables are those nodes (`dotted`). So the nodes are those that the law of such a line tells
 -- (`facts`), and they are nested as the headers say.
 --
--- Theorem: `dots_changed`; `on_line`, `few_passed`: what the code may ask.
+-- Theorem: `dots_changed`; `on_line`, `few_passed`: what the code may ask; `tables_of`: the nodes of such paths.
 use Rattle.std.proofs.Common.{◌≡◌, ℕ, suc, ◌+◌, ◌-◌, ◌<◌, ◌≤◌, Bor, true, false, List, [], ◌∷◌, ◌++◌, length, get_or}
 use Rattle.std.proofs.Common.{map, take, drop, refl, sym, ap, ap₂, subst, ◌∙◌, append_assoc, length-append, arith}
 use Rattle.std.proofs.Common.{Option, Some, None, Ok, inl, inr}
@@ -74,7 +74,7 @@ use Rattle.keep_edit_plan.proofs.NodeLaws.{info_at, info_of_number, no_node}
 -- ---- the tables on the way to a path
 
 -- dots lead to the path
-abbrev HasDots : Document → List Part → Type 0
+abbrev pub HasDots : Document → List Part → Type 0
 HasDots s q = (m : ℕ) × (origin_of q s ≡ origin.Dotted m)
 
 -- The keys from a prefix on, where dots lead to each longer one.
@@ -139,12 +139,12 @@ module _ (s : Document) (before after : List Statement) (old : statements_in s �
         absurd cc
   ]
 
-  record AreTables (qs : List (List Part)) : Type 0 where
-    ids : List ℕ
-    numbers : map (node_number all) qs ≡ map Some ids
-    dotted : All (IsDotted s (nodes_after before)) ids
+  pub record AreTables (qs : List (List Part)) : Type 0 where
+    pub ids : List ℕ
+    pub numbers : map (node_number all) qs ≡ map Some ids
+    pub dotted : All (IsDotted s (nodes_after before)) ids
 
-  tables_of : (qs : List (List Part)) → AllOf (IsNamed (mentions before)) qs → AllOf (HasDots s) qs → AreTables qs
+  pub tables_of : (qs : List (List Part)) → AllOf (IsNamed (mentions before)) qs → AllOf (HasDots s) qs → AreTables qs
   tables_of [] named dots = record { ids = []; numbers = refl; dotted = λ k d h. absurd (omega (arith, h)) }
   tables_of (q ∷ qs) named dots =
       let one : IsTable q = table_of q named.0 dots.0 in

@@ -1,15 +1,16 @@
--- An insert of several keys at the end of a body, with nothing in its value, gives the index the node of the first of
--- them, and below it those of the others. It passes no table (`passes_none`).
+-- An insert of several keys at the end of a body gives the index the node of the first of them, and below it those of
+-- the others; and below the last of these those in its value. It passes no table (`passes_none`).
 --
 -- The path goes on from its holder by keys (`keys`), of which the law of the edit says that the new document has a line
 -- more by them. The line comes in the body of the holder (`body_is`), so its keys are those of the path (`same_keys`),
 -- and its first key's node comes where the facts say that the first node is met after the line (`at`). So the nodes are
 -- those that the law of such a line tells (`facts`).
 --
--- Theorem: `keys_added`; `first_of_keys`: two ways to go on by keys to one path are the same.
-use Rattle.std.proofs.Common.{◌≡◌, ℕ, ◌+◌, ◌-◌, ◌≤◌, Bor, false, List, [], ◌∷◌, ◌++◌, length, map, take, drop, refl}
-use Rattle.std.proofs.Common.{sym, ap, ap₂, subst, ◌∙◌, arith, append_assoc, length-drop, Option, Some, None, Ok, inl}
-use Rattle.std.proofs.Common.{inr}
+-- Theorems: `keys_added`: with nothing in the value; `keys_value_added`; `first_of_keys`: two ways to go on by keys to
+-- one path are the same.
+use Rattle.std.proofs.Common.{◌≡◌, ℕ, ◌+◌, ◌-◌, ◌<◌, ◌≤◌, Bor, false, List, [], ◌∷◌, ◌++◌, length, map, take, drop}
+use Rattle.std.proofs.Common.{refl, sym, ap, ap₂, subst, ◌∙◌, arith, append_assoc, length-drop, Option, Some, None, Ok}
+use Rattle.std.proofs.Common.{inl, inr}
 use Rattle.std.specs.Option.{option_map}
 use Rattle.std.proofs.lemmas.Bool.{cases_lt}
 use Rattle.std.proofs.lemmas.List.{append-nil, append_cancel_left}
@@ -19,7 +20,7 @@ use Rattle.keep_types.specs.declared.node.NodeInfo.{NodeInfo}
 use Rattle.keep_types.specs.declared.node.Origin.{Origin}
 use Rattle.keep_types.specs.declared.node.Origin.TheVariants as origin
 use Rattle.keep_syntax.specs.declared.syntax.Syntax.{Syntax}
-use Rattle.keep_syntax.specs.Tree.{Value, Document, value_depth}
+use Rattle.keep_syntax.specs.Tree.{Value, Document, none, value_depth}
 use Rattle.keep_path.specs.Dots.{after_parts, totals_after_parts, with_keys, with_parts_from}
 use Rattle.keep_path.specs.KeysAlone.{keys_alone}
 use Rattle.keep_path.specs.NodeInfos as node_infos
@@ -30,18 +31,20 @@ use Rattle.keep_index_store.specs.Below.{totals_in}
 use Rattle.keep_index_store.specs.declared.renumbering.LineNumbers.{LineNumbers}
 use Rattle.keep_index_store.specs.declared.shift.Totals as shift
 use Rattle.keep_index_store.specs.Renumbering.{numbers_of}
-use Rattle.keep_meaning.specs.KeysMore.{HasKeysMore, KeysAddNodes, KeysAreFound}
+use Rattle.keep_meaning.specs.Counts.{statements_in}
+use Rattle.keep_meaning.specs.KeysMore.{HasKeysMore, KeysAddNodes, KeysAddValueNodes, KeysAreFound, keys_with_value}
 use Rattle.keep_meaning.specs.LinesMore.{nodes_after, numbers_after, path_after}
 use Rattle.keep_meaning.specs.Marks.{Reading, Statement, reading_after, start}
 use Rattle.keep_meaning.specs.Meaning.{body_fact, lines, mentions_in}
 use Rattle.keep_meaning.specs.Nodes.{fact_kind, infos_in, is_node, node_number}
-use Rattle.keep_meaning.specs.OtherValues.{totals_of}
+use Rattle.keep_meaning.specs.OtherValues.{nodes_in_value, totals_of}
 use Rattle.keep_meaning.proofs.RunLemmas.{high_shifts, low_stays}
 use Rattle.keep_meaning.proofs.Shared.{paths-nodes_in}
 use Rattle.keep_rules.specs.declared.index.NodeId.{NodeId}
 use Rattle.keep_rules.specs.LinePlaces.{IsPlaceOf}
 use Rattle.keep_rules.specs.LinesNested.{KeysAreNested}
 use Rattle.keep_rules.specs.Lookup.{path_numbered}
+use Rattle.keep_rules.specs.Nested.{AreNested}
 use Rattle.keep_rules.proofs.Shared.{number_is, place_is}
 use Rattle.keep_edit_spec.specs.Edits.{edited_document, insert}
 use Rattle.keep_edit_spec.specs.KeyvalLines.{HasKeysAt, InsertAddsKeys}
@@ -126,16 +129,15 @@ passes_none t at line path ks k old new =
 
 -- ---- the insert
 
-module _ (adds : InsertAddsKeys) (add_nodes : KeysAddNodes) (are_found : KeysAreFound) (are_nested : KeysAreNested)
-    (d : ProfiledText) (syntax : Syntax) (index : NodeInfos) (given : Bor (List Part)) (s : Document) (v : Value)
+module _ (adds : InsertAddsKeys) (are_found : KeysAreFound) (are_nested : KeysAreNested) (d : ProfiledText)
+    (syntax : Syntax) (index : NodeInfos) (given : Bor (List Part)) (s : Document) (v : Value)
     (bytes : List ℕ) (i : Insertion)
     (holds : Holds d syntax index) (read : IsTextOfTree d s) (value : IsTextOfValue bytes v)
     (there : IsInsertionOf d.profile given.now v s (Ok i)) (utf8 : AreUtf8 given.now) (header : Option ℕ)
     (after_body : i.spot ≡ AfterBody header) (several : length given.now - i.from ≡ 1 → ⊥)
-    (flat : value_depth v ≤ 0)
     (parent : NodeId) (found : node_number index.paths (take i.from given.now) ≡ Some parent.0)
-    (numbers : LineNumbers) (are : AreNumbersAfter (holder given.now (mentions_in s)) s numbers) (kind : Kind)
-    (kind_is : kind ≡ fact_kind (body_fact v.body)) (old : shift.Totals) (many : totals_in old ≡ totals_of s) where
+    (numbers : LineNumbers) (are : AreNumbersAfter (holder given.now (mentions_in s)) s numbers) (old : shift.Totals)
+    (many : totals_in old ≡ totals_of s) where
   abbrev path : List Part
   path = given.now
 
@@ -179,10 +181,10 @@ module _ (adds : InsertAddsKeys) (add_nodes : KeysAddNodes) (are_found : KeysAre
 
   -- ---- the line
 
-  added : HasKeysAt s new path (body_fact v.body) (take are.line (lines s))
+  added : HasKeysAt s new path v (take are.line (lines s))
   added =
       adds d.profile limit s path keys.first keys.next keys.further v are.line (keys_utf8 path utf8) there.0 keys.whole
-      are.ends (no_entries v.body v.nested value.reads.valid.nested (omega (arith, flat)))
+      are.ends
 
   abbrev line : HasKeysMore s new
   line = added.line
@@ -227,56 +229,105 @@ module _ (adds : InsertAddsKeys) (add_nodes : KeysAddNodes) (are_found : KeysAre
       ap (λ (ps : List (List Part)). node_number ps first_path) (paths-nodes_in s)
       ∙ no_number first_path (mentions_in s) unsaid
 
-  abbrev told : Totals → ℕ → node_infos.LineNumbers → List Part → List (List ℕ) → Kind → NodeInfos
-  told bare n own p ks k =
-      with_value (with_table old_index n own p) n 0 bare (totals_of new) (keys_alone ks k) Table
+  -- with these nodes below that of the first key
+  abbrev told : NodeInfos → Totals → ℕ → node_infos.LineNumbers → List Part → NodeInfos
+  told inside bare n own p = with_value (with_table old_index n own p) n 0 bare (totals_of new) inside Table
 
-  facts : telling_in new
-      ≡ told (one_more (totals_of s)) place (numbers_of numbers) first_path (keys.next ∷ keys.further) kind
-  facts =
+  told_there : (inside : NodeInfos)
+      → told inside (one_more (totals_of s)) (nodes_after line.before) (numbers_after line.before)
+      (path_after line.before line.first)
+      ≡ told inside (one_more (totals_of s)) place (numbers_of numbers) first_path
+  told_there inside =
       let bare : Totals = one_more (totals_of s) in
-      let ks : List (List ℕ) = line.next ∷ line.further in
-      let k : Kind = fact_kind line.fact in
-      add_nodes s new line added.unsaid
-      ∙ ap (λ (n : ℕ). told bare n (numbers_after line.before) (path_after line.before line.first) ks k) at
-      ∙ ap (λ (own : node_infos.LineNumbers). told bare place own (path_after line.before line.first) ks k) numbers_are
-      ∙ ap (λ (p : List Part). told bare place (numbers_of numbers) p ks k) path_is
-      ∙ ap (λ (ls : List (List ℕ)). told bare place (numbers_of numbers) first_path ls k) same_keys.1
-      ∙ ap (told bare place (numbers_of numbers) first_path (keys.next ∷ keys.further))
-      (ap fact_kind added.gives ∙ sym kind_is)
+      ap (λ (n : ℕ). told inside bare n (numbers_after line.before) (path_after line.before line.first)) at
+      ∙ ap (λ (own : node_infos.LineNumbers).
+      told inside bare place own (path_after line.before line.first)) numbers_are
+      ∙ ap (told inside bare place (numbers_of numbers)) path_is
 
-  pub keys_added : IsIndexChange s new
-      (change.AddedKeys parent (record { path = given; from = i.from; passed = 0 }) numbers kind old)
-  keys_added =
+  parent_there : (parent.0 < length old_index.paths) × (path_numbered old_index parent.0 ≡ a)
+  parent_there =
       let here : node_number old_index.paths (take i.from path) ≡ Some parent.0 =
       ap (λ (t : NodeInfos). node_number t.paths (take i.from path)) (sym (stated_is d syntax index s holds read))
       ∙ found in
-      let (low, its_path) = number_is old_index.paths (take i.from path) parent.0 here in
-      let parent_is : path_numbered old_index parent.0 ≡ a =
-      its_path
-      ∙ line_change.prefix d syntax index path s v bytes i holds read value there utf8 header after_body in
-      record {
-        can = (
-          low,
-          λ first further left.
-              (let same : map key (first ∷ further) ≡ map key (keys.first ∷ keys.next ∷ keys.further) =
-              sym left ∙ keys.left in
-              let one : first ≡ keys.first = cc in
-              ap (λ (p : List Part). node_number old_index.paths (p ++ key first ∷ [])) parent_is
-              ∙ ap (λ (k : List ℕ). node_number old_index.paths (a ++ key k ∷ [])) one ∙ fresh),
-          subst (IsPlaceOf (numbers_of numbers) (infos_in s)) at is_place,
-        );
-        facts = λ u is.
-            is keys.first (keys.next ∷ keys.further) keys.left a [] [] (parent_is ∙ sym (append-nil a)) refl refl
-            ∙ passes_none old_index place (numbers_of numbers) (path_numbered old_index parent.0 ++ key keys.first ∷ [])
-            (keys.next ∷ keys.further) kind (totals_in old) (totals_of new)
-            ∙ ap (λ (p : List Part).
-            told (one_more (totals_in old)) place (numbers_of numbers) (p ++ key keys.first ∷ [])
-            (keys.next ∷ keys.further) kind) parent_is
-            ∙ ap (λ (t : Totals).
-            told (one_more t) place (numbers_of numbers) first_path (keys.next ∷ keys.further) kind) many
-            ∙ sym facts;
-        nested =
-            are_nested s new line added.unsaid read.obeys
-            (line_change.nested d syntax index path s v bytes i holds read value there utf8 header after_body);
-      }
+      let (low, its_path) = number_is old_index.paths (take i.from path) parent.0 here in (
+        low,
+        its_path
+            ∙ line_change.prefix d syntax index path s v bytes i holds read value there utf8 header after_body,
+      )
+
+  new_there : (first : List ℕ) (further : List (List ℕ)) → drop i.from path ≡ map key (first ∷ further)
+      → node_number old_index.paths (path_numbered old_index parent.0 ++ key first ∷ []) ≡ None
+  new_there first further left =
+      let same : map key (first ∷ further) ≡ map key (keys.first ∷ keys.next ∷ keys.further) = sym left ∙ keys.left in
+      let one : first ≡ keys.first = cc in
+      ap (λ (p : List Part). node_number old_index.paths (p ++ key first ∷ [])) parent_there.1
+      ∙ ap (λ (k : List ℕ). node_number old_index.paths (a ++ key k ∷ [])) one ∙ fresh
+
+  place_there : IsPlaceOf (numbers_of numbers) (infos_in s) place
+  place_there = subst (IsPlaceOf (numbers_of numbers) (infos_in s)) at is_place
+
+  nested : AreNested (mentions_in new) (reading_after start (statements_in new)).tables
+  nested =
+      are_nested s new line added.unsaid read.obeys
+      (line_change.nested d syntax index path s v bytes i holds read value there utf8 header after_body)
+
+  -- ---- with nothing in the value
+
+  module _ (add_nodes : KeysAddNodes) (flat : value_depth v ≤ 0) (kind : Kind)
+      (kind_is : kind ≡ fact_kind (body_fact v.body)) where
+    empty : v.nested ≡ none
+    empty = no_entries v.body v.nested value.reads.valid.nested (omega (arith, flat))
+
+    abbrev its_nodes : Totals → List Part → NodeInfos
+    its_nodes bare = told (keys_alone (keys.next ∷ keys.further) kind) bare place (numbers_of numbers)
+
+    facts : telling_in new ≡ its_nodes (one_more (totals_of s)) first_path
+    facts =
+        add_nodes s new line added.unsaid (added.holds ∙ empty)
+        ∙ told_there (keys_alone (line.next ∷ line.further) (fact_kind line.fact))
+        ∙ ap₂ (λ (ks : List (List ℕ)) (k : Kind).
+        told (keys_alone ks k) (one_more (totals_of s)) place (numbers_of numbers) first_path) same_keys.1
+        (ap fact_kind added.gives ∙ sym kind_is)
+
+    pub keys_added : IsIndexChange s new
+        (change.AddedKeys parent (record { path = given; from = i.from; passed = 0 }) numbers kind old)
+    keys_added = record {
+      can = (parent_there.0, new_there, place_there);
+      facts = λ u is.
+          is keys.first (keys.next ∷ keys.further) keys.left a [] [] (parent_there.1 ∙ sym (append-nil a)) refl refl
+          ∙ passes_none old_index place (numbers_of numbers) (path_numbered old_index parent.0 ++ key keys.first ∷ [])
+          (keys.next ∷ keys.further) kind (totals_in old) (totals_of new)
+          ∙ ap (λ (p : List Part). its_nodes (one_more (totals_in old)) (p ++ key keys.first ∷ [])) parent_there.1
+          ∙ ap (λ (t : Totals). its_nodes (one_more t) first_path) many
+          ∙ sym facts;
+      nested = nested;
+    }
+
+  -- ---- with this in it
+
+  module _ (add_nodes : KeysAddValueNodes) (held : Bor (List ℕ)) (text : IsTextOfValue held.now v) where
+    abbrev its_inside : List (List ℕ) → Kind → NodeInfos
+    its_inside ks k = keys_with_value ks k (nodes_in_value v)
+
+    abbrev value_nodes : Totals → List Part → NodeInfos
+    value_nodes bare =
+        told (its_inside (keys.next ∷ keys.further) (fact_kind (body_fact v.body))) bare place (numbers_of numbers)
+
+    value_facts : telling_in new ≡ value_nodes (one_more (totals_of s)) first_path
+    value_facts =
+        add_nodes s new line added.unsaid v added.holds
+        ∙ told_there (its_inside (line.next ∷ line.further) (fact_kind line.fact))
+        ∙ ap₂ (λ (ks : List (List ℕ)) (k : Kind).
+        told (its_inside ks k) (one_more (totals_of s)) place (numbers_of numbers) first_path) same_keys.1
+        (ap fact_kind added.gives)
+
+    pub keys_value_added : IsIndexChange s new (change.AddedKeysValue parent given i.from numbers held old)
+    keys_value_added = record {
+      can = (parent_there.0, new_there, place_there);
+      facts = λ u is.
+          is keys.first (keys.next ∷ keys.further) keys.left v text
+          ∙ ap (λ (p : List Part). value_nodes (one_more (totals_in old)) (p ++ key keys.first ∷ [])) parent_there.1
+          ∙ ap (λ (t : Totals). value_nodes (one_more t) first_path) many
+          ∙ sym value_facts;
+      nested = nested;
+    }

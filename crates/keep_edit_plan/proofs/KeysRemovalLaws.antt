@@ -1,12 +1,12 @@
--- A remove of a keyval's line of several keys, of which nothing else names the first, with nothing in its value, takes
--- from the index the node of that key, and all below it.
+-- A remove of a keyval's line of several keys, of which nothing else names the first, takes from the index the node of
+-- that key, and all below it.
 --
 -- The law of the edit says that the old document has one line more than the new one, after the statements that are
 -- counted for its numbers. The line's first key is that of the removed one (`path_is`), so its node is the one that was
 -- found (`at`). What the nodes are without the line, and how they are nested, is said by the laws of such a line.
 --
--- Theorems: `keys_removed`; `found_alone`: what the index tells of the first key.
-use Rattle.std.proofs.Common.{◌≡◌, ℕ, suc, ◌-◌, ◌≤◌, List, [], ◌∷◌, ◌++◌, length, map, take, refl, sym}
+-- Theorems: `keys_removed`, `keys_gone`; `found_alone`: what the index tells of the first key; `keys_removal`.
+use Rattle.std.proofs.Common.{◌≡◌, ℕ, suc, ◌+◌, ◌-◌, ◌<◌, ◌≤◌, List, [], ◌∷◌, ◌++◌, length, map, take, refl, sym}
 use Rattle.std.proofs.Common.{ap, subst, ◌∙◌, arith, length-append, Some, None, slice_get}
 use Rattle.std.proofs.lemmas.List.{length-map}
 use Rattle.keep_types.specs.declared.node.Kind.TheVariants.{Table}
@@ -28,13 +28,12 @@ use Rattle.keep_index_store.specs.Renumbering.{numbers_of}
 use Rattle.keep_meaning.specs.KeysMore.{HasKeysMore, KeysTakeNodes}
 use Rattle.keep_meaning.specs.LinesMore.{nodes_after, numbers_after, path_after}
 use Rattle.keep_meaning.specs.Marks.{Reading, Statement, reading_after, start}
-use Rattle.keep_meaning.specs.Meaning.{body_fact, further_value, key_value, line_of, mentions_in, reading_after_lines}
+use Rattle.keep_meaning.specs.Meaning.{further_value, key_value, line_of, mentions_in, reading_after_lines}
 use Rattle.keep_meaning.specs.Nodes.{mark_count, node_number}
 use Rattle.keep_meaning.specs.OtherValues.{totals_of}
 use Rattle.keep_meaning.proofs.Shared.{paths-nodes_in}
 use Rattle.keep_rules.specs.declared.index.NodeId.{NodeId}
 use Rattle.keep_rules.specs.LinesNested.{KeysLeaveNested}
-use Rattle.keep_rules.specs.Lookup.{children_numbered}
 use Rattle.keep_rules.proofs.Shared.{number_is}
 use Rattle.keep_edit_spec.specs.Edits.{edited_document, remove}
 use Rattle.keep_edit_spec.specs.KeyvalLines.{HasKeysAt, IsKeysLineOf, RemoveTakesKeys}
@@ -44,31 +43,31 @@ use Rattle.keep_edit_plan.specs.Answers.{value_number_of}
 use Rattle.keep_edit_plan.specs.IndexChanges.{IsIndexChange}
 use Rattle.keep_edit_plan.specs.Plans.{IsNodeOf}
 use Rattle.keep_edit_plan.specs.Reading.{limit, ProfiledText, Holds, IsTextOfTree, telling_in}
-use Rattle.keep_edit_plan.specs.Removing.{IsFirstAlone}
+use Rattle.keep_edit_plan.specs.Removing.{IsFirstAlone, IsKeysRemoval}
 use Rattle.keep_edit_plan.specs.declared.plan.IndexChange.TheVariants as change
-use Rattle.keep_edit_plan.proofs.FoundLaws.{IsStated, number_found_at, one_found}
+use Rattle.keep_edit_plan.specs.declared.remove.change.FirstAlone.{FirstAlone}
+use Rattle.keep_edit_plan.proofs.FoundLaws.{IsStated, number_found_at, one_found, values_are}
 use Rattle.keep_edit_plan.proofs.KeysChangeLaws.{first_of_keys}
-use Rattle.keep_edit_plan.proofs.KindLaws.{nothing_below}
 use Rattle.keep_edit_plan.proofs.LineRemovalLaws as removal
 use Rattle.keep_edit_plan.proofs.RemoveCut.{IsLineOfValue, removal_law}
 
 -- ---- the first key, as the index tells it
 
 pub found_alone : (d : ProfiledText) (syntax : Syntax) (index : NodeInfos) (path : List Part) (s : Document)
-    → Holds d syntax index → IsTextOfTree d s → (id : NodeId) → IsNodeOf path s id
-    → (count : ℕ) → count ≡ length (children_numbered index id.0) → count ≤ 0
-    → (further len : ℕ) → len ≡ length path - further
-    → (first : NodeId) → node_number index.paths (take len path) ≡ Some first.0
+    → Holds d syntax index → IsTextOfTree d s → (body before : ℕ) → body ≤ before → before < length path
+    → (first : NodeId) → node_number index.paths (take (before + 1) path) ≡ Some first.0
     → (info : NodeInfo) → slice_get index.infos first.0 ≡ Some info → info.marks ≡ 1
-    → IsFirstAlone path s further first
-found_alone d syntax index path s holds read id here count counted few further len cut first found info there one =
-    let front : List Part = take (length path - further) path in
+    → IsFirstAlone path s body (record { node = first; before = before })
+found_alone d syntax index path s holds read body before low within first found info there one =
+    let front : List Part = take (suc before) path in
+    let next : before + 1 ≡ suc before = omega arith in
     let at : Some first.0 ≡ node_number index.paths front =
-    sym found ∙ ap (λ (n : ℕ). node_number index.paths (take n path)) cut in
+    sym found ∙ ap (λ (n : ℕ). node_number index.paths (take n path)) next in
     let stated : IsStated front s info =
     one_found d syntax index front s holds read first info (Some first) refl at there in
     record {
-      childless = nothing_below d syntax index path s holds read id here count counted few;
+      low = low;
+      within = within;
       number = number_found_at d syntax index front s holds read first (Some first) refl at;
       once = sym (ap (λ (i : NodeInfo). i.marks) stated.is ∙ marks_stated front s) ∙ one;
     }
@@ -79,12 +78,10 @@ one_step [] p [] = refl
 one_step [] p (q ∷ b) = refl
 one_step (x ∷ a) p b = ap (λ (l : List Part). x ∷ l) (one_step a p b)
 
-without_last : (path a : List Part) (p : Part) (b : List Part) (n : ℕ) → path ≡ a ++ p ∷ b → n ≡ length b
-    → take (length path - n) path ≡ a ++ p ∷ []
-without_last path a p b n whole few =
-    let count : length path - n ≡ suc (length a) =
-    omega (arith, few, ap (λ (l : List Part). length l) whole, length-append a (p ∷ b)) in
-    ap (λ (k : ℕ). take k path) count ∙ ap (take (suc (length a))) whole ∙ one_step a p b
+pub with_step : (path a : List Part) (p : Part) (b : List Part) (n : ℕ) → path ≡ a ++ p ∷ b → n ≡ length a
+    → take (suc n) path ≡ a ++ p ∷ []
+with_step path a p b n whole many =
+    ap (λ (k : ℕ). take (suc k) path) many ∙ ap (take (suc (length a))) whole ∙ one_step a p b
 
 -- ---- the remove
 
@@ -94,9 +91,10 @@ module _ (takes : RemoveTakesKeys) (take_nodes : KeysTakeNodes) (leave_nested : 
     (allowed : refusal d.profile limit s (remove path) ≡ None) (number : ℕ)
     (found : value_number_of path s ≡ Some number) (info : ValueInfo)
     (stored : slice_get (values_of syntax) number ≡ Some info) (line : ℕ)
-    (owned : info.owner ≡ owner.Line line) (several : info.keys ≡ 1 → ⊥) (further : ℕ) (rest : further ≡ info.keys - 1)
-    (first : NodeId)
-    (alone : IsFirstAlone path s further first) (old : shift.Totals) (many : totals_in old ≡ totals_of s) where
+    (owned : info.owner ≡ owner.Line line) (several : info.keys ≡ 1 → ⊥)
+    (low : ℕ) (at_body : low ≡ length path - info.keys) (first : FirstAlone)
+    (alone : IsFirstAlone path s low first) (none_passed : first.before ≡ low) (old : shift.Totals)
+    (many : totals_in old ≡ totals_of s) where
   abbrev new : Document
   new = edited_document s (remove path)
 
@@ -114,7 +112,7 @@ module _ (takes : RemoveTakesKeys) (take_nodes : KeysTakeNodes) (leave_nested : 
 
   removed : (l : IsKeysLineOf s path (map line_of of.pre) held) × (of.found.own.keys ≡ key_count l.name.key)
   removed =
-      keys_line_of_value path s of.pre of.rest of.was of.found (λ one. several (sym keys_are ∙ one)) alone.childless
+      keys_line_of_value path s of.pre of.rest of.was of.found (λ one. several (sym keys_are ∙ one))
 
   abbrev body : List Part
   body = (reading_after_lines start (map line_of of.pre)).body
@@ -129,21 +127,24 @@ module _ (takes : RemoveTakesKeys) (take_nodes : KeysTakeNodes) (leave_nested : 
   whole = sym removed.0.place
 
   -- the first key's path
-  front_is : take (length path - further) path ≡ body ++ key own_first ∷ []
+  front_is : take (suc first.before) path ≡ body ++ key own_first ∷ []
   front_is =
-      without_last path body (key own_first) (map key others) further whole
+      with_step path body (key own_first) (map key others) first.before whole
       (omega (
         arith,
-        rest,
+        none_passed,
+        at_body,
         keys_are,
         removed.1,
+        ap (λ (p : List Part). length p) whole,
+        length-append body (map key (own_first ∷ others)),
         length-map others key,
         length-map removed.0.name.key.more further_value,
       ))
 
   -- ---- the line
 
-  taken : HasKeysAt new s path (body_fact held.body) (map line_of of.pre)
+  taken : HasKeysAt new s path held (map line_of of.pre)
   taken =
       takes s path (map line_of of.pre) held read.obeys removed.0
       (ap (λ (p : List Part). mark_count p (mentions_in s)) (sym front_is) ∙ alone.once)
@@ -169,30 +170,30 @@ module _ (takes : RemoveTakesKeys) (take_nodes : KeysTakeNodes) (leave_nested : 
       ap numbers_after taken.after
       ∙ removal.numbers_are d syntax index path s holds read id its_number allowed number found info stored line owned
 
-  here : node_number (telling_in s).paths (path_after its_line.before its_line.first) ≡ Some first.0
+  here : node_number (telling_in s).paths (path_after its_line.before its_line.first) ≡ Some first.node.0
   here =
       ap (node_number (telling_in s).paths) (path_is ∙ sym front_is)
-      ∙ ap (λ (ps : List (List Part)). node_number ps (take (length path - further) path)) (paths-nodes_in s)
+      ∙ ap (λ (ps : List (List Part)). node_number ps (take (suc first.before) path)) (paths-nodes_in s)
       ∙ alone.number
 
   -- ---- its nodes
 
-  at : nodes_after its_line.before ≡ first.0
-  at = let both : Some (nodes_after its_line.before) ≡ Some first.0 =
+  at : nodes_after its_line.before ≡ first.node.0
+  at = let both : Some (nodes_after its_line.before) ≡ Some first.node.0 =
       sym (take_nodes new s its_line taken.unsaid).0 ∙ here in cc
 
   abbrev left : ℕ → ℕ → Totals → node_infos.LineNumbers → NodeInfos
   left gone n all own =
       without_node (with_value (telling_in s) n gone all (one_more (totals_of new)) root_infos Table) n own
 
-  pub keys_removed : IsIndexChange s new (change.RemovedValue first numbers old)
+  pub keys_removed : IsIndexChange s new (change.RemovedValue first.node numbers old)
   keys_removed =
       let (gone, below, is) = (take_nodes new s its_line taken.unsaid).1 in
       record {
-        can = (number_is (telling_in s).paths (path_after its_line.before its_line.first) first.0 here).0;
+        can = (number_is (telling_in s).paths (path_after its_line.before its_line.first) first.node.0 here).0;
         facts = λ u by.
             by gone Table (subst (λ (n : ℕ). AreBelow (telling_in s).paths n gone) at below)
-            ∙ ap (λ (all : Totals). left gone first.0 all (numbers_of numbers)) many
+            ∙ ap (λ (all : Totals). left gone first.node.0 all (numbers_of numbers)) many
             ∙ ap (λ (n : ℕ). left gone n (totals_of s) (numbers_of numbers)) (sym at)
             ∙ ap (left gone (nodes_after its_line.before) (totals_of s)) (sym numbers_are)
             ∙ sym is;
@@ -200,3 +201,46 @@ module _ (takes : RemoveTakesKeys) (take_nodes : KeysTakeNodes) (leave_nested : 
             leave_nested new s its_line taken.unsaid (removal_law d path s read allowed).obeys
             (removal.nested d syntax index path s holds read id its_number allowed number found info stored line owned);
       }
+
+-- ---- as the code tells of the line
+
+module _ (d : ProfiledText) (syntax : Syntax) (index : NodeInfos) (path : List Part) (s : Document)
+    (holds : Holds d syntax index) (read : IsTextOfTree d s) (id : NodeId) where
+  pub keys_removal : IsNodeOf path s id → refusal d.profile limit s (remove path) ≡ None → (number : ℕ)
+      → value_number_of path s ≡ Some number → (info : ValueInfo)
+      → slice_get (values_of syntax) number ≡ Some info → (line : ℕ) → info.owner ≡ owner.Line line
+      → (info.keys ≡ 1 → ⊥)
+      → IsKeysRemoval d.profile path s id (record { statement = line; value = number; key = info.first_key }) info.keys
+  keys_removal here allowed number found info stored line owned several = record {
+    allowed = allowed;
+    number = here;
+    value = found;
+    info = info;
+    stored =
+        ap (λ (vs : List ValueInfo). slice_get vs number)
+        (sym (values_are d syntax index path s number holds read found)) ∙ stored;
+    owned = owned;
+    first = refl;
+    many = refl;
+    several = several;
+  }
+
+  module _ (line : LineNumbers) (keys : ℕ) (r : IsKeysRemoval d.profile path s id line keys) where
+    pub its_value : slice_get (values_of syntax) line.value ≡ Some r.info
+    its_value =
+        ap (λ (vs : List ValueInfo). slice_get vs line.value)
+        (values_are d syntax index path s line.value holds read r.value) ∙ r.stored
+
+    pub its_numbers : record line { key = r.info.first_key } ≡ line
+    its_numbers = ap (λ (k : ℕ). record line { key = k }) r.first
+
+    pub keys_gone : RemoveTakesKeys → KeysTakeNodes → KeysLeaveNested
+        → (low : ℕ) → low ≡ length path - keys → (first : FirstAlone) → IsFirstAlone path s low first
+        → first.before ≡ low → (old : shift.Totals) → totals_in old ≡ totals_of s
+        → IsIndexChange s (edited_document s (remove path)) (change.RemovedValue first.node line old)
+    keys_gone takes take_nodes leave_nested low at_body first alone none_passed old many =
+        subst (λ (l : LineNumbers).
+        IsIndexChange s (edited_document s (remove path)) (change.RemovedValue first.node l old)) its_numbers
+        (keys_removed takes take_nodes leave_nested d syntax index path s holds read id r.number r.allowed line.value
+        r.value r.info its_value line.statement r.owned (λ one. r.several (sym r.many ∙ one)) low
+        (at_body ∙ ap (λ (n : ℕ). length path - n) (sym r.many)) first alone none_passed old many)

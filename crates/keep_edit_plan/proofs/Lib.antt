@@ -47,6 +47,7 @@ pub mod LineValueLaws
 pub mod LineRemovalLaws
 pub mod LineValueRemovalLaws
 pub mod KeysRemovalLaws
+pub mod DotsRemovalLaws
 pub mod RemovedLineLaws
 pub mod SectionLaws
 pub mod HeaderChangeLaws

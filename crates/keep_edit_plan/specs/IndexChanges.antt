@@ -2,17 +2,21 @@
 use Rattle.std.specs.Prelude.{◌≡◌, ◌<◌, [], ◌∷◌, ◌++◌, List, None, Some, drop, length, map}
 use Rattle.std.specs.Prelude.{ℕ}
 use Rattle.keep_types.specs.declared.node.Kind.{Kind as NodeKind}
+use Rattle.keep_types.specs.declared.node.Kind.TheVariants as node_kind
 use Rattle.keep_syntax.specs.Tree.{Document, Value as TreeValue}
 use Rattle.keep_meaning.specs.Counts.{statements_in}
+use Rattle.keep_meaning.specs.DotsLess.{without_dots}
+use Rattle.keep_meaning.specs.KeysMore.{keys_with_value}
 use Rattle.keep_meaning.specs.Marks.{start, reading_after}
 use Rattle.keep_meaning.specs.Meaning.{body_fact, mentions_in}
 use Rattle.keep_meaning.specs.Nodes.{fact_kind, node_number}
 use Rattle.keep_meaning.specs.OtherValues.{nodes_in_value, totals_of}
 use Rattle.keep_meaning.specs.StatementsMore.{AreNumbersAtEnd, said_next}
 use Rattle.keep_path.specs.Dots.{after_parts, totals_after_parts, with_dots, with_keys, with_parts_from}
+use Rattle.keep_path.specs.Dots.{without_keys}
 use Rattle.keep_path.specs.KeysAlone.{paths_below}
 use Rattle.keep_path.specs.NodeInfos.{NodeInfos, line_info, root_infos, with_kind, with_last, with_node, with_path}
-use Rattle.keep_path.specs.NodeInfos.{without_node}
+use Rattle.keep_path.specs.NodeInfos.{with_table, without_node}
 use Rattle.keep_path.specs.NodesBelow.{AreBelow, with_value}
 use Rattle.keep_path.specs.Path.{EndsInKey, Part, beside, key}
 pub use Rattle.keep_index_store.specs.Below.{totals_in}
@@ -27,8 +31,9 @@ use Rattle.keep_edit_plan.specs.Headers.{key_texts, statement_of}
 use Rattle.keep_edit_plan.specs.Reading.{IsTextOfValue, telling_in}
 use Rattle.keep_edit_plan.specs.declared.plan.IndexChange.{IndexChange}
 use Rattle.keep_edit_plan.specs.declared.plan.IndexChange.TheVariants.{Kind, Key, Value, Inside, AddedLine, RemovedLine}
-use Rattle.keep_edit_plan.specs.declared.plan.IndexChange.TheVariants.{AddedValue, AddedKeys, RemovedValue}
-use Rattle.keep_edit_plan.specs.declared.plan.IndexChange.TheVariants.{AppendedHeader, AppendedLine}
+use Rattle.keep_edit_plan.specs.declared.plan.IndexChange.TheVariants.{AddedValue, AddedKeys, AddedKeysValue}
+use Rattle.keep_edit_plan.specs.declared.plan.IndexChange.TheVariants.{AppendedHeader, AppendedLine, RemovedKeys}
+use Rattle.keep_edit_plan.specs.declared.plan.IndexChange.TheVariants.{RemovedValue}
 
 -- The node is there. Where another key is its path's last one, the path ends in a key, and no node is at the new one.
 -- No node is at the path of a new line's first key, and the nodes that are met before the line come first. The numbers
@@ -54,7 +59,13 @@ CanChange t (AddedKeys parent keys line kind old) =
     × ((first : List ℕ) (further : List (List ℕ)) → drop keys.from keys.path.now ≡ map key (first ∷ further)
     → node_number t.paths (path_numbered t parent.0 ++ key first ∷ []) ≡ None)
     × IsPlaceOf (numbers_of line) t.infos (met_before (numbers_of line) t.infos)
+CanChange t (AddedKeysValue parent path from line value old) =
+    (parent.0 < length t.paths)
+    × ((first : List ℕ) (further : List (List ℕ)) → drop from path.now ≡ map key (first ∷ further)
+    → node_number t.paths (path_numbered t parent.0 ++ key first ∷ []) ≡ None)
+    × IsPlaceOf (numbers_of line) t.infos (met_before (numbers_of line) t.infos)
 CanChange t (RemovedValue node line old) = node.0 < length t.paths
+CanChange t (RemovedKeys node passed line old) = node.0 < length t.paths
 CanChange t (AppendedHeader header keys statement first) =
     (d : Document) × IsIndexOf d t × AreNumbersAtEnd d statement first
 
@@ -89,10 +100,23 @@ IsChanged t d (AddedKeys parent keys line kind old) u =
     (met_before (numbers_of line) t.infos) (after_parts keys.passed (numbers_of line))
     (path_numbered t parent.0 ++ key first ∷ []) further kind (totals_after_parts keys.passed (totals_in old))
     (totals_of d))
+IsChanged t d (AddedKeysValue parent path from line value old) u =
+    (first : List ℕ) (further : List (List ℕ)) → drop from path.now ≡ map key (first ∷ further)
+    → (v : TreeValue) → IsTextOfValue value.now v
+    → u ≡ with_value (with_table t (met_before (numbers_of line) t.infos) (numbers_of line)
+    (path_numbered t parent.0 ++ key first ∷ []))
+    (met_before (numbers_of line) t.infos) 0 (one_more (totals_in old)) (totals_of d)
+    (keys_with_value further (fact_kind (body_fact v.body)) (nodes_in_value v)) node_kind.Table
 IsChanged t d (RemovedValue node line old) u =
     (gone : ℕ) (k : NodeKind) → AreBelow t.paths node.0 gone
     → u ≡ without_node (with_value t node.0 gone (totals_in old) (one_more (totals_of d)) root_infos k) node.0
     (numbers_of line)
+IsChanged t d (RemovedKeys node passed line old) u =
+    (base : List Part) (keys : List (List ℕ)) (first : List ℕ) (ids : List ℕ)
+    → path_numbered t node.0 ≡ (base ++ map key keys) ++ key first ∷ [] → length keys ≡ passed
+    → map (node_number t.paths) (paths_below base keys) ≡ map Some ids
+    → (gone : ℕ) (k : NodeKind) → AreBelow t.paths node.0 gone
+    → u ≡ without_dots ids (without_keys t node.0 gone passed (numbers_of line) (totals_in old) (totals_of d) k)
 IsChanged t d (AppendedHeader header keys statement first) u =
     (old : Document) → IsIndexOf old t → AreNumbersAtEnd old statement first
     → u ≡ with_mentions t (said_next old (statement_of header (key_texts keys.now)))

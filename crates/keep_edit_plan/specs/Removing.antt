@@ -1,15 +1,20 @@
 -- What `remove` takes hold of, and where it cuts.
-use Rattle.std.specs.Prelude.{◌≡◌, ◌⊎◌, ℕ, suc, ◌-◌, ◌≤◌, ◌<◌, List, [], length, take, Option, Some, None, Result, Ok}
-use Rattle.std.specs.Prelude.{Err}
+use Rattle.std.specs.Prelude.{◌≡◌, ◌⊎◌, ℕ, suc, ◌≤◌, ◌<◌, Bool, true, false, List, [], ◌∷◌, ◌++◌, length, take}
+use Rattle.std.specs.Prelude.{Option, Some, None, Result, Ok, Err, slice_get}
 use Rattle.keep_types.specs.declared.leaf.Profile.{Profile}
+use Rattle.keep_types.specs.declared.node.Origin.{Origin}
+use Rattle.keep_types.specs.declared.node.Origin.TheVariants as origin
+use Rattle.keep_types.specs.declared.syntax.Owner.TheVariants as owner
 use Rattle.keep_types.specs.declared.syntax.ValueInfo.{ValueInfo}
+use Rattle.keep_syntax.specs.Numbered as numbered
 use Rattle.keep_syntax.specs.Tree.{Document}
 use Rattle.keep_meaning.specs.KeyText.{text_at}
 use Rattle.keep_path.specs.Path.{Part}
-use Rattle.keep_meaning.specs.Counts.{numbered_in}
+use Rattle.keep_index_store.specs.declared.renumbering.LineNumbers.{LineNumbers}
+use Rattle.keep_meaning.specs.Counts.{is_mark, numbered_in}
 use Rattle.keep_meaning.specs.Meaning.{mentions_in}
-use Rattle.keep_meaning.specs.Nodes.{children, is_begun, is_define, last_number, mark_count, node_paths, numbered_at}
-use Rattle.keep_meaning.specs.Nodes.{statement_number}
+use Rattle.keep_meaning.specs.Nodes.{first_number, is_begun, is_define, key_number, last_number, mark_count}
+use Rattle.keep_meaning.specs.Nodes.{numbered_at, statement_number}
 use Rattle.keep_rules.specs.declared.index.NodeId.{NodeId}
 use Rattle.keep_edit_spec.specs.declared.fault.EditFault.{EditFault}
 use Rattle.keep_edit_spec.specs.Changed.{Place}
@@ -17,8 +22,10 @@ use Rattle.keep_edit_spec.specs.Edits.{remove, place}
 use Rattle.keep_edit_spec.specs.Refusals.{refusal}
 use Rattle.keep_edit_plan.specs.Reading.{limit}
 use Rattle.keep_edit_plan.specs.Answers.{value_number_of, IsSpanOf}
+use Rattle.keep_edit_plan.specs.Inserting.{origin_of}
 use Rattle.keep_edit_plan.specs.Plans.{IsNodeOf}
 use Rattle.keep_edit_plan.specs.declared.remove.Cut.{Cut}
+use Rattle.keep_edit_plan.specs.declared.remove.change.FirstAlone.{FirstAlone}
 use Rattle.keep_edit_plan.specs.declared.remove.Piece.{Piece}
 use Rattle.keep_edit_plan.specs.declared.remove.Piece.TheVariants.{Value, Section}
 
@@ -52,11 +59,41 @@ abbrev pub IsRemovalFound : Profile → List Part → Document → Result (NodeI
 IsRemovalFound profile path s (Ok found) = IsNodeOf path s found.0 × IsRemovalOf profile path s (Ok found.1)
 IsRemovalFound profile path s (Err f) = IsRemovalOf profile path s (Err f)
 
--- The path without so many steps at its end has this node, which one key part names; below the whole path is no node.
-pub record IsFirstAlone (path : List Part) (s : Document) (further : ℕ) (first : NodeId) : Type 0 where
-  pub childless : children path (node_paths (mentions_in s)) ≡ []
-  pub number : IsNodeOf (take (length path - further) path) s first
-  pub once : mark_count (take (length path - further) path) (mentions_in s) ≡ 1
+-- After so many steps of the path at least, one more leads to this node, which one key part names.
+pub record IsFirstAlone (path : List Part) (s : Document) (body : ℕ) (first : FirstAlone) : Type 0 where
+  pub low : body ≤ first.before
+  pub within : first.before < length path
+  pub number : IsNodeOf (take (suc first.before) path) s first.node
+  pub once : mark_count (take (suc first.before) path) (mentions_in s) ≡ 1
+
+-- of a keyval's value, or of a table from which a keyval continues
+abbrev pub is_keyval_origin : Origin → Bool
+is_keyval_origin (origin.Value v) = true
+is_keyval_origin (origin.Dotted v) = true
+is_keyval_origin _ = false
+
+-- The path of some node one step below the table is first named by a key part before the one with this number, and it
+-- has such an origin.
+pub record IsDottedBefore (table : List Part) (s : Document) (key : ℕ) : Type 0 where
+  pub last : Part
+  pub first : ℕ
+  pub named : first_number is_mark key_number (numbered_at (table ++ last ∷ []) (numbered_in s)) ≡ Some first
+  pub before : first < key
+  pub origin : is_keyval_origin (origin_of (table ++ last ∷ []) s) ≡ true
+
+-- The path of this node has a value on a line with these numbers, and its key has so many parts, several; a remove of
+-- it is not refused.
+pub record IsKeysRemoval (profile : Profile) (path : List Part) (s : Document) (node : NodeId) (line : LineNumbers)
+    (keys : ℕ) : Type 0 where
+  pub allowed : refusal profile limit s (remove path) ≡ None
+  pub number : IsNodeOf path s node
+  pub value : value_number_of path s ≡ Some line.value
+  pub info : ValueInfo
+  pub stored : slice_get (numbered.values s) line.value ≡ Some info
+  pub owned : info.owner ≡ owner.Line line.statement
+  pub first : info.first_key ≡ line.key
+  pub many : info.keys ≡ keys
+  pub several : keys ≡ 1 → ⊥
 
 -- ---- where the text is cut
 

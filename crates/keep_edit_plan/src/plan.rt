@@ -4,7 +4,7 @@ ghost use Rattle.keep_edit_plan.specs.Plans.{IsPlanAt};
 use crate::header::Header;
 use crate::text_edit::TextEdit;
 use keep_edit_spec::EditFault;
-use keep_rules::{Kind, LineNumbers, NewKeys, NodeId, Totals, ValueText};
+use keep_rules::{Kind, LineNumbers, NewKeys, NodeId, Path, Totals, ValueText};
 use keep_syntax::Span;
 use std::alloc::Global;
 
@@ -73,10 +73,30 @@ pub enum IndexChange<'a> {
         kind: Kind,
         totals: Totals,
     },
+    /// A line comes with these numbers and this value: below a table there is one node more, by the step with that
+    /// number of this path, below it those of the steps after that, and below the last of them those in the value. The
+    /// document had so many values and key parts.
+    AddedKeysValue {
+        parent: NodeId,
+        path: &'a Path,
+        from: usize,
+        line: LineNumbers,
+        value: &'a ValueText,
+        totals: Totals,
+    },
     /// The line with these numbers goes, and with it this node, that of the first of its keys, and all below it; the
     /// document had so many values and key parts.
     RemovedValue {
         node: NodeId,
+        line: LineNumbers,
+        totals: Totals,
+    },
+    /// The line with these numbers goes, and with it this node, that of the first of its keys that is not passed, and
+    /// all below it. So many keys are passed: the tables of dotted keys that they name have one keyval less. The
+    /// document had so many values and key parts.
+    RemovedKeys {
+        node: NodeId,
+        passed: usize,
         line: LineNumbers,
         totals: Totals,
     },

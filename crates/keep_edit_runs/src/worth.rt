@@ -202,19 +202,17 @@ impl Before<'_> {
         READING / (20 + len / 120).min(300 + len / 340)
     }
 
-    /// The same of an insert: two take as long below a table that only other headers go through, and with several keys
-    /// and a value that `holds` items or pairs, since the index is built anew for them; else 23.
+    /// The same of an insert: two take as long below a table that only other headers go through, and into a table of
+    /// dotted keys with a value that `holds` items or pairs, since the index is built anew for them; else 23.
     fn part_of_insert(&self, path: &Path, holds: bool) -> usize {
         let steps = self.as_ref().reach(path).steps;
         let Some(parent) = self.index.find_first(path, steps) else {
             return READING / 2;
         };
-        let has_several_keys = path.len() > steps.saturating_add(1);
         match self.index.node(parent).origin {
             Origin::Value(number) => self.part_of_line(number).saturating_add(READING / 23),
             Origin::Through(_) => READING / 2,
             Origin::Dotted(_) if holds => READING / 2,
-            _ if has_several_keys && holds => READING / 2,
             _ => READING / 23,
         }
     }

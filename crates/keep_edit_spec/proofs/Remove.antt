@@ -26,6 +26,9 @@ pub mod RemoveSectionPlace
 pub mod RemovePlaces
 pub mod LineTaken
 pub mod RemoveTakesLine
+pub mod RemoveTakesDots
 pub mod RemoveTakesKeys
+pub mod KeyvalPaths
+pub mod DotsLeft
 pub mod RemoveTakesValue
 pub mod TakenIsValue

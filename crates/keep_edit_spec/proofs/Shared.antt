@@ -1,6 +1,6 @@
 -- What the crates above build on, in one place.
 pub use Rattle.keep_edit_spec.proofs.Common.Runs.{AllOf, Allowed, Pairs, Rules, SomeOf, all_join, same_path-sound}
-pub use Rattle.keep_edit_spec.proofs.Common.Runs.{kinds_allow}
+pub use Rattle.keep_edit_spec.proofs.Common.Runs.{all_map, kinds_allow, same_part-sound}
 pub use Rattle.keep_edit_spec.proofs.Common.BodyEnd.{IsBodyEnd, end_is}
 pub use Rattle.keep_edit_spec.proofs.Common.LineLaws.{EndsInKey}
 pub use Rattle.keep_edit_spec.proofs.Common.LineStatements.{reading_statements}
@@ -14,7 +14,8 @@ pub use Rattle.keep_edit_spec.proofs.Common.Moves.{IsInjectiveOn, mentions_moved
 pub use Rattle.keep_edit_spec.proofs.Rename.RenameInValue.{snoc_of}
 pub use Rattle.keep_edit_spec.proofs.Rename.MovedLines.{IsDocumentMoved, moved_numbered}
 pub use Rattle.keep_edit_spec.proofs.Rename.RenameNodes.{IsClear, IsNodeRenamed, KeepsSteps, nodes_renamed}
-pub use Rattle.keep_edit_spec.proofs.Remove.LineOfValue.{keys_line_of_value, line_numbers, line_of_value, value_line}
+pub use Rattle.keep_edit_spec.proofs.Remove.LineOfValue.{dots_line_of_value, keys_line_of_value, line_numbers}
+pub use Rattle.keep_edit_spec.proofs.Remove.LineOfValue.{line_of_value, value_line}
 pub use Rattle.keep_edit_spec.proofs.Remove.RemoveLinePlace.{IsLineValue, IsLow, is_high}
 pub use Rattle.keep_edit_spec.proofs.Remove.RemovePlaces.{IsPlaced, IsRemoved, removed}
 pub use Rattle.keep_edit_spec.proofs.Common.Doubles.{IsMentioned, has_some}
@@ -82,9 +83,12 @@ pub use Rattle.keep_edit_spec.proofs.Insert.InsertAddsValue.{insert_adds_value}
 pub use Rattle.keep_edit_spec.proofs.Remove.RemoveEntry.{all_prefix, past_stops}
 pub use Rattle.keep_edit_spec.proofs.Remove.RemovePlace.{preserved_is, run_ends}
 pub use Rattle.keep_edit_spec.proofs.Remove.RemoveTakesLine.{remove_takes_line}
+pub use Rattle.keep_edit_spec.proofs.Remove.RemoveTakesDots.{remove_takes_dots}
+pub use Rattle.keep_edit_spec.proofs.Remove.DotsLeft.{new_key_is, tables_dotted, tables_named}
+pub use Rattle.keep_edit_spec.proofs.Remove.KeyvalPaths.{IsKept, dots_kept, in_keyval, kept_of, value_kept}
 pub use Rattle.keep_edit_spec.proofs.Remove.RemoveTakesKeys.{remove_takes_keys}
 pub use Rattle.keep_edit_spec.proofs.Remove.RemoveTakesValue.{remove_takes_value}
-pub use Rattle.keep_edit_spec.proofs.Insert.InsertDottedPlace.{IsBaseAt, IsDottedPlaced, dotted_placed}
+pub use Rattle.keep_edit_spec.proofs.Insert.InsertDottedPlace.{IsBaseAt, IsDottedPlaced, dotted_origin, dotted_placed}
 pub use Rattle.keep_edit_spec.proofs.Common.Texts.{EachIs, entry-text, joined_gap-text, past_ws-text, put-place_of}
 pub use Rattle.keep_edit_spec.proofs.Common.Texts.{put_item-is, put_named-is, removal-is, text_of-append}
 pub use Rattle.keep_edit_spec.proofs.Touched.FitLaws.{touched_lines_are_lines}

@@ -11,7 +11,7 @@ use Rattle.keep_meaning.specs.Fact.{Fact}
 use Rattle.keep_meaning.specs.KeysMore.{HasKeysMore, IsUnsaid}
 use Rattle.keep_meaning.specs.LinesMore.{HasLineMore, path_after}
 use Rattle.keep_meaning.specs.Marks.{marks, start}
-use Rattle.keep_meaning.specs.Meaning.{body_fact, key_value, lines, mentions_in, reading_after_lines, step}
+use Rattle.keep_meaning.specs.Meaning.{body_fact, key_value, keys_of, lines, mentions_in, reading_after_lines, step}
 use Rattle.keep_meaning.specs.Nodes.{is_node, mark_count}
 use Rattle.keep_meaning.specs.OtherValues.{HasOtherValue, totals_of}
 use Rattle.keep_meaning.specs.Rules.{ObeysRules}
@@ -111,15 +111,16 @@ RemoveTakesValue =
 -- ---- the same of a line whose key has several parts, of which the first is named nowhere else
 
 -- The second document has one line more, after these lines: by several keys, the first of which has an unsaid path in
--- the first document, it gives this path this fact.
-pub record HasKeysAt (d more : Document) (path : List Part) (fact : Fact) (before : List Line) : Type 0 where
+-- the first document, it gives this path this value.
+pub record HasKeysAt (d more : Document) (path : List Part) (value : Value) (before : List Line) : Type 0 where
   pub line : HasKeysMore d more
   pub after : line.before ≡ filter_map line_statement before
   pub place : path_after line.before line.first ++ map key (line.next ∷ line.further) ≡ path
-  pub gives : line.fact ≡ fact
+  pub gives : line.fact ≡ body_fact value.body
+  pub holds : line.nested ≡ value.nested
   pub unsaid : IsUnsaid d (path_after line.before line.first)
 
--- After these lines is a keyval with this path, whose key goes on after the first part, with nothing in its value.
+-- After these lines is a keyval with this path and this value, whose key goes on after the first part.
 pub record IsKeysLineOf (s : Document) (path : List Part) (before : List Line) (value : Value) : Type 0 where
   pub line : Line
   pub after : List Line
@@ -130,7 +131,6 @@ pub record IsKeysLineOf (s : Document) (path : List Part) (before : List Line) (
   pub content : line.content ≡ keyval name value
   pub place : (reading_after_lines start before).body ++ step 0 (Some name) ≡ path
   pub several : name.key.more ≡ next ∷ further
-  pub empty : value.nested ≡ none
 
 -- An insert of several new keys into the root, a table or an element that is defined adds a line at its end.
 abbrev pub InsertAddsKeys : Type 0
@@ -139,8 +139,8 @@ InsertAddsKeys =
     (value : Value) (n : ℕ)
     → AllByRecursion IsUtf8 (keys_in path) → refusal profile limit s (insert path value) ≡ None
     → path ≡ holder path (mentions_in s) ++ map key (first ∷ next ∷ further)
-    → end_of s (holder path (mentions_in s)) ≡ Some n → value.nested ≡ none
-    → HasKeysAt s (edited_document s (insert path value)) path (body_fact value.body) (take n (lines s))
+    → end_of s (holder path (mentions_in s)) ≡ Some n
+    → HasKeysAt s (edited_document s (insert path value)) path value (take n (lines s))
 
 -- A remove of such a line takes it, or what it says, where no other key part names the path of its first key.
 abbrev pub RemoveTakesKeys : Type 0
@@ -149,7 +149,7 @@ RemoveTakesKeys =
     → (line : IsKeysLineOf s path before value)
     → mark_count ((reading_after_lines start before).body ++ key (key_value line.name.key.first) ∷ []) (mentions_in s)
     ≡ 1
-    → HasKeysAt (edited_document s (remove path)) s path (body_fact value.body) before
+    → HasKeysAt (edited_document s (remove path)) s path value before
 
 -- ---- the same of a line whose key goes on from tables of dotted keys
 
@@ -164,6 +164,25 @@ pub record HasDotsAt (d more : Document) (path : List Part) (fact : Fact) (passe
     pub gives : line.fact ≡ fact
     pub unsaid : IsUnsaid d (new_path line.before line.passed line.first)
 
+-- After these lines is a keyval with this path, of whose keys so many are passed and the others are these, with nothing
+-- in its value.
+pub record IsDotsLineOf (s : Document) (path : List Part) (before : List Line) (value : Value) : Type 0 where
+  pub line : Line
+  pub after : List Line
+  pub name : Name
+  pub passed : List (List ℕ)
+  pub first : List ℕ
+  pub further : List (List ℕ)
+  pub here : lines s ≡ before ++ line ∷ after
+  pub content : line.content ≡ keyval name value
+  pub place : (reading_after_lines start before).body ++ step 0 (Some name) ≡ path
+  pub parts : keys_of name.key ≡ passed ++ first ∷ further
+  pub empty : value.nested ≡ none
+
+-- the path of the first of its keys that is not passed
+abbrev pub first_path : List Line → List (List ℕ) → List ℕ → List Part
+first_path before passed first = ((reading_after_lines start before).body ++ map key passed) ++ key first ∷ []
+
 -- An insert of new keys into a table that dotted keys make adds a line after the last one that leads through it.
 abbrev pub InsertAddsDots : Type 0
 InsertAddsDots =
@@ -175,3 +194,12 @@ InsertAddsDots =
     → last_line (leads_dotted (holder path (mentions_in s))) start (lines s) ≡ Some i → value.nested ≡ none
     → HasDotsAt s (edited_document s (insert path value)) path (body_fact value.body)
     (length (holder path (mentions_in s)) - length (reading_at i (lines s)).body) (take (suc i) (lines s))
+
+-- A remove of such a line takes it, or what it says, where no other key part names the path of the first key that is
+-- not passed.
+abbrev pub RemoveTakesDots : Type 0
+RemoveTakesDots =
+    (s : Document) (path : List Part) (before : List Line) (value : Value) → ObeysRules (marks (mentions_in s))
+    → (line : IsDotsLineOf s path before value)
+    → mark_count (first_path before line.passed line.first) (mentions_in s) ≡ 1
+    → HasDotsAt (edited_document s (remove path)) s path (body_fact value.body) (length line.passed) before

@@ -92,8 +92,8 @@ pub fn remove_takes_line()
     ensures { keyvals.RemoveTakesLine }
 {}
 
-/// An `insert` of several keys, with nothing inside its value, at the end of a body gives a document with one line
-/// more, of these keys. The old document says nothing of the first key's path, or of a path below it.
+/// An `insert` of several keys at the end of a body gives a document with one line more, of these keys. The old
+/// document says nothing of the first key's path, or of a path below it.
 pub fn insert_adds_keys()
     ensures { keyvals.InsertAddsKeys }
 {}
@@ -110,6 +110,13 @@ pub fn remove_takes_keys()
 /// key's path, or of a path below it.
 pub fn insert_adds_dots()
     ensures { keyvals.InsertAddsDots }
+{}
+
+/// A `remove` of a line with a keyval, with nothing inside its value, gives a document of which the old one has one
+/// line more, and which says nothing of the path of one of its keys, if the old one obeys the rules and no other key
+/// part in it names that path. The keys before that one are those that the line passes.
+pub fn remove_takes_dots()
+    ensures { keyvals.RemoveTakesDots }
 {}
 
 /// An `insert` of one key at the end of a body gives a document with one line more that has nothing in its value, and

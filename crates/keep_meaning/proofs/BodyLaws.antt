@@ -1,9 +1,9 @@
 -- The table that a line's keyval is in: it is a node, and no array of tables.
 --
 -- Its path is the root's, or a header opens it (`body_said`). An array of tables is named by a `[[..]]`
--- (`tables_said`), and the rules do not let one path be both (`unlike`).
+-- (`tables_said`), and the rules do not let one path be both (`apart`).
 --
--- Theorems: `tables_are_nodes`, `body_is_node` and `body_has_no_element`.
+-- Theorems: `apart`; `tables_are_nodes`, `body_is_node` and `body_has_no_element`.
 use Rattle.std.proofs.Common.{◌≡◌, ℕ, ◌<◌, ◌≤◌, true, false, ◌||◌, List, [], ◌∷◌, ◌++◌, length, get_or, map, refl, sym}
 use Rattle.std.proofs.Common.{ap, ap₂, subst, ◌∙◌, ◌⊎◌, inl, inr, arith, Some, None}
 use Rattle.std.specs.List.{list_any}
@@ -21,7 +21,8 @@ use Rattle.keep_meaning.specs.Meaning.{mentions_in}
 use Rattle.keep_meaning.specs.Nodes.{is_at, is_begun, is_define, is_node, is_root, mention_of}
 use Rattle.keep_meaning.specs.Rules.{Mark, ObeysRules, allows}
 use Rattle.keep_meaning.proofs.CountLemmas.{mentions-numbered_from, mentions_in-statements}
-use Rattle.keep_meaning.proofs.ElementLemmas.{IsSound, IsSoundStatement, Opens, sound_from, sound_statements}
+use Rattle.keep_meaning.proofs.ElementLemmas.{IsSound, IsSoundStatement, Opens, no_longer, sound_from}
+use Rattle.keep_meaning.proofs.ElementLemmas.{sound_statements}
 use Rattle.keep_meaning.proofs.FoundLemmas.{marked_at}
 use Rattle.keep_meaning.proofs.LineLaws.{after_line, mentions_old}
 use Rattle.keep_meaning.proofs.LineNumberLemmas.{AllOf, all_left}
@@ -80,18 +81,16 @@ opened q (m ∷ ms) f (inr h) = by (opened q ms f.1 h)
     by (inl g) = inl (inr g)
     by (inr e) = inr e
 
--- no path is defined by a `[..]` and named by a `[[..]]`
-unlike : (q : List Part) (ms : List Mention) → ObeysRules (marks ms) → SomeOf (Says role.Define q) ms
-    → SomeOf (Says role.Element q) ms → ⊥
-unlike q ms obeys h g = by (cases_lt one.0 other.0)
+-- no path has two roles of which neither allows the other
+pub apart : (q : List Part) (ms : List Mention) (r s : Role) → allows r s ≡ false → allows s r ≡ false → (r ≡ s → ⊥)
+    → ObeysRules (marks ms) → SomeOf (Says r q) ms → SomeOf (Says s q) ms → ⊥
+apart q ms r s refused turned differ obeys h g = by (cases_lt one.0 other.0)
   where
-    one : (k : ℕ) × (k < length (marks ms))
-        × ((d : Mark) → get_or (marks ms) k d ≡ record { role = role.Define; path = q })
-    one = marked_at role.Define q ms h
+    one : (k : ℕ) × (k < length (marks ms)) × ((d : Mark) → get_or (marks ms) k d ≡ record { role = r; path = q })
+    one = marked_at r q ms h
 
-    other : (k : ℕ) × (k < length (marks ms))
-        × ((d : Mark) → get_or (marks ms) k d ≡ record { role = role.Element; path = q })
-    other = marked_at role.Element q ms g
+    other : (k : ℕ) × (k < length (marks ms)) × ((d : Mark) → get_or (marks ms) k d ≡ record { role = s; path = q })
+    other = marked_at s q ms g
 
     pair : (i j : ℕ) (a b : Mark) → i < j → j < length (marks ms) → ((d : Mark) → get_or (marks ms) i d ≡ a)
         → ((d : Mark) → get_or (marks ms) j d ≡ b) → a.path ≡ b.path → allows a.role b.role ≡ true
@@ -102,22 +101,21 @@ unlike q ms obeys h g = by (cases_lt one.0 other.0)
 
     by : (one.0 < other.0) ⊎ (other.0 ≤ one.0) → ⊥
     by (inl low) =
-        let yes =
-        pair one.0 other.0 (record { role = role.Define; path = q }) (record { role = role.Element; path = q }) low
-        other.1 one.2 other.2 refl in cc
+        no_longer (allows r s)
+        (pair one.0 other.0 (record { role = r; path = q }) (record { role = s; path = q }) low other.1 one.2 other.2
+        refl) refused
     by (inr high) = last (cases_lt other.0 one.0)
       where
         last : (other.0 < one.0) ⊎ (one.0 ≤ other.0) → ⊥
         last (inl low) =
-            let yes =
-            pair other.0 one.0 (record { role = role.Element; path = q }) (record { role = role.Define; path = q }) low
-            one.1 other.2 one.2 refl in cc
+            no_longer (allows s r)
+            (pair other.0 one.0 (record { role = s; path = q }) (record { role = r; path = q }) low one.1 other.2 one.2
+            refl) turned
         last (inr same) =
-            let d : Mark = record { role = role.Define; path = q } in
+            let d : Mark = record { role = r; path = q } in
             let number : one.0 ≡ other.0 = omega (arith, high, same) in
-            let clash : role.Define ≡ role.Element =
-            ap (λ (m : Mark). m.role) (sym (one.2 d) ∙ ap (λ (k : ℕ). get_or (marks ms) k d) number ∙ other.2 d) in
-            cc
+            differ (ap (λ (m : Mark). m.role)
+            (sym (one.2 d) ∙ ap (λ (k : ℕ). get_or (marks ms) k d) number ∙ other.2 d))
 
 -- ---- a document and some statement of it
 
@@ -192,5 +190,6 @@ module _ (d : Document) (before after : List Statement) (old : statements_in d �
       by (inr s) = which (opened body (mentions_in d) whole.fits s)
         where
           which : SomeOf (Says role.Define body) (mentions_in d) ⊎ (ends body ≡ Some false) → ⊥
-          which (inl g) = unlike body (mentions_in d) obeys g named
+          which (inl g) =
+              apart body (mentions_in d) role.Define role.Element refl refl (λ e. cc) obeys g named
           which (inr e) = let clash : Some true ≡ Some false = sym keyed ∙ e in cc

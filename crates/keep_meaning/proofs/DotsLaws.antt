@@ -5,9 +5,9 @@
 -- before it. So without those mentions the document says what a line of new keys adds to one in which the numbers of
 -- key parts from the line on are greater by so many (`parts_nodes`).
 --
--- Theorems: `dots_numbered`, `dots_nodes`; `dots_are_found`.
+-- Theorems: `dots_numbered`, `dots_nodes`; `dots_taken`: the nodes without those of the new keys; `dots_are_found`.
 use Rattle.std.proofs.Common.{◌≡◌, ℕ, suc, ◌+◌, ◌-◌, ◌≤◌, false, List, [], ◌∷◌, ◌++◌, length, map, refl, sym, ap}
-use Rattle.std.proofs.Common.{ap₂, ◌∙◌, arith, append_assoc, append-nil, length-append}
+use Rattle.std.proofs.Common.{ap₂, ◌∙◌, arith, append_assoc, length-append}
 use Rattle.std.proofs.lemmas.List.Sums.{fold-append}
 use Rattle.keep_syntax.specs.Tree.{Document}
 use Rattle.keep_path.specs.Dots.{after_parts, totals_after_parts, with_keys as with_key_nodes, with_parts_from}
@@ -26,6 +26,8 @@ use Rattle.keep_meaning.specs.Meaning.{keyed_mentions}
 use Rattle.keep_meaning.specs.Nodes.{fact_kind, is_node, mention_of, node_paths}
 use Rattle.keep_meaning.specs.OtherValues.{IsSaidBefore, totals_of}
 use Rattle.keep_meaning.proofs.CountLemmas.{numbered_mentions-append}
+pub use Rattle.keep_meaning.proofs.DotMentionLemmas.{dot_mentions, parts_later}
+use Rattle.keep_meaning.proofs.DotMentionLemmas.{count_dots, passed_first}
 use Rattle.keep_meaning.proofs.KeyChainLemmas.{below_below}
 use Rattle.keep_meaning.proofs.KeyRunLaws.{key_added, keys_added, with_keys}
 use Rattle.keep_meaning.proofs.KeysLaws.{line_next, said_next}
@@ -41,40 +43,21 @@ use Rattle.keep_meaning.proofs.RunLaws.{shifted_past}
 use Rattle.keep_meaning.proofs.RunLemmas.{high_shifts, low_stays, said_by_run}
 use Rattle.keep_meaning.proofs.LineNumberLemmas.{all_join}
 use Rattle.keep_meaning.proofs.LineNumberLemmas.{higher_mentions}
-
--- ---- what passed keys say
-
-abbrev pub dot_mentions : List Part → List (List ℕ) → List Mention
-dot_mentions at [] = []
-dot_mentions at (k ∷ ks) = record { path = at ++ key k ∷ []; kind = dotted } ∷ dot_mentions (at ++ key k ∷ []) ks
-
-next_key : (k : List ℕ) (ks : List (List ℕ)) (first : List ℕ) (further : List (List ℕ)) (ms : List Mention)
-    → keyed_mentions (k ∷ (ks ++ first ∷ further)) ms
-    ≡ map (below (key k ∷ [])) (record { path = []; kind = dotted } ∷ keyed_mentions (ks ++ first ∷ further) ms)
-next_key k [] first further ms = refl
-next_key k (l ∷ ks) first further ms = refl
-
--- they come first, and the others go on from them
-passed_first : (at : List Part) (ks : List (List ℕ)) (first : List ℕ) (further : List (List ℕ)) (ms : List Mention)
-    → map (below at) (keyed_mentions (ks ++ first ∷ further) ms)
-    ≡ dot_mentions at ks ++ map (below (at ++ map key ks)) (keyed_mentions (first ∷ further) ms)
-passed_first at [] first further ms =
-    ap (λ (p : List Part). map (below p) (keyed_mentions (first ∷ further) ms)) (sym (append-nil at))
-passed_first at (k ∷ ks) first further ms =
-    let own : Mention = record { path = at ++ key k ∷ []; kind = dotted } in
-    ap (map (below at)) (next_key k ks first further ms)
-    ∙ ap (λ (l : List Mention). own ∷ l)
-    (below_below at (key k ∷ []) (keyed_mentions (ks ++ first ∷ further) ms)
-    ∙ passed_first (at ++ key k ∷ []) ks first further ms
-    ∙ ap (λ (p : List Part).
-    dot_mentions (at ++ key k ∷ []) ks ++ map (below p) (keyed_mentions (first ∷ further) ms))
-    (append_assoc at (key k ∷ []) (map key ks)))
+use Rattle.std.proofs.Common.{subst, Some}
+use Rattle.std.specs.List.{list_any}
+use Rattle.std.proofs.lemmas.List.{length-map}
+use Rattle.keep_types.specs.declared.node.Kind.TheVariants as kind
+use Rattle.keep_path.specs.NodeInfos.{LineNumbers, line_info, root_infos, without_node}
+use Rattle.keep_path.specs.NodesBelow.{AreBelow, one_more, with_numbers, with_value}
+use Rattle.keep_path.specs.Path.{same_path}
+use Rattle.keep_meaning.specs.Meaning.{mentions_in}
+use Rattle.keep_meaning.proofs.AloneTakenLemmas.{AreTaken, alone_taken}
+use Rattle.keep_meaning.proofs.CountLemmas.{paths-nodes_in}
+use Rattle.keep_meaning.proofs.KeyRunLaws.{gone, keys_below, keys_number, keys_taken}
+use Rattle.keep_meaning.proofs.LineLaws.{as_many, few_before}
+use Rattle.keep_meaning.proofs.MetLemmas.{node_met}
 
 -- ---- more key parts
-
--- a count after so many key parts more
-abbrev pub parts_later : ℕ → Count → Count
-parts_later m c = record c { keys = c.keys + m }
 
 parts_with : (m : ℕ) (c : Count) (n : Mention)
     → count_with_mention (parts_later m c) n ≡ parts_later m (count_with_mention c n)
@@ -82,18 +65,6 @@ parts_with m c n =
     let d : Count = count_with_mention (parts_later m c) n in
     let keys : d.keys ≡ (count_with_mention c n).keys + m = omega arith in
     ap (λ (k : ℕ). record { statements = c.statements; values = d.values; keys = k }) keys
-
-count_dots : (c : Count) (at : List Part) (ks : List (List ℕ))
-    → count_after c (dot_mentions at ks) ≡ parts_later (length ks) c
-count_dots c at [] =
-    let same : c.keys ≡ c.keys + 0 = omega arith in
-    ap (λ (k : ℕ). record { statements = c.statements; values = c.values; keys = k }) same
-count_dots c at (k ∷ ks) =
-    let own : Mention = record { path = at ++ key k ∷ []; kind = dotted } in
-    let values : c.values + 0 ≡ c.values = omega arith in
-    let keys : (c.keys + 1) + length ks ≡ c.keys + suc (length ks) = omega arith in
-    count_dots (count_with_mention c own) (at ++ key k ∷ []) ks
-    ∙ ap₂ (λ (v n : ℕ). record { statements = c.statements; values = v; keys = n }) values keys
 
 -- the numbers of key parts from a count on are others
 abbrev parts_from : (c : Count) (m : ℕ) → Renumbering c
@@ -288,6 +259,62 @@ module _ (d more : Document) (line : HasDotsMore d more)
       ≡ with_key_nodes (with_parts_from c.keys m (node_infos d)) (nodes_after line.before)
       (after_parts m (numbers_after line.before)) p line.further (fact_kind line.fact) old_totals (totals_of more)
   dots_nodes = nodes_by line.further keys_are
+
+  -- ---- and back
+
+  few : nodes_after line.before ≤ length (node_infos d).paths
+  few = few_before d line.before line.after line.old
+
+  -- no node has the first new key's path, or one below it
+  no_node : (q : List Part) → list_any (same_path (p ++ q)) (node_infos d).paths ≡ false
+  no_node q =
+      ap (list_any (same_path (p ++ q))) (paths-nodes_in d) ∙ node_met (p ++ q) (mentions_in d) ∙ unsaid q
+
+  abbrev AreGone : NodeInfos → Type 0
+  AreGone u =
+      AreTaken u (with_parts_from c.keys m (node_infos d)) p (nodes_after line.before)
+      (after_parts m (numbers_after line.before)) (totals_of more) (one_more old_totals)
+
+  taken_by : (further : List (List ℕ)) → (totals_of more).keys ≡ suc old_totals.keys + length further
+      → AreGone (infos_of (xs ++ said_by further))
+  taken_by [] keys =
+      let t : NodeInfos = with_parts_from c.keys m (node_infos d) in
+      let l : LineNumbers = after_parts m (numbers_after line.before) in
+      let all : (totals_of more).keys ≡ suc old_totals.keys = omega (arith, keys) in
+      let same : totals_of more ≡ one_more old_totals =
+      ap₂ (λ (v k : ℕ). let n : Totals = record { values = v; keys = k } in n) line.values all in
+      subst AreGone (sym (nodes_by [] keys))
+      (alone_taken t (nodes_after line.before) l p (line_info l (fact_kind line.fact)) (totals_of more)
+      (one_more old_totals) same few
+      (omega (
+        arith,
+        few,
+        as_many d line.before line.after line.old,
+        length-map (node_infos d).infos (with_numbers (λ v. v) (shifted c.keys 0 m)),
+      ))
+      no_node)
+  taken_by (k ∷ ks) keys = record {
+    number = keys_number c' xs later_ws lower' higher' few' p none_there line.fact k ks old_totals (totals_of more)
+        line.values keys
+        ∙ ap Some met;
+    gone = gone c' xs later_ws lower' higher' few' p none_there line.fact k ks old_totals (totals_of more) line.values
+        keys;
+    below = subst (λ (n : ℕ). AreBelow (infos_of (xs ++ said_by (k ∷ ks))).paths n
+        (gone c' xs later_ws lower' higher' few' p none_there line.fact k ks old_totals (totals_of more) line.values
+        keys)) met
+        (keys_below c' xs later_ws lower' higher' few' p none_there line.fact k ks old_totals (totals_of more)
+        line.values keys);
+    back = sym parts_nodes
+        ∙ keys_taken c' xs later_ws lower' higher' few' p none_there line.fact k ks old_totals (totals_of more)
+        line.values keys
+        ∙ ap (λ (n : ℕ).
+        without_node (with_value (infos_of (xs ++ said_by (k ∷ ks))) n
+        (gone c' xs later_ws lower' higher' few' p none_there line.fact k ks old_totals (totals_of more) line.values
+        keys) (totals_of more) (one_more old_totals) root_infos kind.Table) n (line_of c')) met;
+  }
+
+  pub dots_taken : AreGone (infos_of (xs ++ rest))
+  dots_taken = taken_by line.further keys_are
 
   -- ---- what comes after the passed keys has no lower number of a value
 

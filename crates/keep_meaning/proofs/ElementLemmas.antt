@@ -40,7 +40,7 @@ reached_at tables q _ = false
 abbrev pub is_reached : List (List Part) → List Part → Bool
 is_reached tables p = reached_at tables (without_last p) (last_part p)
 
-without_pushed : (p : List Part) (x : Part) → without_last (p ++ x ∷ []) ≡ p
+pub without_pushed : (p : List Part) (x : Part) → without_last (p ++ x ∷ []) ≡ p
 without_pushed [] x = refl
 without_pushed (a ∷ []) x = refl
 without_pushed (a ∷ b ∷ p) x = ap (λ (q : List Part). a ∷ q) (without_pushed (b ∷ p) x)

@@ -157,7 +157,7 @@ bare (item f) h = (refl, refl, refl, refl, refl)
 
 -- ---- the last number of a kind
 
-abbrev known_by : (MentionKind → Bool) → (Count → ℕ) → Option ℕ → Numbered → Option ℕ
+abbrev pub known_by : (MentionKind → Bool) → (Count → ℕ) → Option ℕ → Numbered → Option ℕ
 known_by is number known n = cond (is n.mention.kind) (Some (number n.before)) known
 
 last_none : (is : MentionKind → Bool) (number : Count → ℕ) (ns : List Numbered) (known : Option ℕ)
@@ -167,7 +167,7 @@ last_none is number (n ∷ ns) known h =
     ap (λ (b : Bool). fold (known_by is number) (cond b (Some (number n.before)) known) ns) h.0
     ∙ last_none is number ns known h.1
 
-last_holds : (P : ℕ → Type 0) (is : MentionKind → Bool) (number : Count → ℕ) (ns : List Numbered) (known : Option ℕ)
+pub last_holds : (P : ℕ → Type 0) (is : MentionKind → Bool) (number : Count → ℕ) (ns : List Numbered) (known : Option ℕ)
     → ((m : ℕ) → known ≡ Some m → P m)
     → AllOf (λ (n : Numbered). is n.mention.kind ≡ true → P (number n.before)) ns → (m : ℕ)
     → fold (known_by is number) known ns ≡ Some m → P m
@@ -179,7 +179,7 @@ last_holds P is number (n ∷ ns) known was h m e =
     by true k m e = let same : number n.before ≡ m = cc in subst P same (h.0 k)
     by false k m e = was m e
 
-last_some : (is : MentionKind → Bool) (number : Count → ℕ) (ns : List Numbered) (known : Option ℕ)
+pub last_some : (is : MentionKind → Bool) (number : Count → ℕ) (ns : List Numbered) (known : Option ℕ)
     → (known ≡ None → SomeOf (λ (n : Numbered). is n.mention.kind ≡ true) ns)
     → fold (known_by is number) known ns ≡ None → ⊥
 last_some is number [] known h e = h e

@@ -35,7 +35,7 @@ below_below a b (m ∷ ms) =
     ap₂ (λ (p : List Part) (l : List Mention). record { path = p; kind = m.kind } ∷ l) (sym (append_assoc a b m.path))
     (below_below a b ms)
 
-below_root : (ms : List Mention) → map (below []) ms ≡ ms
+pub below_root : (ms : List Mention) → map (below []) ms ≡ ms
 below_root [] = refl
 below_root (m ∷ ms) = ap (λ (l : List Mention). m ∷ l) (below_root ms)
 
@@ -48,7 +48,7 @@ IsShort at q = length q ≤ length at
 longer : (at : List Part) (x : Part) → length (at ++ x ∷ []) ≡ length at + 1
 longer at x = length-append at (x ∷ [])
 
-lengths_differ : (p q : List Part) → length q < length p → same_path p q ≡ false
+pub lengths_differ : (p q : List Part) → length q < length p → same_path p q ≡ false
 lengths_differ p q few = false_from_ne_true (same_path p q) (λ e.
     absurd (omega (arith, few, ap (λ (l : List Part). length l) ((path_decides p q).0 e))))
 

@@ -1,12 +1,13 @@
--- The nodes of a line of several keys, by lists of what is said: of the first key part, whose path is new, and then of
--- the others, of which each is below the one before it (`keys_added`); and without them (`keys_taken`).
+-- The nodes of a line of several keys, by lists of what is said: of the first key part, whose path is new, then of the
+-- others, of which each is below the one before it, and of what is in the value (`line_added`); and without them
+-- (`line_taken`).
 --
 -- The line says a run of mentions at its first key's path and below it, of which nothing else is said. With the first
 -- key part alone, as no document says it, there is one node more (`bare_nodes`), after those that are met before the
 -- line. From there on there is another run in the place of one (`nodes_given`), and so there is back.
 --
--- Theorems: `key_added`: a line of one key; `keys_added`, `keys_taken`: of several; `keys_number`, `keys_below`: where
--- their nodes are.
+-- Theorems: `key_added`: a line of one key; `line_added`, `line_taken`: of several; `line_number`, `line_below`: where
+-- their nodes are. `keys_added`, `keys_taken`, `keys_number` and `keys_below` say it where nothing is in the value.
 use Rattle.std.proofs.Common.{◌≡◌, ℕ, ◌+◌, ◌-◌, ◌≤◌, true, false, List, [], ◌∷◌, ◌++◌, length, map, refl}
 use Rattle.std.proofs.Common.{sym, ap, ap₂, subst, ◌∙◌, arith, append-nil, Option, None, Some}
 use Rattle.std.specs.Prelude.{drop, fold, take}
@@ -24,7 +25,7 @@ use Rattle.keep_path.specs.NodesBelow.{AreBelow, one_more, with_value}
 use Rattle.keep_path.specs.Path.{Part, same_path, strip}
 use Rattle.keep_path.proofs.Shared.{path_decides, strip_is}
 use Rattle.keep_meaning.specs.Counts.{Count, Numbered}
-use Rattle.keep_meaning.specs.Counts.{count_with_mention}
+use Rattle.keep_meaning.specs.Counts.{count_with_mention, numbered_mentions}
 use Rattle.keep_meaning.specs.Fact.{Fact}
 use Rattle.keep_meaning.specs.Marks.{Mention, dotted}
 use Rattle.keep_meaning.specs.Marks.{value as mentions_value}
@@ -41,7 +42,7 @@ use Rattle.keep_meaning.proofs.MetLemmas.{node_met}
 use Rattle.keep_meaning.proofs.NamedLemmas.{all_map}
 use Rattle.keep_meaning.proofs.RunLaws.{IsPlace, Run, below_run, first_number, nodes_given, number_kept, past}
 use Rattle.keep_meaning.proofs.RunLaws.{shifted_past}
-use Rattle.keep_meaning.proofs.RunLemmas.{all_said, deeper, deeper_keys, said_by_run}
+use Rattle.keep_meaning.proofs.RunLemmas.{IsOfBody, all_said, count_alone, deeper, deeper_keys, said_by_run}
 use Rattle.keep_path.specs.NodesBelow.{Totals}
 use Rattle.keep_path.specs.NodeInfos.{with_node}
 use Rattle.std.proofs.Common.{suc}
@@ -62,33 +63,36 @@ first_alone path c = record {
   stated = refl;
 }
 
--- ---- numbers after more key parts
+-- ---- numbers after more values and key parts
 
--- as many values, and n key parts more
+-- v values and n key parts more
+abbrev pub with_more : ℕ → ℕ → Count → Count
+with_more v n c = record { statements = c.statements; values = (c.values + v) - 0; keys = (c.keys + n) - 0 }
+
 abbrev pub with_keys : ℕ → Count → Count
-with_keys n c = record { statements = c.statements; values = (c.values + 0) - 0; keys = (c.keys + n) - 0 }
+with_keys n c = with_more 0 n c
 
 pub same_count : (c d : Count) → c.statements ≡ d.statements → c.values ≡ d.values → c.keys ≡ d.keys → c ≡ d
 same_count c d s v k =
     ap (λ (n : ℕ). record { statements = n; values = c.values; keys = c.keys }) s
     ∙ ap₂ (λ (m n : ℕ). record { statements = d.statements; values = m; keys = n }) v k
 
-pub keys_with : (n : ℕ) (c : Count) (m : Mention)
-    → count_with_mention (with_keys n c) m ≡ with_keys n (count_with_mention c m)
-keys_with n c m =
-    same_count (count_with_mention (with_keys n c) m) (with_keys n (count_with_mention c m)) refl (omega arith)
+pub more_with : (v n : ℕ) (c : Count) (m : Mention)
+    → count_with_mention (with_more v n c) m ≡ with_more v n (count_with_mention c m)
+more_with v n c m =
+    same_count (count_with_mention (with_more v n c) m) (with_more v n (count_with_mention c m)) refl (omega arith)
     (omega arith)
 
-taken_back : (n : ℕ) (ns : List Numbered) → map (shifted_past 0 n 0 0) (map (shifted_past 0 0 0 n) ns) ≡ ns
-taken_back n [] = refl
-taken_back n (m ∷ ns) =
-    let values : (((m.before.values + 0) - 0) + 0) - 0 ≡ m.before.values = omega arith in
+taken_back : (v n : ℕ) (ns : List Numbered) → map (shifted_past v n 0 0) (map (shifted_past 0 0 v n) ns) ≡ ns
+taken_back v n [] = refl
+taken_back v n (m ∷ ns) =
+    let values : (((m.before.values + v) - 0) + 0) - v ≡ m.before.values = omega arith in
     let keys : (((m.before.keys + n) - 0) + 0) - n ≡ m.before.keys = omega arith in
     ap₂ (λ (x : Numbered) (xs : List Numbered). x ∷ xs)
     (ap₂ (λ (v k : ℕ).
     record { mention = m.mention; before = record { statements = m.before.statements; values = v; keys = k } }) values
     keys)
-    (taken_back n ns)
+    (taken_back v n ns)
 
 -- ---- nothing else is said at the path or below it
 
@@ -135,21 +139,18 @@ module _ (c : Count) (xs ws : List Numbered) (lower : AllOf (IsLower c) xs) (hig
       ≡ with_node before at (line_of c) p (fact_kind f)
   key_added = node_more c xs ws lower higher p (mentions_value f) fresh
 
-  -- of several keys
-  module _ (next : List ℕ) (further : List (List ℕ)) (old new : Totals) (values : new.values ≡ suc old.values)
-      (keys : new.keys ≡ suc old.keys + length (next ∷ further)) where
+  -- of several keys, where v values and n key parts come after its first
+  module _ (next : List ℕ) (further : List (List ℕ)) (inner : List Mention) (body : AllOf IsOfBody inner) (v n : ℕ)
+      (old new : Totals) (values : new.values ≡ suc old.values + v) (keys : new.keys ≡ suc old.keys + n) where
     abbrev stated : List Mention
-    stated = record { path = []; kind = mentions_value f } ∷ []
+    stated = record { path = []; kind = mentions_value f } ∷ inner
 
     abbrev pub nested : List Mention
     nested = keyed_mentions (next ∷ further) stated
 
-    abbrev n : ℕ
-    n = length (next ∷ further)
-
-    -- what is said after the line's further keys
+    -- what is said after the line
     abbrev pub zs : List Numbered
-    zs = map (shifted_past 0 0 0 n) ys
+    zs = map (shifted_past 0 0 v n) ys
 
     abbrev bare : Run p c origin.Dotted
     bare = first_alone p c
@@ -159,7 +160,7 @@ module _ (c : Count) (xs ws : List Numbered) (lower : AllOf (IsLower c) xs) (hig
       said = dotted;
       marked = refl;
       nested = nested;
-      deep = deeper_keys next further stated (refl, tt);
+      deep = deeper_keys next further stated (refl, body);
       kind = kind.Table;
       stated = refl;
     }
@@ -180,16 +181,16 @@ module _ (c : Count) (xs ws : List Numbered) (lower : AllOf (IsLower c) xs) (hig
     off_ys = all_map (IsApart p) (IsApart p) later_numbered (λ m h. h) ws (apart p ws (λ q. (none_of q).1))
 
     off_zs : AllOf (IsApart p) zs
-    off_zs = all_map (IsApart p) (IsApart p) (shifted_past 0 0 0 n) (λ m h. h) ys off_ys
+    off_zs = all_map (IsApart p) (IsApart p) (shifted_past 0 0 v n) (λ m h. h) ys off_ys
 
     high : AllOf (IsSaidPast (past c 0 0)) ys
     high =
         all_map (IsHigher c) (IsSaidPast (past c 0 0)) later_numbered
         (λ m h. record { values = omega (arith, h.value); keys = omega (arith, h.key) }) ws higher
 
-    high_zs : AllOf (IsSaidPast (past c 0 n)) zs
+    high_zs : AllOf (IsSaidPast (past c v n)) zs
     high_zs =
-        all_map (IsSaidPast (past c 0 0)) (IsSaidPast (past c 0 n)) (shifted_past 0 0 0 n)
+        all_map (IsSaidPast (past c 0 0)) (IsSaidPast (past c v n)) (shifted_past 0 0 v n)
         (λ m h. record { values = omega (arith, h.values); keys = omega (arith, h.keys) }) ys high
 
     -- ---- the nodes
@@ -230,49 +231,87 @@ module _ (c : Count) (xs ws : List Numbered) (lower : AllOf (IsLower c) xs) (hig
         ap (λ (t : NodeInfos). node_number t.paths p) bare_nodes ∙ first_number p (take at ps) (drop at ps) others
         ∙ ap Some (length-take-le at ps few)
 
-    values_are : new.values + 0 ≡ (one_more old).values + 0
+    values_are : new.values + 0 ≡ (one_more old).values + v
     values_are = omega (arith, values)
 
     keys_are : new.keys + 0 ≡ (one_more old).keys + n
     keys_are = omega (arith, keys)
 
     -- all that is said with the line
-    abbrev pub with_line : List Numbered
-    with_line = xs ++ (said_by_run c p dotted nested ++ zs)
+    abbrev pub line_said : List Numbered
+    line_said = xs ++ (said_by_run c p dotted nested ++ zs)
 
-    pub keys_added : infos_of with_line
-        ≡ with_value with_first at 0 (one_more old) new (keys_alone (next ∷ further) (fact_kind f)) kind.Table
-    keys_added =
-        nodes_given p c origin.Dotted of_dots bare whole 0 0 0 n xs ys (one_more old) new low high off_xs off_ys
+    pub line_added : infos_of line_said
+        ≡ with_value with_first at 0 (one_more old) new (infos_of (numbered_mentions (count_alone dotted) nested))
+        kind.Table
+    line_added =
+        nodes_given p c origin.Dotted of_dots bare whole 0 0 v n xs ys (one_more old) new low high off_xs off_ys
         values_are keys_are at bare_number
-        ∙ ap₂ (λ (t u : NodeInfos). with_value t at 0 (one_more old) new u kind.Table) bare_nodes
-        (keys_are_alone f next further)
+        ∙ ap (λ (t : NodeInfos).
+        with_value t at 0 (one_more old) new (infos_of (numbered_mentions (count_alone dotted) nested)) kind.Table)
+        bare_nodes
 
     -- ---- and back
 
-    pub keys_number : node_number (infos_of with_line).paths p ≡ Some at
-    keys_number =
-        number_kept p c origin.Dotted of_dots bare whole 0 0 0 n xs ys (one_more old) new low high off_xs off_ys
+    pub line_number : node_number (infos_of line_said).paths p ≡ Some at
+    line_number =
+        number_kept p c origin.Dotted of_dots bare whole 0 0 v n xs ys (one_more old) new low high off_xs off_ys
         values_are keys_are at bare_number
 
-    abbrev pub gone : ℕ
-    gone = length (deeper (map path_of nested))
+    abbrev pub line_gone : ℕ
+    line_gone = length (deeper (map path_of nested))
 
-    pub keys_below : AreBelow (infos_of with_line).paths at gone
-    keys_below =
-        below_run p c origin.Dotted of_dots whole bare 0 n 0 0 xs zs new (one_more old) low high_zs off_xs off_zs
-        (sym values_are) (sym keys_are) at keys_number
+    pub line_below : AreBelow (infos_of line_said).paths at line_gone
+    line_below =
+        below_run p c origin.Dotted of_dots whole bare v n 0 0 xs zs new (one_more old) low high_zs off_xs off_zs
+        (sym values_are) (sym keys_are) at line_number
 
-    first_left : with_first ≡ with_value (infos_of with_line) at gone new (one_more old) root_infos kind.Table
+    first_left : with_first ≡ with_value (infos_of line_said) at line_gone new (one_more old) root_infos kind.Table
     first_left =
         sym bare_nodes
-        ∙ ap (λ (ns : List Numbered). infos_of (xs ++ (said_by_run c p dotted [] ++ ns))) (sym (taken_back n ys))
-        ∙ nodes_given p c origin.Dotted of_dots whole bare 0 n 0 0 xs zs new (one_more old) low high_zs off_xs off_zs
-        (sym values_are) (sym keys_are) at keys_number
+        ∙ ap (λ (ns : List Numbered). infos_of (xs ++ (said_by_run c p dotted [] ++ ns))) (sym (taken_back v n ys))
+        ∙ nodes_given p c origin.Dotted of_dots whole bare v n 0 0 xs zs new (one_more old) low high_zs off_xs off_zs
+        (sym values_are) (sym keys_are) at line_number
 
-    pub keys_taken : before
-        ≡ without_node (with_value (infos_of with_line) at gone new (one_more old) root_infos kind.Table) at (line_of c)
-    keys_taken =
+    pub line_taken : before
+        ≡ without_node (with_value (infos_of line_said) at line_gone new (one_more old) root_infos kind.Table) at
+        (line_of c)
+    line_taken =
         sym (node_back before at (line_of c) p (dotted_info (line_of c)) few
         (omega (arith, few, length-map (nodes_of (xs ++ ws)) node_info, length-map (nodes_of (xs ++ ws)) node_path)))
         ∙ ap (λ (t : NodeInfos). without_node t at (line_of c)) first_left
+
+  -- ---- with nothing in the value
+
+  module _ (next : List ℕ) (further : List (List ℕ)) (old new : Totals) (values : new.values ≡ suc old.values)
+      (keys : new.keys ≡ suc old.keys + length (next ∷ further)) where
+    abbrev n : ℕ
+    n = length (next ∷ further)
+
+    pub values_same : new.values ≡ suc old.values + 0
+    values_same = omega (arith, values)
+
+    abbrev pub with_line : List Numbered
+    with_line = line_said next further [] tt 0 n old new values_same keys
+
+    abbrev pub gone : ℕ
+    gone = line_gone next further [] tt 0 n old new values_same keys
+
+    pub keys_added : infos_of with_line
+        ≡ with_value (with_table before at (line_of c) p) at 0 (one_more old) new
+        (keys_alone (next ∷ further) (fact_kind f)) kind.Table
+    keys_added =
+        line_added next further [] tt 0 n old new values_same keys
+        ∙ ap (λ (u : NodeInfos).
+        with_value (with_table before at (line_of c) p) at 0 (one_more old) new u kind.Table)
+        (keys_are_alone f next further)
+
+    pub keys_number : node_number (infos_of with_line).paths p ≡ Some at
+    keys_number = line_number next further [] tt 0 n old new values_same keys
+
+    pub keys_below : AreBelow (infos_of with_line).paths at gone
+    keys_below = line_below next further [] tt 0 n old new values_same keys
+
+    pub keys_taken : before
+        ≡ without_node (with_value (infos_of with_line) at gone new (one_more old) root_infos kind.Table) at (line_of c)
+    keys_taken = line_taken next further [] tt 0 n old new values_same keys

@@ -24,9 +24,17 @@ pub mod RunLemmas
 pub mod RunLaws
 pub mod OtherValueLaws
 pub mod KeyChainLemmas
+pub mod DotMentionLemmas
+pub mod KeyValueLemmas
 pub mod KeyRunLaws
 pub mod KeysLaws
+pub mod AloneTakenLemmas
 pub mod DotsLaws
+pub mod DotMarkLemmas
 pub mod BodyLaws
 pub mod HeaderLaws
+pub mod DotLinkLemmas
+pub mod DotNumberLemmas
+pub mod DotReachLemmas
+pub mod DotsLastLaws
 pub mod Shared

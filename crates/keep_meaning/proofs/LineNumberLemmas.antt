@@ -287,7 +287,7 @@ higher_from c r ss = higher_after c c r ss (record { statement = omega arith; va
 
 -- ---- what comes before each mention is no more than what comes before all that follows them
 
-few_mentions : (c : Count) (ms : List Mention) (d : Count) → c.values + valued ms ≤ d.values
+pub few_mentions : (c : Count) (ms : List Mention) (d : Count) → c.values + valued ms ≤ d.values
     → c.keys + length (marks ms) ≤ d.keys → AllOf (IsSaidBefore d) (numbered_mentions c ms)
 few_mentions c [] d v k = tt
 few_mentions c (m ∷ ms) d v k = (

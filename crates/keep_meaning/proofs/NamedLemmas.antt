@@ -36,7 +36,7 @@ pub some_right : {A : Type 0} (P : A → Type 0) (xs ys : List A) → SomeOf P y
 some_right P [] ys h = h
 some_right P (x ∷ xs) ys h = inr (some_right P xs ys h)
 
-some_map : {A B : Type 0} (P : A → Type 0) (Q : B → Type 0) (f : A → B) → ((x : A) → P x → Q (f x)) → (xs : List A)
+pub some_map : {A B : Type 0} (P : A → Type 0) (Q : B → Type 0) (f : A → B) → ((x : A) → P x → Q (f x)) → (xs : List A)
     → SomeOf P xs → SomeOf Q (map f xs)
 some_map P Q f g [] h = h
 some_map P Q f g (x ∷ xs) (inl p) = inl (g x p)

@@ -19,11 +19,12 @@ pub use Rattle.keep_meaning.proofs.CountLemmas.{mentions-numbered_mentions, node
 pub use Rattle.keep_meaning.proofs.CountLemmas.{paths-nodes, paths-nodes_in, mentions_in-statements}
 pub use Rattle.keep_meaning.proofs.DecodeLaws.{means_value}
 pub use Rattle.keep_meaning.proofs.DotsLaws.{dots_are_found}
+pub use Rattle.keep_meaning.proofs.DotsLastLaws.{dots_have_last}
 pub use Rattle.keep_meaning.proofs.BoundLaws.{mentions_few, nodes_few}
 pub use Rattle.keep_meaning.proofs.BodyLaws.{body_has_no_element, body_is_node, tables_are_nodes}
 pub use Rattle.keep_meaning.proofs.LineLaws.{few_before, line_adds_node, line_takes_node}
 pub use Rattle.keep_meaning.proofs.LineFoundLaws.{line_is_found, same_node}
-pub use Rattle.keep_meaning.proofs.KeysLaws.{keys_add_nodes, keys_are_found, keys_take_nodes}
+pub use Rattle.keep_meaning.proofs.KeysLaws.{keys_add_nodes, keys_add_value_nodes, keys_are_found, keys_take_nodes}
 pub use Rattle.keep_meaning.proofs.OtherValueLaws.{value_gives_nodes}
 pub use Rattle.keep_meaning.proofs.MetLemmas.{node_met}
 pub use Rattle.keep_meaning.proofs.HeaderLaws.{element_has_key, element_has_no_element, element_is_new, element_is_node}

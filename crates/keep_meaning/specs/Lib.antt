@@ -9,6 +9,7 @@ pub mod StatementsMore
 pub mod OtherValues
 pub mod KeysMore
 pub mod DotsMore
+pub mod DotsLess
 pub mod Faults
 pub mod ReadText
 pub mod Laws

@@ -1,7 +1,8 @@
 //! Laws of what strings mean and of which nodes there are, each the contract of a function that does nothing.
 ghost use Rattle.keep_meaning.specs.Laws as spec;
+ghost use Rattle.keep_meaning.specs.DotsLess.{DotsHaveLast};
 ghost use Rattle.keep_meaning.specs.DotsMore.{DotsAreFound};
-ghost use Rattle.keep_meaning.specs.KeysMore.{KeysAddNodes, KeysAreFound, KeysTakeNodes};
+ghost use Rattle.keep_meaning.specs.KeysMore.{KeysAddNodes, KeysAddValueNodes, KeysAreFound, KeysTakeNodes};
 ghost use Rattle.keep_meaning.specs.OtherValues.{ValueGivesNodes};
 
 /// A string or a key part means, by the pieces that it is made of, what is computed from its text byte by byte.
@@ -37,11 +38,12 @@ pub fn other_value_nodes()
 {}
 
 /// Of a document with one line more, a keyval whose key has several parts, of which the first has a path of which the
-/// document without it says nothing, and with nothing in its value: the facts about all nodes are those of the document
-/// without it, with a table for the first key, and below it the nodes of the others, and so they are back. Where the
-/// table is among the nodes, the facts about the others state.
+/// document without it says nothing: the facts about all nodes are those of the document without it, with a table for
+/// the first key, and below it the nodes of the others, and below the last of these those in its value, if there are
+/// any; and so they are back. Where the table is among the nodes, the facts about the others state.
 pub fn keys_more()
     ensures added { KeysAddNodes }
+    ensures valued { KeysAddValueNodes }
     ensures taken { KeysTakeNodes }
     ensures found { KeysAreFound }
 {}
@@ -50,4 +52,10 @@ pub fn keys_more()
 /// state, in a document that obeys the definition rules.
 pub fn dots_found()
     ensures { DotsAreFound }
+{}
+
+/// Of a document that obeys the definition rules, a table of dotted keys has the number of the last value that the
+/// nodes one step below it have, of their own or of the last keyval that continues from them.
+pub fn dots_last()
+    ensures { DotsHaveLast }
 {}

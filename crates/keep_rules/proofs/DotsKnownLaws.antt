@@ -4,7 +4,7 @@
 -- line, so among these nodes it has the number that it had (`number_kept`), and it is a table of dotted keys still
 -- (`table_kept`). So each passed key gives it one mention more (`dots_added`).
 --
--- Theorem: `dots_add_nodes`.
+-- Theorems: `dots_add_nodes`; `dots_more`: the same, by the list of what is said.
 use Rattle.std.proofs.Common.{◌≡◌, ℕ, suc, ◌+◌, ◌<◌, ◌≤◌, Bool, true}
 use Rattle.std.proofs.Common.{false, cond, List, [], ◌∷◌, ◌++◌, get_or, length, map}
 use Rattle.std.proofs.Common.{refl, sym, ap, ap₂, subst, ◌∙◌, arith, Some}
@@ -264,7 +264,7 @@ module _ (d more : Document) (line : HasDotsMore d more) (ids : List ℕ)
       (dot_numbered (λ v. v) (shifted (numbers_after line.before).key 0 (length line.passed))
       (get_or was.infos id no_info) h.1)))
 
-  numbers_kept : (qs : List (List Part)) (is : List ℕ) → map (node_number was.paths) qs ≡ map Some is
+  pub numbers_kept : (qs : List (List Part)) (is : List ℕ) → map (node_number was.paths) qs ≡ map Some is
       → All (IsDotted d at) is → map (node_number now.paths) qs ≡ map Some is
   numbers_kept [] [] same h = refl
   numbers_kept [] (i ∷ is) same h = absurd cc
@@ -327,14 +327,17 @@ module _ (d more : Document) (line : HasDotsMore d more) (ids : List ℕ)
   early : AllOf (IsEarly its_count) its_xs
   early = all_of (IsSaidBefore its_count) (IsEarly its_count) (λ n h. h.values) its_xs (few_said d more line unsaid)
 
-  nodes_more : node_infos more ≡ with_dots (numbers_after line.before).value ids new_nodes
-  nodes_more =
+  -- with the nodes of the new keys, and one mention more of each table
+  pub dots_more : node_infos more ≡ with_dots (numbers_after line.before).value ids now
+  dots_more =
       ap infos_of (dots_numbered d more line unsaid)
       ∙ dots_added its_count body line.passed its_count refl its_xs its_rest early (late_rest d more line unsaid)
       (all_named body line.passed ids passed.numbers passed.dotted) ids
       (numbers_kept (passed_paths line.before line.passed) ids passed.numbers passed.dotted)
       (tables_kept ids passed.dotted)
-      ∙ ap (with_dots its_count.values ids) is
+
+  nodes_more : node_infos more ≡ with_dots (numbers_after line.before).value ids new_nodes
+  nodes_more = dots_more ∙ ap (with_dots its_count.values ids) is
 
 pub dots_add_nodes : DotsAddNodes
 dots_add_nodes d more line ids passed unsaid = nodes_more d more line ids passed unsaid

@@ -1,16 +1,18 @@
 -- With a line more whose key goes on from tables of dotted keys, to a key that is new, the nodes are nested as before
--- (`dots_are_nested`).
+-- (`dots_are_nested`), and so they are without it (`dots_leave_nested`).
 --
 -- The line says first that it passes these tables, and then what a run of its first new key's path says. The tables are
 -- met before the line: the nodes stay as they are where they are named once more (`again_paths`), and a `[[..]]` may
 -- name no key that it might not name before (`again_nested`). What comes then is a run of an unsaid path, one step
 -- below the last of the tables, or below the table that the line is in. That is a node and no array of tables
--- (`IsPlainNode`): what is said of a node that dotted keys make is no `[[..]]`.
+-- (`IsPlainNode`): what is said of a node that dotted keys make is no `[[..]]`. Nor may a `[[..]]` name one of these
+-- tables without the line (`left_nested`).
 --
--- Theorem: `dots_are_nested`.
+-- Theorems: `dots_are_nested` and `dots_leave_nested`.
 use Rattle.std.proofs.Common.{◌≡◌, ℕ, ◌<◌, Bool, true, false, cond, List, [], ◌∷◌, ◌++◌, length, get_or, map, refl, sym}
 use Rattle.std.proofs.Common.{ap, subst, ◌∙◌, arith, append_assoc, append-nil, All, Some, fold}
-use Rattle.std.specs.List.{AllByRecursion, cons_option, list_any}
+use Rattle.std.specs.Prelude.{filter}
+use Rattle.std.specs.List.{AllByRecursion, cons_option, filter_map, list_any}
 use Rattle.std.proofs.lemmas.List.{length-map, map-append}
 use Rattle.std.proofs.lemmas.List.Elements.{All-head, All-tail}
 use Rattle.std.proofs.lemmas.List.Folds.{list_any_at}
@@ -29,22 +31,23 @@ use Rattle.keep_meaning.specs.LinesMore.{node_infos, nodes_after}
 use Rattle.keep_meaning.specs.Marks.{Mention, MentionKind, below, dotted, elements_of, entered_path, marks}
 use Rattle.keep_meaning.specs.Marks.{mentions_from, reading_after, role_of, start, value}
 use Rattle.keep_meaning.specs.Meaning.{keyed_mentions, mentions_in}
-use Rattle.keep_meaning.specs.Nodes.{infos_in, is_element, is_node, node_info, node_number, node_path}
+use Rattle.keep_meaning.specs.Nodes.{infos_in, is_at, is_element, is_node, node_info, node_number, node_path}
 use Rattle.keep_meaning.specs.Nodes.{node_paths, nodes_in, paths_with}
 use Rattle.keep_meaning.specs.Rules.{ObeysRules}
 use Rattle.keep_meaning.proofs.Shared.{body_has_no_element, body_is_node, node_met, paths-nodes_in, same_node}
 use Rattle.keep_rules.specs.Descents.{dotted_mentions}
-use Rattle.keep_rules.specs.LinesNested.{DotsAreNested, NodesAreNested}
+use Rattle.keep_rules.specs.LinesNested.{DotsAreNested, DotsLeaveNested, NodesAreNested}
 use Rattle.keep_rules.specs.Nested.{AreNested}
-use Rattle.keep_rules.specs.ReadDocuments.{IsIndexOf}
+use Rattle.keep_rules.specs.RoleStates.{mention_roles}
+use Rattle.keep_rules.proofs.DottedRoleLemmas.{dotted_is_barred}
 use Rattle.keep_rules.proofs.ElementLemmas.{tables_dotted}
 use Rattle.keep_rules.proofs.InsideValueLemmas.{AreClosed, IsInside, closed_keys, inside_keys}
 use Rattle.keep_rules.proofs.KeyWalkLemmas.{below-below, keyed-past}
 use Rattle.keep_rules.proofs.LineNestedLaws.{may_follow}
 use Rattle.keep_rules.proofs.LookupLemmas.{number_is}
 use Rattle.keep_rules.proofs.NestedGrowthLemmas.{AreEntered, IsClosed, IsThere, there_number}
-use Rattle.keep_rules.proofs.RunLemmas.{may_follow_rest, run}
-use Rattle.keep_rules.proofs.RunNestedLemmas.{child_of_none, elements_named, nested_more, said_new}
+use Rattle.keep_rules.proofs.RunLemmas.{may_follow_rest, may_follow_with, run}
+use Rattle.keep_rules.proofs.RunNestedLemmas.{child_of_none, elements_named, nested_less, nested_more, said_new}
 use Rattle.keep_rules.proofs.RunNestedLemmas.{said_old as said_without, tables_named, tables_same}
 
 -- ---- nodes that are named once more
@@ -92,6 +95,38 @@ module _ (before again after : List Mention)
         nested.listed path k i (ap (λ (ps : List (List Part)). node_number ps q) (sym again_paths) ∙ number)
         (may_follow_rest q before again after open_to);
     entered = subst (λ (ps : List (List Part)). AreEntered ps tables) (sym again_paths) nested.entered;
+  }
+
+  -- a `[[..]]` may name none of them
+  abbrev IsBarred : Mention → Type 0
+  IsBarred m = may_follow (mention_roles m.path was) ≡ false
+
+  open_to_them : (q : List Part) → may_follow (mention_roles q was) ≡ true → (ms : List Mention)
+      → AllByRecursion IsBarred ms → may_follow (mention_roles q ms) ≡ true
+  open_to_them q open_to [] barred = refl
+  open_to_them q open_to (m ∷ ms) barred = by (is_at q m) refl (open_to_them q open_to ms barred.1)
+    where
+      by : (b : Bool) → is_at q m ≡ b → may_follow (mention_roles q ms) ≡ true
+          → may_follow (filter_map role_of (map (λ (n : Mention). n.kind)
+          (cond b (m ∷ filter (is_at q) ms) (filter (is_at q) ms))))
+          ≡ true
+      by true e more = absurd (
+          let clash : true ≡ false =
+          sym open_to ∙ ap (λ (p : List Part). may_follow (mention_roles p was)) (sym ((path_decides m.path q).0 e))
+          ∙ barred.0 in
+          cc
+          )
+      by false e more = more
+
+  left_nested : (tables : List (List Part)) → AllByRecursion IsBarred again → AreNested is tables
+      → AreNested was tables
+  left_nested tables barred nested = record {
+    closed = subst IsClosed again_paths nested.closed;
+    listed = λ path k i number open_to.
+        let q : List Part = path ++ key k ∷ [] in
+        nested.listed path k i (ap (λ (ps : List (List Part)). node_number ps q) again_paths ∙ number)
+        (may_follow_with q before again after open_to (open_to_them q open_to again barred));
+    entered = subst (λ (ps : List (List Part)). AreEntered ps tables) again_paths nested.entered;
   }
 
 -- ---- the run of the first new key
@@ -161,10 +196,9 @@ each_numbered paths P (q ∷ qs) (id ∷ ids) same h =
 
 -- ---- the documents
 
-module _ (d more : Document) (line : HasDotsMore d more) (ids : List ℕ)
+module _ (d more : Document) (line : HasDotsMore d more) (ids : List ℕ) (obeys : ObeysRules (marks (mentions_in d)))
     (passed : AreDotted d (nodes_after line.before) (passed_paths line.before line.passed) ids)
-    (unsaid : IsUnsaid d (new_path line.before line.passed line.first)) (obeys : ObeysRules (marks (mentions_in d)))
-    (nested : NodesAreNested d) where
+    (unsaid : IsUnsaid d (new_path line.before line.passed line.first)) where
   abbrev body : List Part
   body = (reading_after start line.before).body
 
@@ -218,6 +252,14 @@ module _ (d more : Document) (line : HasDotsMore d more) (ids : List ℕ)
       each_numbered (node_infos d).paths (IsDotted d (nodes_after line.before)) (passed_paths line.before line.passed)
       ids passed.numbers passed.dotted
 
+  has_info : (q : List Part) (h : IsNumbered q) → h.0 < length (infos_in d)
+  has_info q h = omega (
+    arith,
+    (number_is (node_infos d).paths q h.0 h.1).0,
+    length-map (nodes_in d) node_path,
+    length-map (nodes_in d) node_info,
+  )
+
   -- they are met before the line
   met_before : (q : List Part) → IsNumbered q → IsThere (node_paths mx) q
   met_before q h =
@@ -254,16 +296,10 @@ module _ (d more : Document) (line : HasDotsMore d more) (ids : List ℕ)
           sym (node_met q (mentions_in d)) ∙ ap (list_any (same_path q)) (sym (paths-nodes_in d))
           ∙ there_number (node_infos d).paths q h.0 h.1
 
-      within : h.0 < length (infos_in d)
-      within = omega (arith, at.0, length-map (nodes_in d) node_path, length-map (nodes_in d) node_info)
-
-      of : IsIndexOf d (node_infos d)
-      of = record { obeys = obeys; nested = nested; facts = refl }
-
       none : elements_of q tables ≡ 0
       none =
-          tables_dotted d (node_infos d) of h.0 q (get_or (infos_in d) h.0 no_info) at.0 at.1
-          (slice_get-get_or (infos_in d) h.0 no_info within) h.2.1.0 h.2.1.1
+          tables_dotted d (node_infos d) refl h.0 q (get_or (infos_in d) h.0 no_info) at.0 at.1
+          (slice_get-get_or (infos_in d) h.0 no_info (has_info q h)) h.2.1.0 h.2.1.1
 
   plain_holder : IsPlainNode holder
   plain_holder =
@@ -283,13 +319,13 @@ module _ (d more : Document) (line : HasDotsMore d more) (ids : List ℕ)
   mid_node q =
       ap (is_node q) mid_is ∙ again_node mx dots my again q ∙ ap (is_node q) (sym said_old)
 
-  mid_nested : AreNested mid tables
-  mid_nested =
+  mid_nested : NodesAreNested d → AreNested mid tables
+  mid_nested nested =
       subst (λ (ms : List Mention). AreNested ms tables) (sym mid_is)
       (again_nested mx dots my again tables (subst (λ (ms : List Mention). AreNested ms tables) said_old nested))
 
-  nested_with : NodesAreNested more
-  nested_with =
+  nested_with : NodesAreNested d → NodesAreNested more
+  nested_with nested =
       subst (AreNested (mentions_in more)) (sym (tables_same d line.before line.after line.old more said line.new))
       (subst (λ (ms : List Mention). AreNested ms tables) (sym said_more)
       (nested_more path (mx ++ dots) my (first_kind line.fact line.further) (further_said line.fact line.further)
@@ -297,7 +333,46 @@ module _ (d more : Document) (line : HasDotsMore d more) (ids : List ℕ)
       (run_bare line.fact line.further) (λ r. mid_node (path ++ r) ∙ unsaid r) holder (key line.first) refl
       (mid_node holder ∙ plain_holder.0) tables (λ t some. mid_node t ∙ tables_named d t some)
       (λ t some. mid_node (entered_path tables t) ∙ elements_named d t some)
-      (child_of_none tables holder line.first plain_holder.1) mid_nested))
+      (child_of_none tables holder line.first plain_holder.1) (mid_nested nested)))
+
+  -- ---- and back
+
+  abbrev IsBarredNow : List Part → Type 0
+  IsBarredNow q = may_follow (mention_roles q (mx ++ my)) ≡ false
+
+  barred_node : (q : List Part) → IsNumbered q → IsBarredNow q
+  barred_node q h =
+      let at : (h.0 < length (node_infos d).paths) × (get_or (node_infos d).paths h.0 [] ≡ q) =
+      number_is (node_infos d).paths q h.0 h.1 in
+      ap (λ (ms : List Mention). may_follow (mention_roles q ms)) (sym said_old)
+      ∙ dotted_is_barred d h.0 h.2.1.0 q at.0 at.1 (has_info q h) h.2.1.1
+
+  barred : AllByRecursion (λ m. IsBarredNow m.path) dots
+  barred =
+      all_said IsBarredNow body line.passed
+      (all_weaker IsNumbered IsBarredNow barred_node (passed_paths line.before line.passed) numbered)
+
+  mid_left : NodesAreNested more → AreNested mid tables
+  mid_left nested =
+      nested_less path (mx ++ dots) my (first_kind line.fact line.further) (further_said line.fact line.further)
+      (run_known line.fact line.further) (run_above line.fact line.further) (run_plain line.fact line.further)
+      (run_bare line.fact line.further) (λ r. mid_node (path ++ r) ∙ unsaid r) holder (key line.first) refl
+      (mid_node holder ∙ plain_holder.0) tables (λ t some. mid_node t ∙ tables_named d t some)
+      (λ t some. mid_node (entered_path tables t) ∙ elements_named d t some)
+      (child_of_none tables holder line.first plain_holder.1)
+      (subst (λ (ms : List Mention). AreNested ms tables) said_more
+      (subst (AreNested (mentions_in more))
+      (tables_same d line.before line.after line.old more said line.new) nested))
+
+  nested_without : NodesAreNested more → NodesAreNested d
+  nested_without nested =
+      subst (λ (ms : List Mention). AreNested ms tables) (sym said_old)
+      (left_nested mx dots my again tables barred
+      (subst (λ (ms : List Mention). AreNested ms tables) mid_is (mid_left nested)))
 
 pub dots_are_nested : DotsAreNested
-dots_are_nested d more line ids passed unsaid obeys nested = nested_with d more line ids passed unsaid obeys nested
+dots_are_nested d more line ids passed unsaid obeys nested = nested_with d more line ids obeys passed unsaid nested
+
+pub dots_leave_nested : DotsLeaveNested
+dots_leave_nested d more line ids passed unsaid obeys nested =
+    nested_without d more line ids obeys passed unsaid nested

@@ -5,8 +5,8 @@
 -- (`entries_plain`). So line by line, some line so far has a path exactly if some mention so far names it
 -- (`statement_named`). The kind of a node is given by the mentions at its path alone.
 --
--- Theorems: `tables_some` and `tables_none`, of a node of an index; `tables_dotted`, of one that dotted keys make;
--- `tables_unmet`, of a path without a node.
+-- Theorems: `tables_some` and `tables_none`, of a node; `tables_dotted`, of one that dotted keys make; `tables_unmet`,
+-- of a path without a node; `info_stated`: the facts about a node are what is said at its path.
 use Rattle.std.proofs.Common.{◌≡◌, ℕ, ◌+◌, ◌<◌, Bool, true, false, cond, ◌||◌, ◌&&◌, List, [], ◌∷◌, ◌++◌, length}
 use Rattle.std.proofs.Common.{suc, get_or, map, refl, sym, ap, subst, ◌∙◌, arith, Option, Some, None}
 use Rattle.std.specs.Prelude.{◌==◌, Contains, nat_lt, filter, fold, if◌then◌else◌, slice_get}
@@ -42,6 +42,7 @@ use Rattle.keep_meaning.specs.Nodes.{mention_kind_of, mention_of, mentioned_kind
 use Rattle.keep_meaning.specs.Nodes.{node_paths, nodes_in, numbered_at, paths_with}
 use Rattle.keep_meaning.specs.Nodes.{first_that_fits, is_begun, is_define, is_dotted, is_through, last_number}
 use Rattle.keep_meaning.specs.Nodes.{mentioned_origin, statement_number, value_number}
+use Rattle.keep_meaning.specs.LinesMore.{node_infos}
 use Rattle.keep_meaning.specs.StatementsMore.{reading_at_end}
 use Rattle.keep_meaning.proofs.Shared.{mentions-numbered_in, mentions_in-statements, paths-nodes_in}
 use Rattle.keep_path.proofs.Shared.{path_decides}
@@ -225,7 +226,7 @@ document_named d t =
 
 -- ---- the kind of a node
 
-kinds_numbered : (path : List Part) (ns : List Numbered)
+pub kinds_numbered : (path : List Part) (ns : List Numbered)
     → map mention_kind_of (numbered_at path ns) ≡ kinds_at path (map mention_of ns)
 kinds_numbered path [] = refl
 kinds_numbered path (n ∷ ns) = by (is_at path n.mention) (kinds_numbered path ns)
@@ -296,18 +297,18 @@ dotted_is_plain ns v e =
     by None None e = refl
     by None (Some n) e = absurd cc
 
-module _ (d : Document) (t : NodeInfos) (of : IsIndexOf d t) (i : ℕ) (path : List Part) (info : NodeInfo)
+module _ (d : Document) (t : NodeInfos) (of : t ≡ node_infos d) (i : ℕ) (path : List Part) (info : NodeInfo)
     (within : i < length t.paths) (here : get_or t.paths i [] ≡ path) (there : slice_get t.infos i ≡ Some info) where
-  info_stated : info ≡ node_info (node_at (numbered_in d) path)
+  pub info_stated : info ≡ node_info (node_at (numbered_in d) path)
   info_stated =
       let paths : List (List Part) = node_paths (map mention_of (numbered_in d)) in
       let same : t.paths ≡ paths =
-      ap (λ (x : NodeInfos). x.paths) of.facts ∙ paths-nodes_in d ∙ ap node_paths (sym (mentions-numbered_in d)) in
+      ap (λ (x : NodeInfos). x.paths) of ∙ paths-nodes_in d ∙ ap node_paths (sym (mentions-numbered_in d)) in
       let low : i < length paths = subst (λ (ps : List (List Part)). i < length ps) same within in
       let at : slice_get paths i ≡ Some path =
       slice_get-get_or paths i [] low ∙ ap Some (ap (λ (ps : List (List Part)). get_or ps i []) (sym same) ∙ here) in
       let found : Some info ≡ Some (node_info (node_at (numbered_in d) path)) =
-      sym there ∙ ap (λ (x : NodeInfos). slice_get x.infos i) of.facts ∙ slice_get-map node_info (nodes_in d) i
+      sym there ∙ ap (λ (x : NodeInfos). slice_get x.infos i) of ∙ slice_get-map node_info (nodes_in d) i
       ∙ ap (option_map node_info) (slice_get-map (node_at (numbered_in d)) paths i
       ∙ ap (option_map (node_at (numbered_in d))) at) in
       cc

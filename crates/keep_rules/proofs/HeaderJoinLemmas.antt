@@ -98,11 +98,11 @@ module _ (t : TrieInfos) (trie : IsTrie t.trie) (i : ℕ) (within : i < length t
 
   pub tables_node : info.kind ≡ kind.Tables → (d : Document) → IsIndexOf d (node_infos t)
       → 0 < elements_of (path_at t.trie i) (tables_at_end d)
-  tables_node is d of = tables_some d (node_infos t) of i (path_at t.trie i) info low refl there is
+  tables_node is d of = tables_some d (node_infos t) of.facts i (path_at t.trie i) info low refl there is
 
   pub other_node : (info.kind ≡ kind.Tables → ⊥) → (d : Document) → IsIndexOf d (node_infos t)
       → elements_of (path_at t.trie i) (tables_at_end d) ≡ 0
-  other_node not d of = tables_none d (node_infos t) of i (path_at t.trie i) info low refl there not
+  other_node not d of = tables_none d (node_infos t) of.facts i (path_at t.trie i) info low refl there not
 
 -- ---- one join
 

@@ -8,7 +8,7 @@
 --
 -- Theorems: `begun`, `fresh`, `goes_on` and `all_come`: the chain before its first key, below which a next one is new,
 -- with a next one, and with the last; `first_same` and `rest_same`: the first of these keys, and the others;
--- `first_alone` and `first_of_several`: the nodes of all of them.
+-- `first_alone` and `first_of_several`: the nodes of all of them; `last_alone`: which is the last key's.
 use Rattle.std.proofs.Common.{◌≡◌, ℕ, zero, suc, ◌+◌, ◌-◌, ◌<◌, ◌≤◌, List, [], ◌∷◌, ◌++◌, length, get_or, map, drop}
 use Rattle.std.proofs.Common.{refl, sym, ◌∙◌, ap, ap₂, arith, length-append, slice_get, Option, Some}
 use Rattle.std.specs.Prelude.{Contains}
@@ -23,7 +23,7 @@ use Rattle.keep_path.specs.Dots.{with_keys}
 use Rattle.keep_path.specs.KeysAlone.{key_infos, key_numbers, keys_alone, paths_below}
 use Rattle.keep_path.specs.NodeInfos.{LineNumbers, NodeInfos, dotted_info, line_info, no_info, with_last, with_node}
 use Rattle.keep_path.specs.NodeInfos.{with_table}
-use Rattle.keep_path.specs.NodesBelow.{Totals, one_more, with_value}
+use Rattle.keep_path.specs.NodesBelow.{AreBelow, Totals, one_more, with_value}
 use Rattle.keep_path.specs.Path.{Part, key}
 use Rattle.keep_index_store.specs.Growth.{Grows}
 use Rattle.keep_index_store.specs.Tree.{IsRoot, TrieInfos, node_infos}
@@ -113,6 +113,34 @@ few_steps path (k ∷ ks) (suc i) d h =
       few_steps (path ++ key k ∷ []) ks i d (omega (arith, h)),
       length-append path (key k ∷ []),
     )
+
+-- ---- the last node
+
+paths_many : (path : List Part) (ks : List (List ℕ)) → length (paths_below path ks) ≡ length ks
+paths_many path [] = refl
+paths_many path (k ∷ ks) = ap suc (paths_many (path ++ key k ∷ []) ks)
+
+infos_many : (k : ℕ) (kind : Kind) (ks : List (List ℕ)) → length (key_infos k kind ks) ≡ length ks
+infos_many k kind [] = refl
+infos_many k kind (t ∷ []) = refl
+infos_many k kind (t ∷ u ∷ ts) = ap suc (infos_many (suc k) kind (u ∷ ts))
+
+none_below : (ps : List (List Part)) (i : ℕ) → length ps ≡ suc i → AreBelow ps i 0
+none_below ps i many = record {
+  within = omega (arith, many);
+  below = λ j high low. absurd (omega (arith, high, low));
+  others = λ j high low more e. omega (arith, high, low, many);
+}
+
+-- of the nodes of these keys it is that of the last, and no node is below it
+pub last_alone : (t : NodeInfos) (keys : List (List ℕ)) (kind : Kind) → t ≡ keys_alone keys kind → (last : ℕ)
+    → length t.infos ≡ suc last → (last ≡ length keys) × AreBelow t.paths last 0
+last_alone t keys kind is last many =
+    let infos : length t.infos ≡ suc (length keys) =
+    ap (λ (u : NodeInfos). length u.infos) is ∙ ap suc (infos_many 0 kind keys) in
+    let paths : length t.paths ≡ suc (length keys) =
+    ap (λ (u : NodeInfos). length u.paths) is ∙ ap suc (paths_many [] keys) in
+    (omega (arith, infos, many), none_below t.paths last (omega (arith, infos, paths, many)))
 
 -- ---- facts
 

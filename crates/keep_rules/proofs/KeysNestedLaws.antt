@@ -14,13 +14,14 @@ use Rattle.keep_meaning.specs.KeysMore.{HasKeysMore, IsUnsaid}
 use Rattle.keep_meaning.specs.LinesMore.{path_after}
 use Rattle.keep_meaning.specs.Marks.{Mention, dotted, elements_of, entered_path, marks, mentions_from, reading_after}
 use Rattle.keep_meaning.specs.Marks.{start, value}
-use Rattle.keep_meaning.specs.Meaning.{keyed_mentions, mentions_in}
+use Rattle.keep_meaning.specs.Meaning.{entries_mentions, keyed_mentions, mentions_in, valued_mentions}
 use Rattle.keep_meaning.specs.Nodes.{is_child, is_node}
 use Rattle.keep_meaning.specs.Rules.{ObeysRules}
 use Rattle.keep_meaning.proofs.Shared.{body_has_no_element, body_is_node}
 use Rattle.keep_rules.specs.LinesNested.{KeysAreNested, KeysLeaveNested}
 use Rattle.keep_rules.specs.Nested.{AreNested}
-use Rattle.keep_rules.proofs.InsideValueLemmas.{AreClosed, IsInside, closed_keys, inside_keys}
+use Rattle.keep_rules.proofs.InsideValueLemmas.{AreClosed, IsInside, closed_keys, inside_closed, inside_keys}
+use Rattle.keep_rules.proofs.InsideValueLemmas.{inside_known}
 use Rattle.keep_rules.proofs.KeyWalkLemmas.{below-below}
 use Rattle.keep_rules.proofs.RunLemmas.{run}
 use Rattle.keep_rules.proofs.RunNestedLemmas.{child_of_none, elements_named, nested_less, nested_more, said_new}
@@ -43,15 +44,19 @@ module _ (d more : Document) (line : HasKeysMore d more) (unsaid : IsUnsaid d (p
   abbrev my : List Mention
   my = mentions_from (reading_after start line.before) line.after
 
-  abbrev last : Mention
-  last = record { path = []; kind = value line.fact }
+  -- what is in the value
+  abbrev inner : List Mention
+  inner = entries_mentions 0 line.nested
+
+  abbrev valued : List Mention
+  valued = valued_mentions (value line.fact) inner
 
   -- what the line says below its first key
   abbrev further : List Mention
-  further = keyed_mentions (line.next ∷ line.further) (last ∷ [])
+  further = keyed_mentions (line.next ∷ line.further) valued
 
   abbrev said : List Mention
-  said = keyed_mentions (line.first ∷ line.next ∷ line.further) (last ∷ [])
+  said = keyed_mentions (line.first ∷ line.next ∷ line.further) valued
 
   said_old : mentions_in d ≡ mx ++ my
   said_old = said_without d line.before line.after line.old
@@ -66,10 +71,10 @@ module _ (d more : Document) (line : HasKeysMore d more) (unsaid : IsUnsaid d (p
   tables_are = tables_same d line.before line.after line.old more said line.new
 
   known : AllByRecursion IsInside further
-  known = inside_keys line.next line.further line.fact [] tt
+  known = inside_keys line.next line.further line.fact inner (inside_known 0 line.nested)
 
   closed : AreClosed further
-  closed = closed_keys line.next line.further line.fact [] (λ p ps more said. absurd cc)
+  closed = closed_keys line.next line.further line.fact inner (inside_closed 0 line.nested)
 
   nothing : (r : List Part) → is_node (path ++ r) (mx ++ my) ≡ false
   nothing r = ap (is_node (path ++ r)) (sym said_old) ∙ unsaid r

@@ -48,11 +48,14 @@ mod RunNestedLemmas
 mod PathNumberLaws
 mod DotLemmas
 mod DotsKnownLaws
+mod DotsLessLaws
 mod ValueNestedLaws
 mod KeysNestedLaws
+mod DottedRoleLemmas
 mod DotsNestedLaws
 mod KeysAloneLemmas
 mod PassedLemmas
+mod DotsLessLemmas
 pub mod LinePlaceLemmas
 mod DocumentLemmas
 mod ElementLemmas

@@ -131,7 +131,7 @@ rest_filter p (q ∷ paths) root =
     (ap (is_child p) root ∙ no_child_root p)
 
 -- a node is one step below another exactly if it is a child of it
-is_child_there : (nodes : List TrieNode) → IsTrie nodes → (i j : ℕ) (d : TrieNode) → i < length nodes → 0 < j
+pub is_child_there : (nodes : List TrieNode) → IsTrie nodes → (i j : ℕ) (d : TrieNode) → i < length nodes → 0 < j
     → j < length nodes → is_child (path_at nodes i) (path_at nodes j) ≡ ((get_or nodes j d).parent == i)
 is_child_there nodes trie i j d h low g =
     let up : (get_or nodes j d).parent < j = trie.parents j d low g in

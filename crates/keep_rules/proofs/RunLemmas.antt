@@ -303,6 +303,16 @@ may_follow_rest q before run after open_to =
     let parts = may_follow_parts q before run after open_to in
     may_join q before after ∙ ap₂ (λ (a b : Bool). a && b) parts.0 parts.2
 
+-- and what is said with one that it may follow
+pub may_follow_with : (q : List Part) (before run after : List Mention)
+    → may_follow (mention_roles q (before ++ after)) ≡ true → may_follow (mention_roles q run) ≡ true
+    → may_follow (mention_roles q (before ++ (run ++ after))) ≡ true
+may_follow_with q before run after open_to its =
+    let parts = and_parts (may_follow (mention_roles q before)) (may_follow (mention_roles q after))
+    (sym (may_join q before after) ∙ open_to) in
+    may_join q before (run ++ after)
+    ∙ ap₂ (λ (a b : Bool). a && b) parts.0 (may_join q run after ∙ ap₂ (λ (a b : Bool). a && b) its parts.1)
+
 -- a key's path is not the root's, so something is said of it if it is a node's
 key_said : (p : List Part) (k : List ℕ) (ms : List Mention) → is_node (p ++ key k ∷ []) ms ≡ true
     → list_any (is_at (p ++ key k ∷ [])) ms ≡ true

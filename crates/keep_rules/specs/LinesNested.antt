@@ -47,3 +47,11 @@ DotsAreNested =
     → AreDotted d (nodes_after line.before) (passed_paths line.before line.passed) ids
     → IsUnsaid d (new_path line.before line.passed line.first) → ObeysRules (marks (mentions_in d))
     → NodesAreNested d → NodesAreNested more
+
+-- So does taking it away.
+abbrev pub DotsLeaveNested : Type 0
+DotsLeaveNested =
+    (d more : Document) (line : HasDotsMore d more) (ids : List ℕ)
+    → AreDotted d (nodes_after line.before) (passed_paths line.before line.passed) ids
+    → IsUnsaid d (new_path line.before line.passed line.first) → ObeysRules (marks (mentions_in d))
+    → NodesAreNested more → NodesAreNested d

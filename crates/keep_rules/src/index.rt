@@ -21,6 +21,7 @@ ghost use Rattle.keep_rules.specs.ReadDocuments.{IsBuilt, IsChecked, IsIndexOf, 
 mod headers;
 mod lines;
 mod new_keys;
+mod old_keys;
 mod values;
 
 use crate::path_text::{PathRoom, push_path};

@@ -1,5 +1,6 @@
 //! Laws of the nodes where a line or a header is more, or another value is in the place of one, each the contract of a
 //! function that does nothing.
+ghost use Rattle.keep_meaning.specs.DotsLess.{DotsTakeNodes};
 ghost use Rattle.keep_meaning.specs.DotsMore.{DotsAddNodes};
 ghost use Rattle.keep_rules.specs.LinesNested as spec;
 ghost use Rattle.keep_rules.specs.StatementsNested as headers;
@@ -24,9 +25,10 @@ pub fn keys_nested()
 
 /// With one line more, a keyval whose key goes on from tables of dotted keys that are met before it to a key of which
 /// nothing is said, nor below it, and with nothing in its value, the nodes of a document that obeys the definition
-/// rules are nested as its headers say, if those of the document without it are.
+/// rules are nested as its headers say, if those of the document without it are; and back.
 pub fn dots_nested()
-    ensures { spec.DotsAreNested }
+    ensures nested { spec.DotsAreNested }
+    ensures left { spec.DotsLeaveNested }
 {}
 
 /// With one header more, as the last statement, the facts about the nodes of a document are those of the document
@@ -44,9 +46,10 @@ pub fn last_line_known()
 
 /// With one line more, whose key goes on from tables of dotted keys to a key with a new path, and with nothing in its
 /// value, the facts about all nodes are those of the document without it, with the nodes of the new keys, and with one
-/// mention more of each of these tables.
+/// mention more of each of these tables; and so they are back, in a document that obeys the definition rules.
 pub fn dots_known()
-    ensures { DotsAddNodes }
+    ensures added { DotsAddNodes }
+    ensures taken { DotsTakeNodes }
 {}
 
 /// With one header more, as the last statement, the nodes of a document that obeys the definition rules are nested as

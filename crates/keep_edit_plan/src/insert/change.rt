@@ -14,8 +14,8 @@ use crate::totals::totals_of;
 use keep_rules::{NewKeys, Path, Step, ValueText};
 
 impl<'a> DocumentRef<'a> {
-    /// What an insertion changes of the index, if that is another value of a line, or one line more: with one key, or
-    /// with several and nothing in its value. It takes no memory.
+    /// What an insertion changes of the index, if that is another value of a line, or one line more: of new keys alone,
+    /// or after passed ones and with nothing in its value. It takes no memory.
     pub(crate) fn insertion_change<'p>(
         &self,
         path: &'p Path,
@@ -42,8 +42,7 @@ impl<'a> DocumentRef<'a> {
         }
     }
 
-    /// What an insertion changes of the index, if that is one line more: with one key, or with several and nothing in
-    /// its value. It takes no memory.
+    /// What an insertion changes of the index, if that is one line more. It takes no memory.
     fn line_change<'p>(
         &self,
         path: &'p Path,
@@ -98,8 +97,7 @@ impl<'a> DocumentRef<'a> {
         })
     }
 
-    /// What an insertion changes of the index, if that is one line more, with several keys and nothing in its value. It
-    /// takes no memory.
+    /// What an insertion changes of the index, if that is one line more, with several keys. It takes no memory.
     fn keys_change<'p>(
         &self,
         path: &'p Path,
@@ -118,21 +116,30 @@ impl<'a> DocumentRef<'a> {
         let Spot::AfterBody(header) = insertion.spot else {
             return None;
         };
-        if value.depth() != 0 {
-            return None;
-        }
         let keys = NewKeys {
             path,
             from: insertion.from,
             passed: 0,
         };
         let parent = self.index.find_first(path, keys.from)?;
-        Some(IndexChange::AddedKeys {
+        let numbers = self.line_numbers(header);
+        let old = totals_of(self.syntax);
+        if value.depth() == 0 {
+            return Some(IndexChange::AddedKeys {
+                parent,
+                keys,
+                line: numbers,
+                kind: value.kind(),
+                totals: old,
+            });
+        }
+        Some(IndexChange::AddedKeysValue {
             parent,
-            keys,
-            line: self.line_numbers(header),
-            kind: value.kind(),
-            totals: totals_of(self.syntax),
+            path,
+            from: keys.from,
+            line: numbers,
+            value,
+            totals: old,
         })
     }
 

@@ -1,6 +1,6 @@
 -- Where nothing is said at a path that ends in a key, or under it, no path that goes on from it is a node.
 --
--- Theorem: `unsaid_below`.
+-- Theorems: `none_at`: none of what is beside the path is at one that goes on from it; `unsaid_below`.
 use Rattle.std.proofs.Common.{◌≡◌, ℕ, Bool, false, ◌||◌, List, [], ◌∷◌, ◌++◌, refl, ap₂}
 use Rattle.std.specs.List.{list_any}
 use Rattle.keep_syntax.specs.Tree.{Document}
@@ -11,7 +11,7 @@ use Rattle.keep_meaning.specs.Meaning.{mentions_in}
 use Rattle.keep_meaning.specs.Nodes.{is_at, is_root}
 use Rattle.keep_edit_spec.proofs.Common.Runs.{AllOf, IsDisjoint, is_at-disjoint, strip-append}
 
-none_at : (p below : List Part) (ms : List Mention) → AllOf (IsDisjoint p) ms
+pub none_at : (p below : List Part) (ms : List Mention) → AllOf (IsDisjoint p) ms
     → list_any (is_at (p ++ below)) ms ≡ false
 none_at p below [] h = refl
 none_at p below (m ∷ ms) h =

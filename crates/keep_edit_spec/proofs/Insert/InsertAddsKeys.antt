@@ -9,16 +9,17 @@ use Rattle.std.specs.Prelude.{IsUtf8}
 use Rattle.std.specs.List.{AllByRecursion}
 use Rattle.std.proofs.lemmas.List.{take-append-drop}
 use Rattle.keep_types.specs.declared.leaf.Profile.{Profile}
-use Rattle.keep_syntax.specs.Tree.{Entries, Value, Line, Document}
+use Rattle.keep_syntax.specs.Tree.{Value, Line, Document}
 use Rattle.keep_path.specs.Path.{Part, key}
 use Rattle.keep_meaning.specs.Counts.{statements_in}
 use Rattle.keep_meaning.specs.KeysMore.{IsUnsaid}
 use Rattle.keep_meaning.specs.LinesMore.{path_after}
 use Rattle.keep_meaning.specs.Marks as marks
 use Rattle.keep_meaning.specs.Marks.{start, value as kinds_value}
-use Rattle.keep_meaning.specs.Meaning.{body_fact, keyed_mentions, lines, mentions_in}
+use Rattle.keep_meaning.specs.Meaning.{body_fact, entries_mentions, keyed_mentions, lines, mentions_in}
+use Rattle.keep_meaning.specs.Meaning.{valued_mentions}
 use Rattle.keep_edit_spec.specs.Edits.{edited_document, end_of, insert}
-use Rattle.keep_edit_spec.specs.KeyvalLines.{HasKeysAt, InsertAddsKeys, bare_value}
+use Rattle.keep_edit_spec.specs.KeyvalLines.{HasKeysAt, InsertAddsKeys}
 use Rattle.keep_edit_spec.specs.Look.{holder, keys_in}
 use Rattle.keep_edit_spec.specs.Refusals.{refusal}
 use Rattle.keep_edit_spec.proofs.Common.BodyEnd.{IsBodyEnd}
@@ -27,7 +28,7 @@ use Rattle.keep_edit_spec.proofs.Common.LineStatements.{reading_statements, stat
 use Rattle.keep_edit_spec.proofs.Common.UnsaidPaths.{unsaid_below}
 use Rattle.keep_edit_spec.proofs.Insert.KeysAtEnd as keys
 use Rattle.keep_edit_spec.proofs.Insert.LineAtEnd as line
-use Rattle.keep_edit_spec.proofs.Values.LineCounts.{HasMore, line_counts}
+use Rattle.keep_edit_spec.proofs.Values.LineCounts.{HasMoreWith, value_counts}
 
 -- The path is new, and in the document are the lines of the body that it goes into, up to line n.
 module _ (profile : Profile) (limit : ℕ) (s : Document) (path : List Part) (first next : List ℕ)
@@ -39,7 +40,7 @@ module _ (profile : Profile) (limit : ℕ) (s : Document) (path : List Part) (fi
   a = holder path (mentions_in s)
 
   abbrev then : Document
-  then = edited_document s (insert path (bare_value value))
+  then = edited_document s (insert path value)
 
   abbrev before : List Line
   before = take n (lines s)
@@ -68,16 +69,15 @@ module _ (profile : Profile) (limit : ℕ) (s : Document) (path : List Part) (fi
   edited : statements_in then
       ≡ statements_of before
       ++ marks.keyval (keyed_mentions (first ∷ next ∷ further)
-      (record { path = []; kind = kinds_value (body_fact value.body) } ∷ []))
+      (valued_mentions (kinds_value (body_fact value.body)) (entries_mentions 0 value.nested)))
       ∷ statements_of after
-  edited = line.edited profile limit s path first (next ∷ further) value n utf8 allowed new ends
+  edited = line.edited_with profile limit s path first (next ∷ further) value n utf8 allowed new ends
 
-  -- of a value that may be put there, the line alone
-  keys_added : HasKeysAt s then path (body_fact value.body) before
+  keys_added : HasKeysAt s then path value before
   keys_added =
-      let counts : HasMore s then _ =
-      line_counts s then (statements_of before) (statements_of after) first (next ∷ further) (body_fact value.body) old
-      edited in
+      let counts : HasMoreWith s then _ value.nested =
+      value_counts s then (statements_of before) (statements_of after) first (next ∷ further) (body_fact value.body)
+      value.nested old edited in
       record {
         line = record {
           before = statements_of before;
@@ -86,6 +86,7 @@ module _ (profile : Profile) (limit : ℕ) (s : Document) (path : List Part) (fi
           next = next;
           further = further;
           fact = body_fact value.body;
+          nested = value.nested;
           old = old;
           new = edited;
           values = counts.values;
@@ -95,12 +96,10 @@ module _ (profile : Profile) (limit : ℕ) (s : Document) (path : List Part) (fi
         place = ap (λ (p : List Part). p ++ map key (next ∷ further)) first_path
             ∙ append_assoc a (key first ∷ []) (map key (next ∷ further)) ∙ sym new;
         gives = refl;
+        holds = refl;
         unsaid = unsaid;
       }
 
 pub insert_adds_keys : InsertAddsKeys
-insert_adds_keys profile limit s path first next further value n utf8 allowed new ends empty =
-    let with_entries : Entries → Document =
-    λ es. edited_document s (insert path (record { body = value.body; nested = es })) in
-    subst (λ (es : Entries). HasKeysAt s (with_entries es) path (body_fact value.body) (take n (lines s))) (sym empty)
-    (keys_added profile limit s path first next further value n utf8 allowed new ends)
+insert_adds_keys profile limit s path first next further value n utf8 allowed new ends =
+    keys_added profile limit s path first next further value n utf8 allowed new ends

@@ -1,7 +1,7 @@
 -- The line that an insert of one key or of several puts at the end of a body: where it comes among the lines, and what
 -- the document says with it where nothing is in the value.
 --
--- Theorems: `few`, `put`, `edited`.
+-- Theorems: `few`, `put`, `edited`; `edited_with`: where something is in the value.
 use Rattle.std.proofs.Common.{◌≡◌, ℕ, suc, ◌≤◌, List, [], ◌∷◌, ◌++◌, length, map, take, drop, ap, ◌∙◌, arith}
 use Rattle.std.proofs.Common.{length-append, Some, None}
 use Rattle.std.specs.Prelude.{IsUtf8}
@@ -13,7 +13,8 @@ use Rattle.keep_path.specs.Path.{Part, key}
 use Rattle.keep_meaning.specs.Counts.{statements_in}
 use Rattle.keep_meaning.specs.Marks as marks
 use Rattle.keep_meaning.specs.Marks.{value as kinds_value}
-use Rattle.keep_meaning.specs.Meaning.{body_fact, keyed_mentions, keys_of, line_of, lines, mentions_in}
+use Rattle.keep_meaning.specs.Meaning.{body_fact, entries_mentions, keyed_mentions, keys_of, line_of, lines}
+use Rattle.keep_meaning.specs.Meaning.{mentions_in, valued_mentions}
 use Rattle.keep_edit_spec.specs.Edits.{at_line, change, edited_document, end_of, insert, name_with}
 use Rattle.keep_edit_spec.specs.KeyvalLines.{bare_value}
 use Rattle.keep_edit_spec.specs.Lines.{new_line, newline_of, put_lines}
@@ -60,3 +61,11 @@ module _ (profile : Profile) (limit : ℕ) (s : Document) (path : List Part) (te
       (record { path = []; kind = kinds_value (body_fact value.body) } ∷ []))
       ∷ statements_of (drop n (lines s))
   edited = line.edited s path text more value n changes few means
+
+  -- with what is in it
+  pub edited_with : statements_in (edited_document s (insert path value))
+      ≡ statements_of (take n (lines s))
+      ++ marks.keyval (keyed_mentions (text ∷ more)
+      (valued_mentions (kinds_value (body_fact value.body)) (entries_mentions 0 value.nested)))
+      ∷ statements_of (drop n (lines s))
+  edited_with = line.edited_with s path text more value n changes few means value

@@ -5,7 +5,7 @@
 -- and of a value's path nothing else may be said. If they are the same, a body and a value have one path, which the
 -- rules don't allow either.
 --
--- Theorems: `line_base`, `not_in_braces`.
+-- Theorems: `body_after`, `line_base`, `not_in_braces`.
 use Rattle.std.proofs.Common.{◌≡◌, ℕ, Bool, true, false, List, [], ◌∷◌, ◌++◌, map, refl, sym, ap, subst, ◌∙◌, Option}
 use Rattle.std.proofs.Common.{◌⊎◌, inl, inr, ◌||◌}
 use Rattle.std.proofs.lemmas.List.{append-nil}
@@ -203,6 +203,18 @@ content_from a r before after comment (keyval name v) h =
     (subst (λ (b : List Part). IsDottedFrom (map (below r.body) (keyed_mentions keys vs)) (r.body ++ u.0) b)
     (append-nil r.body) own)
 
+-- after some lines of the document
+pub body_after : (s : Document) (pre post : List Line) → lines s ≡ pre ++ post
+    → IsBody (reading_after_lines start pre).body (mentions_in s)
+body_after s pre post was = elim (body_stated start pre) [
+  | inl e ↦ inl e
+  | inr t ↦
+      (let r : Reading = reading_after_lines start pre in
+      stated_body r.body (mentions_in s)
+      (subst (SomeOf (IsStated r.body)) (sym (ap (lines_mentions start) was ∙ lines_mentions-append start pre post))
+      (some_left (IsStated r.body) (lines_mentions start pre) (lines_mentions r post) t)))
+]
+
 -- of a line among those of the document
 pub line_base : (s : Document) (a : List Part) (pre : List Line) (l : Line) (post : List Line)
     → lines s ≡ pre ++ l ∷ post → leads_dotted a (reading_after_lines start pre) l ≡ true
@@ -218,13 +230,7 @@ line_base s a pre l post was goes =
           (λ P h. subst (SomeOf P) (sym mentioned)
           (some_right P (lines_mentions start pre) (line_mentions r l ++ lines_mentions (after_line r l) post)
           (some_left P (line_mentions r l) (lines_mentions (after_line r l) post) h))) here;
-      body = elim (body_stated start pre) [
-        | inl e ↦ inl e
-        | inr t ↦ stated_body r.body (mentions_in s)
-            (subst (SomeOf (IsStated r.body)) (sym mentioned)
-            (some_left (IsStated r.body) (lines_mentions start pre)
-            (line_mentions r l ++ lines_mentions (after_line r l) post) t))
-      ];
+      body = body_after s pre (l ∷ post) was;
     }
 
 -- ---- two prefixes of a path, after which there are keys alone

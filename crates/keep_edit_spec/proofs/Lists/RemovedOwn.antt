@@ -4,7 +4,7 @@
 -- (`last_without`); where none of the lines could be changed, none can be now (`none_without`); and a keyval's own line
 -- says that there is a value, if the document obeys the rules (`own_fact`), so a remove of it is not refused.
 --
--- Theorems: `last_without`, `none_without`, `own_allowed`.
+-- Theorems: `last_without`, `none_without`, `own_node`, `own_allowed`.
 use Rattle.std.proofs.Common.{◌≡◌, ℕ, zero, suc, Bool, true, false, cond, not, ◌||◌, List, [], ◌∷◌, ◌++◌, length, map}
 use Rattle.std.proofs.Common.{refl, sym, ap, ap₂, subst, ◌∙◌, arith, Option, Some, None}
 use Rattle.std.specs.List.{filter_map, list_any}
@@ -137,6 +137,12 @@ fact_node path ms f e = node_kinds path ms ∙ by (kinds_at path ms) (is_root pa
     by [] b e = absurd cc
     by (k ∷ kinds) true e = refl
     by (k ∷ kinds) false e = refl
+
+-- so the path is that of a node
+pub own_node : (s : Document) (path : List Part) (n : ℕ) → Rules (mentions_in s)
+    → last_line (mine path) start (lines s) ≡ Some n → is_node path (mentions_in s) ≡ true
+own_node s path n rules own =
+    let (b, fact) = own_fact s path n rules own in fact_node path (mentions_in s) (body_fact b) fact
 
 pub own_allowed : (profile : Profile) (limit : ℕ) (s : Document) (path : List Part) (n : ℕ) → Rules (mentions_in s)
     → last_line (mine path) start (lines s) ≡ Some n → is_root path ≡ false

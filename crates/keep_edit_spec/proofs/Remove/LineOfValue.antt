@@ -1,15 +1,16 @@
 -- The line on which the value of a path is (`IsLineValue`): where its key has one part it is a line of which
 -- `RemoveTakesValue` speaks, and where no node is below the value, too, one of which `RemoveTakesLine` does. Where its
--- key has several parts, and no node is below the value, it is one of which `RemoveTakesKeys` does. Its numbers are
--- those that the syntax has with the value.
+-- key has several parts, it is one of which `RemoveTakesKeys` does; with some of them passed, and no node below the
+-- value, one of which `RemoveTakesDots` does. Its numbers are those that the syntax has with the value.
 --
 -- A value in which something is nested has a node below it (`childless`), so here nothing is. What the syntax counts
 -- before a line are the statements, the values and the key parts that the lines before it say (`lines_counted`).
 --
--- Theorems: `value_line`, `line_of_value`, `keys_line_of_value` and `line_numbers`.
-use Rattle.std.proofs.Common.{◌≡◌, ℕ, suc, ◌+◌, List, [], ◌∷◌, ◌++◌, length, map, refl, sym, ap, subst, ◌∙◌, append-nil}
-use Rattle.std.proofs.Common.{append_assoc, arith, None, Some}
+-- Theorems: `value_line`, `line_of_value`, `keys_line_of_value`, `dots_line_of_value` and `line_numbers`.
+use Rattle.std.proofs.Common.{◌≡◌, ℕ, zero, suc, ◌+◌, ◌<◌, List, [], ◌∷◌, ◌++◌, length, map, refl, sym, ap, subst, ◌∙◌}
+use Rattle.std.proofs.Common.{append-nil, append_assoc, arith, None, Some}
 use Rattle.std.specs.List.{cons_option, filter_map}
+use Rattle.std.proofs.lemmas.List.{length-map}
 use Rattle.keep_syntax.specs.Numbered as syntax
 use Rattle.keep_syntax.specs.Numbered.{content_statements, content_parts, content_values, content_start, line_start}
 use Rattle.keep_syntax.specs.Numbered.{next_line, first_line, after_lines, key_count}
@@ -28,7 +29,7 @@ use Rattle.keep_meaning.specs.Meaning.{reading_after_lines, statement_of, step, 
 use Rattle.keep_meaning.specs.Nodes.{children, node_paths}
 use Rattle.keep_meaning.proofs.Shared.{count_after-keys, count_after-values, count_from-statements, marked-content}
 use Rattle.keep_meaning.proofs.Shared.{valued-content}
-use Rattle.keep_edit_spec.specs.KeyvalLines.{IsKeysLineOf, IsLineOf, IsValueLine}
+use Rattle.keep_edit_spec.specs.KeyvalLines.{IsDotsLineOf, IsKeysLineOf, IsLineOf, IsValueLine}
 use Rattle.keep_edit_spec.proofs.Common.SetDocument.{whole_mentions}
 use Rattle.keep_edit_spec.proofs.Common.SetLaw.{run}
 use Rattle.keep_edit_spec.proofs.Remove.RemoveLinePlace.{IsLineValue, head_line, lines_split, tail_lines}
@@ -52,6 +53,27 @@ nothing_nested (entry (Some name) body nested after comma rest) e =
 one_part : (fs : List Further) → suc (length fs) ≡ 1 → fs ≡ []
 one_part [] e = refl
 one_part (f ∷ fs) e = absurd (omega (arith, e))
+
+-- a key's parts, of which so many come first
+record IsCutAt (ks : List (List ℕ)) (n : ℕ) : Type 0 where
+  passed : List (List ℕ)
+  first : List ℕ
+  further : List (List ℕ)
+  whole : ks ≡ passed ++ first ∷ further
+  many : length passed ≡ n
+
+cut_at : (ks : List (List ℕ)) (n : ℕ) → n < length ks → IsCutAt ks n
+cut_at [] n few = absurd (omega (arith, few))
+cut_at (k ∷ ks) zero few = record { passed = []; first = k; further = ks; whole = refl; many = refl }
+cut_at (k ∷ ks) (suc n) few =
+    let c : IsCutAt ks n = cut_at ks n (omega (arith, few)) in
+    record {
+      passed = k ∷ c.passed;
+      first = c.first;
+      further = c.further;
+      whole = ap (λ (l : List (List ℕ)). k ∷ l) c.whole;
+      many = ap suc c.many;
+    }
 
 -- ---- what is counted before a line
 
@@ -169,9 +191,9 @@ module _ (path : List Part) (s : Document) (pre rest : List Ended) (was : s.ende
     empty = empty alone;
   }
 
-  pub keys_line_of_value : (v.own.keys ≡ 1 → ⊥) → children path (node_paths (mentions_in s)) ≡ []
+  pub keys_line_of_value : (v.own.keys ≡ 1 → ⊥)
       → (line : IsKeysLineOf s path (map line_of pre) held) × (v.own.keys ≡ key_count line.name.key)
-  keys_line_of_value several alone = by name.key.more refl
+  keys_line_of_value several = by name.key.more refl
     where
       by : (fs : List Further) → name.key.more ≡ fs
           → (line : IsKeysLineOf s path (map line_of pre) held) × (v.own.keys ≡ key_count line.name.key)
@@ -187,9 +209,32 @@ module _ (path : List Part) (s : Document) (pre rest : List Ended) (was : s.ende
           content = v.its_line.content;
           place = v.its_line.named;
           several = are;
-          empty = empty alone;
         },
         v.keys,
+      )
+
+  pub dots_line_of_value : (n : ℕ) → n < v.own.keys → children path (node_paths (mentions_in s)) ≡ []
+      → (line : IsDotsLineOf s path (map line_of pre) held) × (length line.passed ≡ n)
+      × (v.own.keys ≡ length (line.passed ++ line.first ∷ line.further))
+  dots_line_of_value n few alone =
+      let many : v.own.keys ≡ length (keys_of name.key) =
+      v.keys ∙ ap suc (sym (length-map name.key.more further_value)) in
+      let c : IsCutAt (keys_of name.key) n = cut_at (keys_of name.key) n (omega (arith, few, many)) in (
+        record {
+          line = head_line rest s.last;
+          after = tail_lines rest s.last;
+          name = name;
+          passed = c.passed;
+          first = c.first;
+          further = c.further;
+          here = lines_are;
+          content = v.its_line.content;
+          place = v.its_line.named;
+          parts = c.whole;
+          empty = empty alone;
+        },
+        c.many,
+        many ∙ ap (λ (ks : List (List ℕ)). length ks) c.whole,
       )
 
   pub line_numbers : numbers_after (filter_map line_statement (map line_of pre))

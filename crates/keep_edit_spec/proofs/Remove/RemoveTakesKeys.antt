@@ -8,7 +8,7 @@
 use Rattle.std.proofs.Common.{◌≡◌, ℕ, List, [], ◌∷◌, ◌++◌, map, refl, sym, ap, subst, ◌∙◌, append_assoc, arith}
 use Rattle.std.proofs.Common.{inl}
 use Rattle.std.specs.List.{cons_option}
-use Rattle.keep_syntax.specs.Tree.{Content, Entries, Further, Value, Line, Document}
+use Rattle.keep_syntax.specs.Tree.{Content, Further, Value, Line, Document}
 use Rattle.keep_path.specs.Path.{Part, key}
 use Rattle.keep_meaning.specs.Counts.{statements_in}
 use Rattle.keep_meaning.specs.KeysMore.{IsUnsaid}
@@ -30,7 +30,7 @@ use Rattle.keep_edit_spec.proofs.Common.SetLaw.{IsSolidAt}
 use Rattle.keep_edit_spec.proofs.Common.UnsaidPaths.{unsaid_below}
 use Rattle.keep_edit_spec.proofs.Remove.LineTaken.{rules, said_left, statements_left}
 use Rattle.keep_edit_spec.proofs.Rename.RenameOnce.{Once, once_after, once_counted, once_right}
-use Rattle.keep_edit_spec.proofs.Values.LineCounts.{HasMore, line_counts}
+use Rattle.keep_edit_spec.proofs.Values.LineCounts.{HasMoreWith, value_counts}
 
 module _ (s : Document) (path : List Part) (before : List Line) (value : Value)
     (obeys : ObeysRules (marks.marks (mentions_in s))) (h : IsKeysLineOf s path before value)
@@ -116,10 +116,10 @@ module _ (s : Document) (path : List Part) (before : List Line) (value : Value)
 
   -- ---- the line
 
-  abbrev said_with : List Further → Entries → Statement
-  said_with fs es =
+  abbrev said_with : List Further → Statement
+  said_with fs =
       marks.keyval (keyed_mentions (first ∷ map further_value fs)
-      (valued_mentions (kinds_value (body_fact value.body)) (entries_mentions 0 es)))
+      (valued_mentions (kinds_value (body_fact value.body)) (entries_mentions 0 value.nested)))
 
   old : statements_in now ≡ statements_of before ++ statements_of h.after
   old = others ∙ statements-append before h.after
@@ -127,20 +127,18 @@ module _ (s : Document) (path : List Part) (before : List Line) (value : Value)
   new : statements_in s
       ≡ statements_of before
       ++ marks.keyval (keyed_mentions (first ∷ next ∷ further)
-      (record { path = []; kind = kinds_value (body_fact value.body) } ∷ []))
+      (valued_mentions (kinds_value (body_fact value.body)) (entries_mentions 0 value.nested)))
       ∷ statements_of h.after
   new =
       ap statements_of h.here ∙ statements-append before (h.line ∷ h.after)
       ∙ ap (λ (c : Content). statements_of before ++ cons_option (statement_of c) (statements_of h.after)) h.content
-      ∙ ap (λ (fs : List Further). statements_of before ++ said_with fs value.nested ∷ statements_of h.after) h.several
-      ∙ ap (λ (es : Entries).
-      statements_of before ++ said_with (h.next ∷ h.further) es ∷ statements_of h.after) h.empty
+      ∙ ap (λ (fs : List Further). statements_of before ++ said_with fs ∷ statements_of h.after) h.several
 
-  keys_taken : HasKeysAt now s path (body_fact value.body) before
+  keys_taken : HasKeysAt now s path value before
   keys_taken =
-      let counts : HasMore now s _ =
-      line_counts now s (statements_of before) (statements_of h.after) first (next ∷ further) (body_fact value.body) old
-      new in
+      let counts : HasMoreWith now s _ value.nested =
+      value_counts now s (statements_of before) (statements_of h.after) first (next ∷ further) (body_fact value.body)
+      value.nested old new in
       record {
         line = record {
           before = statements_of before;
@@ -149,6 +147,7 @@ module _ (s : Document) (path : List Part) (before : List Line) (value : Value)
           next = next;
           further = further;
           fact = body_fact value.body;
+          nested = value.nested;
           old = old;
           new = new;
           values = counts.values;
@@ -160,6 +159,7 @@ module _ (s : Document) (path : List Part) (before : List Line) (value : Value)
             ∙ ap (λ (fs : List Further). r.body ++ key first ∷ map key (map further_value fs)) (sym h.several)
             ∙ h.place;
         gives = refl;
+        holds = refl;
         unsaid = unsaid;
       }
 

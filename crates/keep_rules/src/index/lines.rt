@@ -2,16 +2,20 @@
 ghost use Rattle.std.specs.Prelude.{◌≡◌, ◌<◌, ◌≤◌, ◌∷◌, ◌++◌, [], ℕ, IfSome, List, OnErr, OnOk, Some, drop, length};
 ghost use Rattle.std.specs.Prelude.{map};
 ghost use Rattle.keep_types.specs.declared.node.Kind.{Kind};
+ghost use Rattle.keep_types.specs.declared.node.Kind.TheVariants as kinds;
 ghost use Rattle.keep_syntax.specs.Tree.{Value};
 ghost use Rattle.keep_index_store.specs.Below.{totals_in};
 ghost use Rattle.keep_index_store.specs.Renumbering.{numbers_of};
+ghost use Rattle.keep_meaning.specs.DotsLess.{without_dots};
+ghost use Rattle.keep_meaning.specs.KeysMore.{keys_with_value};
 ghost use Rattle.keep_meaning.specs.LinesMore as spec;
 ghost use Rattle.keep_meaning.specs.Meaning.{body_fact};
 ghost use Rattle.keep_meaning.specs.Nodes.{fact_kind, node_number};
 ghost use Rattle.keep_meaning.specs.OtherValues.{nodes_in_value};
 ghost use Rattle.keep_path.specs.Dots.{after_parts, totals_after_parts, with_dots, with_keys, with_parts_from};
+ghost use Rattle.keep_path.specs.Dots.{without_keys};
 ghost use Rattle.keep_path.specs.KeysAlone.{paths_below};
-ghost use Rattle.keep_path.specs.NodeInfos.{line_info, root_infos, with_last, with_node, without_node};
+ghost use Rattle.keep_path.specs.NodeInfos.{line_info, root_infos, with_last, with_node, with_table, without_node};
 ghost use Rattle.keep_path.specs.NodesBelow.{AreBelow, with_value};
 ghost use Rattle.keep_path.specs.Path.{Part, key};
 ghost use Rattle.keep_rules.specs.LinePlaces.{IsPlaceOf, one_more};
@@ -19,11 +23,13 @@ ghost use Rattle.keep_rules.specs.Lookup.{path_numbered};
 ghost use Rattle.keep_rules.specs.PassedTables.{ArePassed};
 ghost use Rattle.keep_rules.specs.ValueTexts.{IsTextOfValue};
 
-use super::new_keys::{KeyPlace, NewKeys, insert_past};
+use super::new_keys::{KeyPlace, NewKeys, insert_past, key_at, nodes_with_value};
+use super::old_keys::remove_past;
 use super::values::nodes_of_value;
 use super::{Index, NodeId};
 use crate::value::ValueText;
 use keep_index_store::{LineNumbers, NewValue, NotInPlace, Totals, Tree};
+use keep_path::Path;
 use keep_types::{Kind, NodeInfo, Origin};
 
 /// Whether the node is first met at the line or after it, by the facts about it.
@@ -207,6 +213,52 @@ impl Index {
         insert_past(&mut self.nodes, place, keys, kind, old, new)
     }
 
+    /// One line more defines keys below the table `parent`, with this value: the steps of the path from that number on,
+    /// of which there are two at least, and all of which are new. Their nodes come as `insert_keys` tells it, and below
+    /// the last of them those in the value. The document had `old` values and key parts in all, and now has `new`. It
+    /// takes the memory of the new nodes and their keys, and reads the value's text once more.
+    ///
+    /// # Errors
+    ///
+    /// `NotInPlace` where `insert_keys` refuses, where one key alone is new, and where memory was refused; then nothing
+    /// has changed, and the index has to be built anew.
+    pub fn insert_keys_value(
+        &mut self,
+        parent: NodeId,
+        path: &Path,
+        from: usize,
+        line: LineNumbers,
+        value: &ValueText,
+        old: Totals,
+        new: Totals,
+    ) -> Result<(), NotInPlace>
+        requires { parent.0 < length self.old.paths }
+        ensures inserted { OnOk result ((at : ℕ) → IsPlaceOf (numbers_of line) self.old.infos at
+            → (first : List ℕ) (further : List (List ℕ)) → drop from path.now ≡ map key (first ∷ further)
+            → (v : Value) → IsTextOfValue value.now v
+            → self.new ≡ with_value (with_table self.old at (numbers_of line)
+            (path_numbered self.old parent.0 ++ key first ∷ [])) at 0 (one_more (totals_in old)) (totals_in new)
+            (keys_with_value further (fact_kind (body_fact v.body)) (nodes_in_value v)) kinds.Table) }
+        ensures refused { OnErr result (self.new ≡ self.old) }
+    {
+        let text = key_at(path, from)?;
+        if path.len().saturating_sub(1) <= from {
+            return Err(NotInPlace);
+        }
+        let Some(bare) = with_line(old) else {
+            return Err(NotInPlace);
+        };
+        let inside = nodes_with_value(self.nodes.allocator(), path, from + 1, value)?;
+        let at = first_met_from(&self.nodes, line);
+        let given = NewValue {
+            inside,
+            kind: Kind::Table,
+            old: bare,
+            new,
+        };
+        self.nodes.insert_table(parent.0, text, line, at, given)
+    }
+
     /// The line of a node goes: a keyval of one key part, with a value in which nothing is nested. Each node after it
     /// has the number before its own. `line` has the numbers of the line in the syntax, and the facts about all others
     /// have their numbers without it. It takes no memory.
@@ -248,5 +300,35 @@ impl Index {
             return Err(NotInPlace);
         };
         self.nodes.remove_value(node.0, line, old, bare)
+    }
+
+    /// A line goes whose first keys, that many, name tables of dotted keys from which other lines go on, too; the next
+    /// key is the first that names this node, and no other line names it. The node goes with all nodes below it, and
+    /// each of the tables has one mention less. `line` has the numbers of the line in the syntax, and as that of a key
+    /// part the one of its first key. The document had `old` values and key parts in all, and now has `new`.
+    ///
+    /// # Errors
+    ///
+    /// Those of `remove_value`, and `NotInPlace` where one of the nodes above is no table of dotted keys that another
+    /// line goes on from, where the document would have more values than before, and where the number of a value has
+    /// more than 32 bits; then nothing has changed, and the index has to be built anew.
+    pub fn remove_keys(
+        &mut self,
+        node: NodeId,
+        passed: usize,
+        line: LineNumbers,
+        old: Totals,
+        new: Totals,
+    ) -> Result<(), NotInPlace>
+        requires { node.0 < length self.old.paths }
+        ensures removed { OnOk result ((base : List Part) (keys : List (List ℕ)) (first : List ℕ) (ids : List ℕ)
+            → path_numbered self.old node.0 ≡ (base ++ map key keys) ++ key first ∷ [] → length keys ≡ passed
+            → map (node_number self.old.paths) (paths_below base keys) ≡ map Some ids
+            → (gone : ℕ) (k : Kind) → AreBelow self.old.paths node.0 gone
+            → self.new ≡ without_dots ids (without_keys self.old node.0 gone passed (numbers_of line) (totals_in old)
+            (totals_in new) k)) }
+        ensures refused { OnErr result (self.new ≡ self.old) }
+    {
+        remove_past(&mut self.nodes, node.0, passed, line, old, new)
     }
 }

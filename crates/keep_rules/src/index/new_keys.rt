@@ -6,14 +6,21 @@ ghost use Rattle.keep_index_store.specs.Dots.{IsTaker};
 ghost use Rattle.keep_index_store.specs.Renumbering.{numbers_of};
 ghost use Rattle.keep_index_store.specs.Tree.{node_infos};
 ghost use Rattle.keep_index_store.specs.Trie.{IsTrie, holds_at, path_at};
-ghost use Rattle.keep_meaning.specs.Nodes.{node_number};
+ghost use Rattle.keep_meaning.specs.KeysMore.{keys_with_value};
+ghost use Rattle.keep_meaning.specs.Meaning.{body_fact};
+ghost use Rattle.keep_meaning.specs.Nodes.{fact_kind, node_number};
+ghost use Rattle.keep_meaning.specs.OtherValues.{nodes_in_value};
 ghost use Rattle.keep_path.specs.Dots as dots;
 ghost use Rattle.keep_path.specs.Dots.{with_dots, with_keys, with_parts_from};
 ghost use Rattle.keep_path.specs.KeysAlone.{keys_alone, paths_below};
 ghost use Rattle.keep_path.specs.Path.{Part, key};
 ghost use Rattle.keep_rules.specs.PassedTables.{ArePassed};
+ghost use Rattle.keep_rules.specs.ValueTexts.{IsTextOfValue};
+ghost use Rattle.keep_syntax.specs.Tree.{Value};
 
 use super::lines::with_line;
+use super::values::nodes_of_value;
+use crate::value::ValueText;
 use keep_index_store::{Holds, LineNumbers, NewValue, NodeFacts, NotInPlace, Totals, Tree};
 use keep_path::{Path, Step};
 use keep_types::{Kind, Origin, Role};
@@ -38,7 +45,7 @@ pub(crate) struct KeyPlace {
 }
 
 /// The numbers after so many key parts of the line.
-fn after_parts(count: usize, line: LineNumbers) -> Option<LineNumbers>
+pub(crate) fn after_parts(count: usize, line: LineNumbers) -> Option<LineNumbers>
     ensures { IfSome result (λ after. numbers_of after ≡ dots.after_parts count (numbers_of line)) }
 {
     let key = line.key.checked_add(count)?;
@@ -46,7 +53,7 @@ fn after_parts(count: usize, line: LineNumbers) -> Option<LineNumbers>
 }
 
 /// How many values and key parts a document has after so many key parts of the line.
-fn totals_after_parts(count: usize, totals: Totals) -> Option<Totals>
+pub(crate) fn totals_after_parts(count: usize, totals: Totals) -> Option<Totals>
     ensures { IfSome result (λ after. totals_in after ≡ dots.totals_after_parts count (totals_in totals)) }
 {
     let keys = totals.keys.checked_add(count)?;
@@ -54,7 +61,7 @@ fn totals_after_parts(count: usize, totals: Totals) -> Option<Totals>
 }
 
 /// The key that a step of a path is. `NotInPlace` where it is an index, or there is none.
-fn key_at(path: &Path, number: usize) -> Result<&str, NotInPlace>
+pub(crate) fn key_at(path: &Path, number: usize) -> Result<&str, NotInPlace>
     ensures { IfOk result (λ text. slice_get path.now number ≡ Some (key text.now)) }
 {
     match path.step(number) {
@@ -91,6 +98,30 @@ fn nodes_of_keys(alloc: Global, path: &Path, from: usize, kind: Kind) -> Result<
         key: above,
     };
     nodes.append_key(above, text, line, kind)?;
+    Ok(nodes)
+}
+
+/// The same with those of a value below the last of them. `NotInPlace` where `nodes_of_keys` refuses, and where memory
+/// was refused.
+pub(crate) fn nodes_with_value(
+    alloc: Global,
+    path: &Path,
+    from: usize,
+    value: &ValueText,
+) -> Result<Tree, NotInPlace>
+    requires { from < length path.now }
+    ensures { IfOk result (λ tree. (keys : List (List ℕ)) → drop from path.now ≡ map key keys
+        → (v : Value) → IsTextOfValue value.now v
+        → node_infos tree ≡ keys_with_value keys (fact_kind (body_fact v.body)) (nodes_in_value v)) }
+{
+    let kind = value.kind();
+    let mut nodes = nodes_of_keys(alloc, path, from, kind)?;
+    let Some(last) = nodes.len().checked_sub(1) else {
+        return Err(NotInPlace);
+    };
+    let inside = nodes_of_value(alloc, value)?;
+    let alone = Totals { values: 0, keys: 0 };
+    nodes.replace_below(last, inside, kind, alone, alone)?;
     Ok(nodes)
 }
 

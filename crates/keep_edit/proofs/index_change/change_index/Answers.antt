@@ -18,3 +18,11 @@ returns-in-AddedKeys-clause-changed c = λ d was done.
     (λ first further keys.
     from_ok _ c.insert_keys.result (sym c.is_ok-in-AddedKeys.ensures.value ∙ done) c.insert_keys.ensures.inserted _
     can.2 first further keys)
+
+pub returns-in-AddedKeysValue-clause-changed : goal.returns-in-AddedKeysValue-clause-changed
+returns-in-AddedKeysValue-clause-changed c = λ d was done.
+    let can = subst (CanChange c.args.index.now) c.in-AddedKeysValue.is c.requires in
+    rw (c.in-AddedKeysValue.is, sym (c.totals_of-now.ensures d was.is))
+    (λ first further keys v text.
+    from_ok _ c.insert_keys_value.result (sym c.is_ok-in-AddedKeysValue.ensures.value ∙ done)
+    c.insert_keys_value.ensures.inserted _ can.2 first further keys v text)

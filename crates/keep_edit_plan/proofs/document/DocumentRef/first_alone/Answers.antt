@@ -1,17 +1,16 @@
-use Rattle.std.proofs.Common.{arith, ap, ◌-◌, ◌∙◌, sym}
+use Rattle.std.proofs.Common.{arith, sym}
 use Rattle.keep_edit_plan.proofs.AnswerLaws.{seen}
 use Rattle.keep_edit_plan.proofs.KeysRemovalLaws.{found_alone}
-use Rattle.keep_edit_plan.proofs.KindLaws.{node_within}
 use Rattle.keep_edit_plan.proofs.document.DocumentRef.first_alone.Goals as goal
 
-pub child_count-requires : goal.child_count-requires
-child_count-requires c =
-    let (s, read, here) = c.requires in
-    node_within _ _ _ c.args.path.now s (seen c.self.view_is c.self.invariant) read c.args.node here
+pub loop-before-init : goal.loop-before-init
+loop-before-init c = omega arith
 
-pub returns : goal.returns
-returns c = λ s read here.
-    found_alone _ _ _ c.args.path.now s (seen c.self.view_is c.self.invariant) read c.args.node here _
-    c.child_count.ensures (omega (arith, c.if-child_count-ne0.false)) c.args.further _
-    (c.saturating_sub-len.ensures ∙ ap (λ n. n - c.args.further) c.len.ensures.count) c.in_ok-first.first
-    (sym c.in_ok-first.ensures.found) _ c.node.ensures c.if-node-ne1.false
+pub returns-then-node-eq1 : goal.returns-then-node-eq1
+returns-then-node-eq1 c = λ s read.
+    found_alone _ _ _ c.args.path.now s (seen c.self.view_is c.self.invariant) read c.args.body c.loop-before.before
+    c.loop-before.invariant (omega (arith, c.loop-before-test.true, c.len-before-end.ensures.count)) c.in_ok-node.node
+    (sym c.in_ok-node.ensures.found) _ c.node.ensures c.if-node-eq1.true
+
+pub loop-before-preserved : goal.loop-before-preserved
+loop-before-preserved c = omega (arith, c.loop-before.invariant)
