@@ -139,6 +139,9 @@ pub mod ValueAdded
 pub mod OneInsert
 pub mod ExchangedEdits
 pub mod InsertLists
+pub mod KeyAdded
+pub mod KeyStays
+pub mod LineKeys
 pub mod OneLineMore
 pub mod OneLineLess
 pub mod DottedLine
@@ -251,3 +254,4 @@ pub mod MoreKeyRuns
 pub mod BroughtOverEnds
 pub mod EndOwnLines
 pub mod EndBelow
+pub mod RemoveUndoesInsert

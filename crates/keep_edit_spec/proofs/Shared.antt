@@ -105,8 +105,9 @@ pub use Rattle.keep_edit_spec.proofs.Lists.LineKinds.{as_kind, kind_is, line_kin
 pub use Rattle.keep_edit_spec.proofs.Lists.RunLists.{each_of_others, lines_apart, run_goes_on_again, run_is_known}
 pub use Rattle.keep_edit_spec.proofs.Lists.RenameLists.{run_goes_on_renamed}
 pub use Rattle.keep_edit_spec.proofs.Lists.ExchangedChanges.{starts_there}
-pub use Rattle.keep_edit_spec.proofs.Lists.ExchangedEdits.{each_more, lines_more}
+pub use Rattle.keep_edit_spec.proofs.Lists.ExchangedEdits.{each_line_more, each_more, lines_more}
 pub use Rattle.keep_edit_spec.proofs.Lists.InsertLists.{run_goes_on_inserted}
+pub use Rattle.keep_edit_spec.proofs.Lists.LineKeys.{run_goes_on_renamed_there}
 pub use Rattle.keep_edit_spec.proofs.Rename.KeyTexts.{one_key}
 pub use Rattle.keep_edit_spec.proofs.Lists.ItemRunLaws.{item_run_goes_on, none_is_item_run}
 pub use Rattle.keep_edit_spec.proofs.Lists.EntryEditRuns.{entry_lawful, run_goes_on_by_entry}
@@ -151,3 +152,4 @@ pub use Rattle.keep_edit_spec.proofs.Lists.NewlineStays.{FirstKnown, first_behin
 pub use Rattle.keep_edit_spec.proofs.Lists.NewlineStays.{newline_stays, plain_by, stays_first}
 pub use Rattle.keep_edit_spec.proofs.Lists.EndTexts.{IsLonger, end_editable, end_text, with_ends}
 pub use Rattle.keep_edit_spec.proofs.Lists.MoreKeyRuns.{run_goes_on_inside, run_is_open}
+pub use Rattle.keep_edit_spec.proofs.Lists.RemoveUndoesInsert.{remove_undoes_insert}

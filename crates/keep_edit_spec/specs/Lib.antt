@@ -35,6 +35,7 @@ pub mod RunLists
 pub mod EntryChanges
 pub mod RenameLists
 pub mod InsertLists
+pub mod LineKeys
 pub mod DottedLines
 pub mod BroughtHeaders
 pub mod InsertKinds
@@ -42,3 +43,4 @@ pub mod ElementRuns
 pub mod EndEdits
 pub mod FilledTables
 pub mod HeadersBelow
+pub mod UndoneInserts

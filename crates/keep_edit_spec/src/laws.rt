@@ -14,6 +14,7 @@ ghost use Rattle.keep_edit_spec.specs.HeadersBelow as below;
 ghost use Rattle.keep_edit_spec.specs.InsertLists as inserts;
 ghost use Rattle.keep_edit_spec.specs.KeyvalLines as keyvals;
 ghost use Rattle.keep_edit_spec.specs.Laws as spec;
+ghost use Rattle.keep_edit_spec.specs.LineKeys as line_keys;
 ghost use Rattle.keep_edit_spec.specs.LinesAhead as ahead;
 ghost use Rattle.keep_edit_spec.specs.LinesInPlace as in_place;
 ghost use Rattle.keep_edit_spec.specs.MoreKeys as more_keys;
@@ -25,6 +26,7 @@ ghost use Rattle.keep_edit_spec.specs.RunLists as lists;
 ghost use Rattle.keep_edit_spec.specs.Runs as runs;
 ghost use Rattle.keep_edit_spec.specs.SetValues as values;
 ghost use Rattle.keep_edit_spec.specs.TouchedLines as touched;
+ghost use Rattle.keep_edit_spec.specs.UndoneInserts as undone;
 
 /// A `set` that is not refused changes the document as it is stated: in its text, its tree and its size.
 pub fn set_is_lawful()
@@ -154,6 +156,12 @@ pub fn removes_take_lines()
     ensures { removed.StillRemovesLine }
 {}
 
+/// A `remove` of the line that an `insert` has just added, at the end of a body or to a table that dotted keys make, is
+/// not refused, and leaves the document as it was before both.
+pub fn remove_undoes_insert()
+    ensures { undone.RemoveUndoesInsert }
+{}
+
 /// A `set` makes the same change after another made its own elsewhere.
 pub fn sets_change_values()
     ensures { values.StillSetsValue }
@@ -194,13 +202,15 @@ pub fn runs_are_known()
 /// insert comes into a table whose header one of them brought, and adds its line alone behind that. If one of them
 /// sets a value, the run goes on by a set of that value, too: the later set takes the place of the earlier one. So it
 /// goes on where a key that one of them renames is renamed again, if the others leave the first key's rename alone; and
-/// where the value of a line that one of them adds is set: the line is added with the later value.
+/// where the value of a line that one of them adds is set: the line is added with the later value. And where the key of
+/// such a line is renamed, it is added with the later key.
 pub fn runs_go_on_again()
     ensures known { lists.RunIsKnown }
     ensures behind { lists.RunGoesOnBehind }
     ensures run { lists.RunGoesOnAgain }
     ensures renamed { renames.RunGoesOnRenamed }
     ensures inserted { inserts.RunGoesOnInserted }
+    ensures there { line_keys.RunGoesOnRenamedThere }
 {}
 
 /// Such a list goes on by an insert at the end of a body whose last line one of its edits takes, and by one into a

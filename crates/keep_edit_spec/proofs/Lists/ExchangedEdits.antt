@@ -1,13 +1,14 @@
--- Edits that are made at once, where an insert has another in its place, of another value at the same path: what is
--- asked of edits and of their changes.
+-- Edits that are made at once, where an insert has another in its place, of another value, or of another new key in the
+-- same table: what is asked of edits and of their changes.
 --
 -- Edits leave one another alone by their paths (`alone_more`, `left_more`). The changes are at one place and take
--- nothing, and the same lines are added (`lines_more`). So where each edit has its place it has it still
--- (`placed_more`), if the newlines that come are alike. What the insert leaves alone is apart from its first new key,
--- and so from the whole path, which begins with that (`whole_apart`, `passes_whole`); so a set of the value goes on
--- after it (`set_still`).
+-- nothing, and the two lines are of one kind and one table, so others come after either (`after_alike`). So where each
+-- edit has its place it has it still (`placed_more`), if the newlines that come are alike. What the insert leaves alone
+-- is apart from its first new key, and so from the whole path, which begins with that (`whole_apart`, `passes_whole`);
+-- so a set of the value goes on after it (`set_still`).
 --
--- Theorems: `each_more`, `changes_more`, `placed_more`, `alone_more`, `left_more`, `set_still`.
+-- Theorems: `each_more`, `changes_more`, `placed_more`, `first_placed`, `alone_more`, `left_more`, `set_still`;
+-- `lines_more`, `each_line_more`: the lines that are added; `whole_apart`, `passes_whole`.
 use Rattle.std.proofs.Common.{◌≡◌, ℕ, ◌+◌, ◌<◌, Bool, true, false, List, [], ◌∷◌, ◌++◌, length, map, suc, All, refl}
 use Rattle.std.proofs.Common.{sym, ap, subst, ◌∙◌, arith, None, ◌⊎◌, inl, inr}
 use Rattle.std.specs.Prelude.{IsTrue, nat_lt, ◌&&◌, ◌||◌, ◌==◌}
@@ -19,7 +20,8 @@ use Rattle.keep_syntax.specs.Tree.{Document, Value, text}
 use Rattle.keep_path.specs.Path.{Part, beside, key, strip}
 use Rattle.keep_edit_spec.specs.AddedLines.{first_new}
 use Rattle.keep_edit_spec.specs.FirstNewline.{LeavesNewline}
-use Rattle.keep_edit_spec.specs.InsertKinds.{Added, IsAfterLine, added_as, kind_of}
+use Rattle.keep_edit_spec.specs.DottedLines.{IsAtOrBelow}
+use Rattle.keep_edit_spec.specs.InsertKinds.{Added, IsAfterAs, IsAfterLine, added_as, kind_of, table_of}
 use Rattle.keep_edit_spec.specs.Edits.{Edit, append_element, append_table, edited_document, insert, remove, rename, set}
 use Rattle.keep_edit_spec.specs.Laws.{IsEditable}
 use Rattle.keep_edit_spec.specs.Look.{key_text, keys_in}
@@ -30,6 +32,8 @@ use Rattle.keep_edit_spec.specs.Runs.{IsNoSecond}
 use Rattle.keep_edit_spec.specs.Runs.{PassesBy, is_header, is_insert, is_new_after, seen, takes_up_to, with_line}
 use Rattle.keep_edit_spec.specs.SetValues.{SetsValue}
 use Rattle.keep_edit_spec.specs.TextChanges.{IsBeside, TextChange, change_at, moved}
+use Rattle.keep_edit_spec.specs.declared.line_kind.LineKind.{LineKind}
+use Rattle.keep_edit_spec.specs.declared.line_kind.LineKind.TheVariants.{LastInBody, OfDotted, WithHeader}
 use Rattle.keep_edit_spec.proofs.Insert.KeysAtEnd.{path_goes_on}
 use Rattle.keep_edit_spec.proofs.Lists.ApartPaths.{apart_renamed}
 use Rattle.keep_edit_spec.proofs.Lists.ExchangedChanges.{IsAmong, all_before, all_from, all_join}
@@ -64,7 +68,7 @@ left_more path value more (append_element keys) h = h
 -- ---- a set of the value of a line that was added
 
 -- A path apart from that of the first new key is apart from the whole path.
-whole_apart : (profile : Profile) (limit : ℕ) (s : Document) (path : List Part) (value : Value)
+pub whole_apart : (profile : Profile) (limit : ℕ) (s : Document) (path : List Part) (value : Value)
     → InsertsKeys profile limit s path value → (q : List Part) → AreApart (first_new s path) q → AreApart q path
 whole_apart profile limit s path value h q apart =
     let both : AreApart path q =
@@ -72,7 +76,7 @@ whole_apart profile limit s path value h q apart =
     (apart_under (first_new s path) (map key h.more) q apart) in
     (both.1, both.0)
 
-passes_whole : (profile : Profile) (limit : ℕ) (s : Document) (path : List Part) (value : Value)
+pub passes_whole : (profile : Profile) (limit : ℕ) (s : Document) (path : List Part) (value : Value)
     → InsertsKeys profile limit s path value → (keys : List (List ℕ)) → PassesBy keys (first_new s path)
     → PassesBy keys path
 passes_whole profile limit s path value h keys passes =
@@ -149,12 +153,13 @@ changes_more P c d xs ys k on h =
 -- ---- the places
 
 -- no edit is a header, or none of the changes takes the byte before a place: these are the same tests
-header_none : (s : Document) (path : List Part) (value more : Value) (c d : TextChange) (later earlier : List MadeEdit)
+header_none : (s : Document) (path other : List Part) (value more : Value) (c d : TextChange)
+    (later earlier : List MadeEdit)
     → list_any is_header (seen_of s (later ++ made (insert path value) c ∷ earlier))
-    ≡ list_any is_header (seen_of s (later ++ made (insert path more) d ∷ earlier))
-header_none s path value more c d [] earlier = refl
-header_none s path value more c d (x ∷ later) earlier =
-    ap (λ (b : Bool). is_header (seen s x.edit) || b) (header_none s path value more c d later earlier)
+    ≡ list_any is_header (seen_of s (later ++ made (insert other more) d ∷ earlier))
+header_none s path other value more c d [] earlier = refl
+header_none s path other value more c d (x ∷ later) earlier =
+    ap (λ (b : Bool). is_header (seen s x.edit) || b) (header_none s path other value more c d later earlier)
 
 -- the same lines are added
 pub lines_more : (s : Document) (path : List Part) (value more : Value) (c d : TextChange) → c.at ≡ d.at
@@ -164,6 +169,73 @@ lines_more s path value more c d at [] earlier =
     ap (λ (n : ℕ). record { first = first_new s path; at = n; kind = kind_of s path } ∷ lines_of s earlier) at
 lines_more s path value more c d at (x ∷ later) earlier =
     ap (with_line s x.edit x.change) (lines_more s path value more c d at later earlier)
+
+with_any : (s : Document) (P : Added → Type 0) (e : Edit) (z : TextChange) (were are : List Added)
+    → (All P were → All P are) → All P (with_line s e z were) → All P (with_line s e z are)
+with_any s P (insert q new) z were are rest k =
+    All-cons P (added_as s q z) are (All-head P (added_as s q z) were k) (rest (All-tail P (added_as s q z) were k))
+with_any s P (remove q) z were are rest k = rest k
+with_any s P (set q new) z were are rest k = rest k
+with_any s P (rename q name) z were are rest k = rest k
+with_any s P (append_table keys) z were are rest k = rest k
+with_any s P (append_element keys) z were are rest k = rest k
+
+-- what holds of each line that is added, where it holds of one as of the other
+pub each_line_more : (s : Document) (path other : List Part) (value more : Value) (c d : TextChange)
+    (P : Added → Type 0) → (P (added_as s path c) → P (added_as s other d)) → (later earlier : List MadeEdit)
+    → All P (lines_of s (later ++ made (insert path value) c ∷ earlier))
+    → All P (lines_of s (later ++ made (insert other more) d ∷ earlier))
+each_line_more s path other value more c d P on [] earlier h =
+    All-cons P (added_as s other d) (lines_of s earlier) (on (All-head P (added_as s path c) (lines_of s earlier) h))
+    (All-tail P (added_as s path c) (lines_of s earlier) h)
+each_line_more s path other value more c d P on (x ∷ later) earlier h =
+    with_any s P x.edit x.change (lines_of s (later ++ made (insert path value) c ∷ earlier))
+    (lines_of s (later ++ made (insert other more) d ∷ earlier))
+    (each_line_more s path other value more c d P on later earlier) h
+
+-- A line of the place, the kind and the table of another comes after the same lines, and these come after it.
+after_alike : (kind : LineKind) (l m line : Added) → l.at ≡ m.at → l.kind ≡ m.kind → table_of l ≡ table_of m
+    → IsAfterAs kind l line → IsAfterAs kind m line
+after_alike LastInBody l m line at kind table h = λ there is. h (at ∙ there) (kind ∙ is)
+after_alike OfDotted l m line at kind table h = λ there.
+    (let its = h (at ∙ there) in (
+      sym kind ∙ its.0,
+      subst (λ (q : List Part). IsAtOrBelow q (table_of line)) table its.1,
+    ))
+after_alike WithHeader l m line at kind table h = λ is.
+    (let its = h (kind ∙ is) in (λ same. its.0 (at ∙ same), λ same. its.1 (table ∙ same)))
+
+line_alike : (kind : LineKind) (l line m : Added) → line.at ≡ m.at → table_of line ≡ table_of m
+    → IsAfterAs kind l line → IsAfterAs kind l m
+line_alike LastInBody l line m at table h = λ there. h (there ∙ sym at)
+line_alike OfDotted l line m at table h = λ there.
+    (let its = h (there ∙ sym at) in (its.0, subst (λ (q : List Part). IsAtOrBelow (table_of l) q) table its.1))
+line_alike WithHeader l line m at table h = λ is.
+    (let its = h is in (λ same. its.0 (same ∙ sym at), λ same. its.1 (same ∙ sym table)))
+
+second_alike : (keys : List (List ℕ)) (l m : Added) → l.kind ≡ m.kind → table_of l ≡ table_of m
+    → IsNoSecond keys l → IsNoSecond keys m
+second_alike keys l m kind table h = λ is same. h (kind ∙ is) (same ∙ ap keys_in (sym table))
+
+passes_alike : (l m : Added) → l.kind ≡ m.kind → table_of l ≡ table_of m → (e : Edit) → LetsTable l e → LetsTable m e
+passes_alike l m kind table (append_table keys) h = λ is. subst (PassesBy keys) table (h (kind ∙ is))
+passes_alike l m kind table (append_element keys) h = λ is. subst (PassesBy keys) table (h (kind ∙ is))
+passes_alike l m kind table (insert q new) h = h
+passes_alike l m kind table (remove q) h = h
+passes_alike l m kind table (set q new) h = h
+passes_alike l m kind table (rename q name) h = h
+
+-- So it is in order where the other is.
+pub first_placed : (edits : List Edit) (changes : List TextChange) (lines : List Added) (l m : Added) → l.at ≡ m.at
+    → l.kind ≡ m.kind → table_of l ≡ table_of m → IsInOrder edits changes lines l → IsInOrder edits changes lines m
+first_placed edits changes lines l m at kind table h = record {
+  after =
+      All-weaker (λ x. IsAfterLine x l) (λ x. IsAfterLine x m)
+      (λ x its. line_alike m.kind x l m at table (subst (λ (k : LineKind). IsAfterAs k x l) kind its)) lines h.after;
+  stays = λ other.
+      subst (λ (n : ℕ). list_any (takes_up_to n) changes ≡ false) at (h.stays (λ is. other (sym kind ∙ is)));
+  passed = All-weaker (LetsTable l) (LetsTable m) (passes_alike l m kind table) edits h.passed;
+}
 
 any_more : (test : TextChange → Bool) (c d : TextChange) (before after : List TextChange) → test c ≡ test d
     → list_any test (before ++ c ∷ after) ≡ list_any test (before ++ d ∷ after)
@@ -213,12 +285,14 @@ module _ (c d : TextChange) (at : c.at ≡ d.at) (none : c.size ≡ 0) (no_size 
     leave_more : LeavesNewline s d → LeaveNewline s xs → LeaveNewline s ys
     leave_more new = changes_more (LeavesNewline s) c d xs ys k (λ one. new)
 
-    module _ (path : List Part) (value more : Value) (later earlier : List MadeEdit) where
+    -- two lines of one kind and one table
+    module _ (path other : List Part) (value more : Value) (kind : kind_of s path ≡ kind_of s other)
+        (table : table_of (added_as s path c) ≡ table_of (added_as s other d)) (later earlier : List MadeEdit) where
       abbrev ms : List MadeEdit
       ms = later ++ made (insert path value) c ∷ earlier
 
       abbrev others : List MadeEdit
-      others = later ++ made (insert path more) d ∷ earlier
+      others = later ++ made (insert other more) d ∷ earlier
 
       abbrev was : List Edit
       was = seen_of s ms
@@ -227,23 +301,30 @@ module _ (c d : TextChange) (at : c.at ≡ d.at) (none : c.size ≡ 0) (no_size 
       edits = seen_of s others
 
       headers_more : (to : ℕ) → IsBeforeHeaders bytes was to → IsBeforeHeaders bytes edits to
-      headers_more to (inl clear) = inl (sym (header_none s path value more c d later earlier) ∙ clear)
+      headers_more to (inl clear) = inl (sym (header_none s path other value more c d later earlier) ∙ clear)
       headers_more to (inr before) = inr before
 
       -- it leaves the first newline, or all edits add lines, and this one too
       abbrev pub AreAlike : Edit → Type 0
       AreAlike f = LeavesNewline s d ⊎ (IsTrue (is_insert (seen s f)) × All (λ e. IsTrue (is_insert e)) was)
 
-      all_more : (P : Edit → Type 0) → (P (seen s (insert path value)) → P (seen s (insert path more))) → All P was
+      all_more : (P : Edit → Type 0) → (P (seen s (insert path value)) → P (seen s (insert other more))) → All P was
           → All P edits
-      all_more P on = each_more s P (made (insert path value) c) (made (insert path more) d) later earlier on
+      all_more P on = each_more s P (made (insert path value) c) (made (insert other more) d) later earlier on
 
-      each_line : (P : Added → Type 0) → All P (lines_of s ms) → All P (lines_of s others)
-      each_line P = subst (All P) (lines_more s path value more c d at later earlier)
+      each_line : (P : Added → Type 0) → (P (added_as s path c) → P (added_as s other d)) → All P (lines_of s ms)
+          → All P (lines_of s others)
+      each_line P on = each_line_more s path other value more c d P on later earlier
+
+      seconds : (keys : List (List ℕ)) → All (IsNoSecond keys) (lines_of s ms)
+          → All (IsNoSecond keys) (lines_of s others)
+      seconds keys =
+          each_line (IsNoSecond keys) (second_alike keys (added_as s path c) (added_as s other d) kind table)
 
       order_more : (line : Added) → IsInOrder was xs (lines_of s ms) line → IsInOrder edits ys (lines_of s others) line
       order_more line order = record {
-        after = each_line (λ l. IsAfterLine l line) order.after;
+        after = each_line (λ l. IsAfterLine l line)
+            (after_alike line.kind (added_as s path c) (added_as s other d) line at kind table) order.after;
         stays = λ is. sym (takes_alike line.at) ∙ order.stays is;
         passed = all_more (LetsTable line) (λ one. one) order.passed;
       }
@@ -269,16 +350,16 @@ module _ (c d : TextChange) (at : c.at ≡ d.at) (none : c.size ≡ 0) (no_size 
 
       pub placed_more : (f : Edit) (x : TextChange) → AreAlike f → KeepsPlace s was xs (lines_of s ms) f x
           → KeepsPlace s edits ys (lines_of s others) f x
-      placed_more (insert other new) x alike (order, h) = (
-        order_more (added_as s other x) order,
+      placed_more (insert q new) x alike (order, h) = (
+        order_more (added_as s q x) order,
         placed_line x (elim alike [ inl plain ↦ inl plain | inr (line, all) ↦ inr all ]) h,
       )
       placed_more (append_table keys) x (inl plain) h =
-          (each_line (IsNoSecond keys) h.0, placed_header x plain h.1)
+          (seconds keys h.0, placed_header x plain h.1)
       placed_more (append_table keys) x (inr (own, all)) h = no_insert own
       placed_more (append_element keys) x (inl plain) h =
-          (each_line (IsNoSecond keys) h.0, placed_header x plain h.1)
+          (seconds keys h.0, placed_header x plain h.1)
       placed_more (append_element keys) x (inr (own, all)) h = no_insert own
-      placed_more (remove other) x alike h = tt
-      placed_more (set other new) x alike h = tt
-      placed_more (rename other name) x alike h = tt
+      placed_more (remove q) x alike h = tt
+      placed_more (set q new) x alike h = tt
+      placed_more (rename q name) x alike h = tt

@@ -8,7 +8,8 @@
 -- by its change, which no other edit makes (`found_there`, by OneInsert). Each edit makes its change of the first
 -- document, so none follows a header, and each has its place (`all_made`).
 --
--- Theorem: `run_goes_on_inserted`.
+-- Theorems: `run_goes_on_inserted`; `all_made`, `made_at_once`, `made_run`: edits that follow no header; `found_there`:
+-- the insert among them.
 use Rattle.std.proofs.Common.{◌≡◌, ◌≢◌, ℕ, ◌+◌, ◌≤◌, List, [], ◌∷◌, ◌++◌, length, take, All}
 use Rattle.std.proofs.Common.{refl, sym, ap, ap₂, subst, subst₂, ◌∙◌, arith, length-append, None, ◌⊎◌, inl, inr}
 use Rattle.std.specs.Prelude.{IsTrue, ⊤}
@@ -51,7 +52,7 @@ use Rattle.keep_edit_spec.specs.FirstNewline.{LeavesNewline}
 -- ---- edits that follow no header
 
 -- Each makes its change of the first document in its place.
-abbrev AreMade : Profile → ℕ → Document → List MadeEdit → Type 0
+abbrev pub AreMade : Profile → ℕ → Document → List MadeEdit → Type 0
 AreMade profile limit s [] = ⊤
 AreMade profile limit s (m ∷ ms) =
     MakesChange profile limit s m.edit m.change
@@ -60,7 +61,7 @@ AreMade profile limit s (m ∷ ms) =
     × (KeepsPlace s (seen_of s ms) (changes_of ms) (lines_of s ms) m.edit m.change
     × AreMade profile limit s ms)))
 
-all_made : (profile : Profile) (limit : ℕ) (s : Document) (ms : List MadeEdit) → AreAtOnce profile limit s ms
+pub all_made : (profile : Profile) (limit : ℕ) (s : Document) (ms : List MadeEdit) → AreAtOnce profile limit s ms
     → All (λ m. MakesChange profile limit s m.edit m.change) ms → AreMade profile limit s ms
 all_made profile limit s [] h make = tt
 all_made profile limit s (m ∷ ms) (in_place, (alone, (beside, others))) make =
@@ -82,13 +83,13 @@ all_made profile limit s (m ∷ ms) (in_place, (alone, (beside, others))) make =
       ),
     )
 
-made_at_once : (profile : Profile) (limit : ℕ) (s : Document) (ms : List MadeEdit) → AreMade profile limit s ms
+pub made_at_once : (profile : Profile) (limit : ℕ) (s : Document) (ms : List MadeEdit) → AreMade profile limit s ms
     → AreAtOnce profile limit s ms
 made_at_once profile limit s [] h = tt
 made_at_once profile limit s (m ∷ ms) (makes, (alone, (beside, (placed, others)))) =
     (inl (makes, placed), (alone, (beside, made_at_once profile limit s ms others)))
 
-made_run : (profile : Profile) (limit : ℕ) (s : Document) (ms : List MadeEdit) → IsEditable profile limit s
+pub made_run : (profile : Profile) (limit : ℕ) (s : Document) (ms : List MadeEdit) → IsEditable profile limit s
     → AreMade profile limit s ms
     → IsRun profile limit s (seen_of s ms) (changes_of ms) (lines_of s ms) (document_after s ms)
 made_run profile limit s ms fine h = run_is_known profile limit s ms fine (made_at_once profile limit s ms h)
@@ -96,7 +97,7 @@ made_run profile limit s ms fine h = run_is_known profile limit s ms fine (made_
 -- ---- the insert and another value
 
 -- what holds of all holds of the one
-of_one : (s : Document) (P : Edit → Type 0) (m : MadeEdit) (later earlier : List MadeEdit)
+pub of_one : (s : Document) (P : Edit → Type 0) (m : MadeEdit) (later earlier : List MadeEdit)
     → All P (seen_of s (later ++ m ∷ earlier)) → P (seen s m.edit)
 of_one s P m [] earlier h = All-head P (seen s m.edit) (seen_of s earlier) h
 of_one s P m (x ∷ later) earlier h =
@@ -260,8 +261,8 @@ module _ (profile : Profile) (limit : ℕ) (s : Document) (path : List Part) (va
             changes_more (λ y. IsBeside y x.change) c d (changes_of ms) (changes_of (later ++ by ∷ earlier)) among
                 (beside_more c d at none no_size x.change) beside,
             (
-              placed_more c d at none no_size s (changes_of ms) (changes_of (later ++ by ∷ earlier)) among path value
-                  more later earlier x.edit x.change (alike plain) placed,
+              placed_more c d at none no_size s (changes_of ms) (changes_of (later ++ by ∷ earlier)) among path path
+                  value more refl refl later earlier x.edit x.change (alike plain) placed,
               at_once later earlier (fewer plain) others,
             ),
           ),
@@ -343,13 +344,13 @@ module _ (profile : Profile) (limit : ℕ) (s : Document) (path : List Part) (va
 -- ---- the insert among the edits
 
 -- The edits with the one, which is an insert of the path, and the others with another in its place.
-record IsFound (path : List Part) (more : Value) (ms : List MadeEdit) (before : List TextChange) (c d : TextChange)
+pub record IsFound (path : List Part) (more : Value) (ms : List MadeEdit) (before : List TextChange) (c d : TextChange)
     (after : List TextChange) : Type 0 where
-  value : Value
-  later : List MadeEdit
-  earlier : List MadeEdit
-  all : ms ≡ later ++ made (insert path value) c ∷ earlier
-  changes : changes_of (later ++ made (insert path more) d ∷ earlier) ≡ before ++ d ∷ after
+  pub value : Value
+  pub later : List MadeEdit
+  pub earlier : List MadeEdit
+  pub all : ms ≡ later ++ made (insert path value) c ∷ earlier
+  pub changes : changes_of (later ++ made (insert path more) d ∷ earlier) ≡ before ++ d ∷ after
 
 module _ (profile : Profile) (limit : ℕ) (s : Document) (path : List Part) (value : Value) (c : TextChange)
     (more : Value) (d : TextChange) (fine : IsEditable profile limit s)
@@ -371,7 +372,7 @@ module _ (profile : Profile) (limit : ℕ) (s : Document) (path : List Part) (va
       by (inl (w, is)) apart = λ e.
           subst (λ (f : Edit). LeavesAlone (seen s f) (seen s (insert path new))) is apart refl
 
-  found_there : (ms : List MadeEdit) (before after : List TextChange) → AreMade profile limit s ms
+  pub found_there : (ms : List MadeEdit) (before after : List TextChange) → AreMade profile limit s ms
       → changes_of ms ≡ before ++ c ∷ after → IsFound path more ms before c d after
   found_there [] before after all is = absurd (no_more before is)
     where

@@ -233,7 +233,7 @@ line_under r l e = by l.content e
     by (header x k y) e = absurd cc
     by (element x k y) e = absurd cc
 
-none_counted : (q : List Part) (ms : List Mention) → (SomeOf (IsSolidAt q) ms → ⊥) → mark_count q ms ≡ 0
+pub none_counted : (q : List Part) (ms : List Mention) → (SomeOf (IsSolidAt q) ms → ⊥) → mark_count q ms ≡ 0
 none_counted q ms none = by (mark_count q ms) refl
   where
     by : (m : ℕ) → mark_count q ms ≡ m → m ≡ 0

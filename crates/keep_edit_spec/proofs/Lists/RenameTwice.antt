@@ -60,11 +60,11 @@ beside_twice : (path : List Part) (text more : List ℕ) (old : List Part) (k : 
 beside_twice path text more old k is =
     ap (λ (q : List Part). q ++ key more ∷ []) (without_last-snoc (without_last path) (key text))
 
-ends_in_key : (q : List Part) (k : List ℕ) → ends_in_index (q ++ key k ∷ []) ≡ false
+pub ends_in_key : (q : List Part) (k : List ℕ) → ends_in_index (q ++ key k ∷ []) ≡ false
 ends_in_key q k =
     ap (λ (o : Option Part). elim o [ None ↦ false | Some part ↦ is_index part ]) (last_part-snoc q (key k))
 
-root_pushed : (q : List Part) (x : Part) → is_root (q ++ x ∷ []) ≡ false
+pub root_pushed : (q : List Part) (x : Part) → is_root (q ++ x ∷ []) ≡ false
 root_pushed [] x = refl
 root_pushed (p ∷ q) x = refl
 

@@ -91,7 +91,7 @@ module _ (f : Reading → Line → Option (Changed Line)) (last : Line) where
   with_first e b = record { ended = e ∷ b.ended; last = b.last }
 
   -- in the first line
-  first_there : (x : Ended) (d : Changed Line) (r : Reading) (es : List Ended) → f r x.line ≡ Some d
+  pub first_there : (x : Ended) (d : Changed Line) (r : Reading) (es : List Ended) → f r x.line ≡ Some d
       → IsThere (in_lines f r (x ∷ es) last) d.before d.old d.new
   first_there x d r es found = record {
     next = framed_change (with_line x es) [] (after_text x es) d;
@@ -117,7 +117,7 @@ module _ (f : Reading → Line → Option (Changed Line)) (last : Line) where
   }
 
   -- after the first of the lines in which nothing was found, where other lines come after these
-  lines_there : (r : Reading) (n : ℕ) (es to : List Ended) (before old new : List ℕ) → n ≤ length es
+  pub lines_there : (r : Reading) (n : ℕ) (es to : List Ended) (before old new : List ℕ) → n ≤ length es
       → in_lines f r es last ≡ None
       → IsThere (in_lines f (reading_after_lines r (map line_of (take n es))) to last) before old new
       → IsThere (in_lines f r (take n es ++ to) last) (ended_text (take n es) ++ before) old new

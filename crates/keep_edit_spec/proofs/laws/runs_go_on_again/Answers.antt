@@ -1,5 +1,6 @@
 use Rattle.keep_edit_spec.proofs.Lists.BehindHeaders.{run_goes_on_behind}
 use Rattle.keep_edit_spec.proofs.Lists.InsertLists.{run_goes_on_inserted}
+use Rattle.keep_edit_spec.proofs.Lists.LineKeys.{run_goes_on_renamed_there}
 use Rattle.keep_edit_spec.proofs.Lists.RenameLists.{run_goes_on_renamed}
 use Rattle.keep_edit_spec.proofs.Lists.RunLists.{run_goes_on_again, run_is_known}
 use Rattle.keep_edit_spec.proofs.laws.runs_go_on_again.Goals as goal
@@ -18,3 +19,6 @@ returns-clause-renamed c = run_goes_on_renamed
 
 pub returns-clause-inserted : goal.returns-clause-inserted
 returns-clause-inserted c = run_goes_on_inserted
+
+pub returns-clause-there : goal.returns-clause-there
+returns-clause-there c = run_goes_on_renamed_there
