@@ -38,10 +38,11 @@ def line_of(random, depth):
 
 
 def dotted_of(random):
-    """Lines with scalars that make one table of dotted keys, perhaps with another one in it."""
+    """Lines that make one table of dotted keys, perhaps with another one in it."""
     table = b"of-" + random.choice(KEYS)
     keys = random.sample(KEYS, k=random.randrange(2, 5))
-    return b"".join(b".".join((table, *random.choices((b"in", key), k=random.choice((0, 0, 1))), key)) + b" = 1\n" for key in keys)
+    lines = [(b".".join((table, *random.choices((b"in", key), k=random.choice((0, 0, 1))), key)), random.choice(VALUES)) for key in keys]
+    return b"".join(b"%s = %s\n" % it for it in lines)
 
 
 def section_of(random, number):
@@ -76,6 +77,10 @@ def edit_of(random, entries, size):
     if name == "set":
         return b"set", path, random.choice(VALUES)
     if name == "insert":
+        # A third of them are into tables that dotted keys make, as long as there are any.
+        tables = [it for it, kind in entries if kind == b"table" and b"of-" in it]
+        if tables and random.random() < 0.3:
+            path, kind, prefix = (table := random.choice(tables)), b"table", table + b"."
         keys = [fresh, *random.choices(KEYS, k=random.choice((0, 0, 0, 1, 2)))]
         at = b"%s[%d]" % (path, random.randrange(3)) if kind == b"array" else prefix + b".".join(keys)
         return b"insert", at, random.choice(VALUES)

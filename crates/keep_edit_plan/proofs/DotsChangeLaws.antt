@@ -21,7 +21,7 @@ use Rattle.keep_types.specs.declared.node.NodeInfo.{NodeInfo}
 use Rattle.keep_types.specs.declared.node.Origin.TheVariants as origin
 use Rattle.keep_syntax.specs.declared.syntax.Syntax.{Syntax}
 use Rattle.keep_syntax.specs.Numbered as numbered
-use Rattle.keep_syntax.specs.Tree.{Value, Document, value_depth}
+use Rattle.keep_syntax.specs.Tree.{Value, Document, none, value_depth}
 use Rattle.keep_path.specs.Dots.{after_parts, totals_after_parts, with_dots, with_keys, with_parts_from}
 use Rattle.keep_path.specs.KeysAlone.{paths_below}
 use Rattle.keep_path.specs.NodeInfos as node_infos
@@ -229,18 +229,20 @@ module _ (d : ProfiledText) (syntax : Syntax) (index : NodeInfos) (given : Bor (
 
       -- ---- the line
 
-      added : HasDotsAt s new path (body_fact v.body) (length a - length body) (take (suc placed.last) (lines s))
+      added : HasDotsAt s new path v (length a - length body) (take (suc placed.last) (lines s))
       added =
           insert_adds_dots d.profile limit s path keys.first keys.more v placed.last (keys_utf8 path utf8) there.0
           keys.whole placed.bare placed.found
-          (no_entries v.body v.nested value.reads.valid.nested (omega (arith, flat)))
 
       abbrev line : HasDotsMore s new
       line = added.line
 
       passing : PassesTo s new body a keys.first keys.more line
       passing =
-          passed_to_holder s new path keys.first keys.more (body_fact v.body) placed.last keys.whole placed.found added
+          passed_to_holder s new path keys.first keys.more v placed.last keys.whole placed.found added
+
+      empty : line.nested ≡ none
+      empty = added.holds ∙ no_entries v.body v.nested value.reads.valid.nested (omega (arith, flat))
 
       abbrev its_body : List Part
       its_body = (reading_after start line.before).body
@@ -299,7 +301,7 @@ module _ (d : ProfiledText) (syntax : Syntax) (index : NodeInfos) (given : Bor (
           let p : List Part = new_key_path line.before line.passed line.first in
           let k : Kind = fact_kind line.fact in
           let bare : Totals = totals_of s in
-          dots_add_nodes s new line tables.ids dotted added.unsaid
+          dots_add_nodes s new line tables.ids dotted added.unsaid empty
           ∙ ap (λ (n : ℕ). told n own m p line.further k bare) at
           ∙ ap (λ (o : node_infos.LineNumbers). told place o m p line.further k bare) numbers_are
           ∙ ap (λ (c : ℕ). told place (numbers_of numbers) c p line.further k bare) so_many

@@ -1,5 +1,5 @@
--- A remove of a keyval's line whose keys pass tables of dotted keys, with nothing in its value, takes from the index
--- the node of the first key that is not passed, and all below it, and the tables have one keyval less.
+-- A remove of a keyval's line whose keys pass tables of dotted keys takes from the index the node of the first key that
+-- is not passed, and all below it, and the tables have one keyval less.
 --
 -- The law of the edit says that the old document has one line more than the new one, after the statements that are
 -- counted for its numbers. Some path one step below the last of the tables is named before the line (`named_before`),
@@ -40,10 +40,10 @@ use Rattle.keep_meaning.specs.DotsLess.{DotsTakeNodes, without_dots}
 use Rattle.keep_meaning.specs.DotsMore.{AreDotted, HasDotsMore, new_path, passed_paths}
 use Rattle.keep_meaning.specs.LinesMore.{nodes_after, numbers_after}
 use Rattle.keep_meaning.specs.Marks.{Mention, Statement, marks, mentions, reading_after, start}
-use Rattle.keep_meaning.specs.Meaning.{body_fact, further_value, keys_of, line_of, lines_mentions, mentions_in}
+use Rattle.keep_meaning.specs.Meaning.{further_value, keys_of, line_of, lines_mentions, mentions_in}
 use Rattle.keep_meaning.specs.Meaning.{reading_after_lines}
 use Rattle.keep_meaning.specs.Nodes.{children, first_number, is_at, is_child, is_dotted, key_number, mark_count}
-use Rattle.keep_meaning.specs.Nodes.{mention_of, node_number, node_paths, numbered_at, value_number}
+use Rattle.keep_meaning.specs.Nodes.{mention_of, node_number, numbered_at, value_number}
 use Rattle.keep_meaning.specs.OtherValues.{totals_of}
 use Rattle.keep_meaning.specs.Rules.{ObeysRules}
 use Rattle.keep_meaning.proofs.CountLemmas.{mentions-numbered_from}
@@ -201,7 +201,7 @@ module _ (takes : RemoveTakesDots) (take_nodes : DotsTakeNodes) (leave_nested : 
     (allowed : refusal d.profile limit s (remove path) ≡ None) (number : ℕ)
     (found : value_number_of path s ≡ Some number) (info : ValueInfo)
     (stored : slice_get (values_of syntax) number ≡ Some info) (line : ℕ)
-    (owned : info.owner ≡ owner.Line line) (childless : children path (node_paths (mentions_in s)) ≡ []) (low : ℕ)
+    (owned : info.owner ≡ owner.Line line) (low : ℕ)
     (at_body : low ≡ length path - info.keys) (first : FirstAlone) (alone : IsFirstAlone path s low first)
     (dotted_before : IsDottedBefore (take first.before path) s info.first_key) (old : shift.Totals)
     (many : totals_in old ≡ totals_of s) where
@@ -244,7 +244,7 @@ module _ (takes : RemoveTakesDots) (take_nodes : DotsTakeNodes) (leave_nested : 
       × (of.found.own.keys ≡ length (l.passed ++ l.first ∷ l.further))
   cut =
       dots_line_of_value path s of.pre of.rest of.was of.found count
-      (omega (arith, keys_are, size, at_body, alone.low, alone.within)) childless
+      (omega (arith, keys_are, size, at_body, alone.low, alone.within))
 
   abbrev its : IsDotsLineOf s path (map line_of of.pre) held
   its = cut.0
@@ -281,7 +281,7 @@ module _ (takes : RemoveTakesDots) (take_nodes : DotsTakeNodes) (leave_nested : 
   once : mark_count (first_path (map line_of of.pre) its.passed its.first) (mentions_in s) ≡ 1
   once = ap (λ (p : List Part). mark_count p (mentions_in s)) (sym front_is) ∙ alone.once
 
-  taken : HasDotsAt new s path (body_fact held.body) (length its.passed) (map line_of of.pre)
+  taken : HasDotsAt new s path held (length its.passed) (map line_of of.pre)
   taken = takes s path (map line_of of.pre) held read.obeys its once
 
   abbrev its_line : HasDotsMore new s
@@ -377,19 +377,18 @@ module _ (takes : RemoveTakesDots) (take_nodes : DotsTakeNodes) (leave_nested : 
 -- as the code tells of the line
 pub dots_gone : RemoveTakesDots → DotsTakeNodes → DotsLeaveNested → (d : ProfiledText) (syntax : Syntax)
     (index : NodeInfos) (path : List Part) (s : Document) (holds : Holds d syntax index) (read : IsTextOfTree d s)
-    (id : NodeId) (line : LineNumbers) (keys : ℕ) → IsKeysRemoval d.profile path s id line keys
-    → children path (node_paths (mentions_in s)) ≡ [] → (low : ℕ) → low ≡ length path - keys
+    (line : LineNumbers) (keys : ℕ) → IsKeysRemoval d.profile path s line keys → (low : ℕ) → low ≡ length path - keys
     → (first : FirstAlone) → IsFirstAlone path s low first
     → IsDottedBefore (take first.before path) s line.key → (old : shift.Totals) → totals_in old ≡ totals_of s
     → IsIndexChange s (edited_document s (remove path))
     (change.RemovedKeys first.node (first.before - low) line old)
-dots_gone takes take_nodes leave_nested d syntax index path s holds read id line keys r childless low at_body first
-    alone dotted_before old many =
+dots_gone takes take_nodes leave_nested d syntax index path s holds read line keys r low at_body first alone
+    dotted_before old many =
     subst (λ (l : LineNumbers).
     IsIndexChange s (edited_document s (remove path))
-    (change.RemovedKeys first.node (first.before - low) l old)) (its_numbers d syntax index path s holds read id line
-    keys r)
-    (dots_removed takes take_nodes leave_nested d syntax index path s holds read id r.number r.allowed line.value
-    r.value r.info (its_value d syntax index path s holds read id line keys r) line.statement r.owned childless low
+    (change.RemovedKeys first.node (first.before - low) l old)) (its_numbers d syntax index path s holds read line keys
+    r)
+    (dots_removed takes take_nodes leave_nested d syntax index path s holds read r.node r.number r.allowed line.value
+    r.value r.info (its_value d syntax index path s holds read line keys r) line.statement r.owned low
     (at_body ∙ ap (λ (n : ℕ). length path - n) (sym r.many)) first alone
     (subst (IsDottedBefore (take first.before path) s) (sym r.first) dotted_before) old many)

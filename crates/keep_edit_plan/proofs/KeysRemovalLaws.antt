@@ -202,7 +202,7 @@ module _ (takes : RemoveTakesKeys) (take_nodes : KeysTakeNodes) (leave_nested : 
             (removal.nested d syntax index path s holds read id its_number allowed number found info stored line owned);
       }
 
--- ---- as the code tells of the line
+-- ---- which line it is
 
 module _ (d : ProfiledText) (syntax : Syntax) (index : NodeInfos) (path : List Part) (s : Document)
     (holds : Holds d syntax index) (read : IsTextOfTree d s) (id : NodeId) where
@@ -210,8 +210,9 @@ module _ (d : ProfiledText) (syntax : Syntax) (index : NodeInfos) (path : List P
       → value_number_of path s ≡ Some number → (info : ValueInfo)
       → slice_get (values_of syntax) number ≡ Some info → (line : ℕ) → info.owner ≡ owner.Line line
       → (info.keys ≡ 1 → ⊥)
-      → IsKeysRemoval d.profile path s id (record { statement = line; value = number; key = info.first_key }) info.keys
+      → IsKeysRemoval d.profile path s (record { statement = line; value = number; key = info.first_key }) info.keys
   keys_removal here allowed number found info stored line owned several = record {
+    node = id;
     allowed = allowed;
     number = here;
     value = found;
@@ -225,22 +226,25 @@ module _ (d : ProfiledText) (syntax : Syntax) (index : NodeInfos) (path : List P
     several = several;
   }
 
-  module _ (line : LineNumbers) (keys : ℕ) (r : IsKeysRemoval d.profile path s id line keys) where
-    pub its_value : slice_get (values_of syntax) line.value ≡ Some r.info
-    its_value =
-        ap (λ (vs : List ValueInfo). slice_get vs line.value)
-        (values_are d syntax index path s line.value holds read r.value) ∙ r.stored
+-- as the code tells of the line
+module _ (d : ProfiledText) (syntax : Syntax) (index : NodeInfos) (path : List Part) (s : Document)
+    (holds : Holds d syntax index) (read : IsTextOfTree d s) (line : LineNumbers) (keys : ℕ)
+    (r : IsKeysRemoval d.profile path s line keys) where
+  pub its_value : slice_get (values_of syntax) line.value ≡ Some r.info
+  its_value =
+      ap (λ (vs : List ValueInfo). slice_get vs line.value)
+      (values_are d syntax index path s line.value holds read r.value) ∙ r.stored
 
-    pub its_numbers : record line { key = r.info.first_key } ≡ line
-    its_numbers = ap (λ (k : ℕ). record line { key = k }) r.first
+  pub its_numbers : record line { key = r.info.first_key } ≡ line
+  its_numbers = ap (λ (k : ℕ). record line { key = k }) r.first
 
-    pub keys_gone : RemoveTakesKeys → KeysTakeNodes → KeysLeaveNested
-        → (low : ℕ) → low ≡ length path - keys → (first : FirstAlone) → IsFirstAlone path s low first
-        → first.before ≡ low → (old : shift.Totals) → totals_in old ≡ totals_of s
-        → IsIndexChange s (edited_document s (remove path)) (change.RemovedValue first.node line old)
-    keys_gone takes take_nodes leave_nested low at_body first alone none_passed old many =
-        subst (λ (l : LineNumbers).
-        IsIndexChange s (edited_document s (remove path)) (change.RemovedValue first.node l old)) its_numbers
-        (keys_removed takes take_nodes leave_nested d syntax index path s holds read id r.number r.allowed line.value
-        r.value r.info its_value line.statement r.owned (λ one. r.several (sym r.many ∙ one)) low
-        (at_body ∙ ap (λ (n : ℕ). length path - n) (sym r.many)) first alone none_passed old many)
+  pub keys_gone : RemoveTakesKeys → KeysTakeNodes → KeysLeaveNested
+      → (low : ℕ) → low ≡ length path - keys → (first : FirstAlone) → IsFirstAlone path s low first
+      → first.before ≡ low → (old : shift.Totals) → totals_in old ≡ totals_of s
+      → IsIndexChange s (edited_document s (remove path)) (change.RemovedValue first.node line old)
+  keys_gone takes take_nodes leave_nested low at_body first alone none_passed old many =
+      subst (λ (l : LineNumbers).
+      IsIndexChange s (edited_document s (remove path)) (change.RemovedValue first.node l old)) its_numbers
+      (keys_removed takes take_nodes leave_nested d syntax index path s holds read r.node r.number r.allowed line.value
+      r.value r.info its_value line.statement r.owned (λ one. r.several (sym r.many ∙ one)) low
+      (at_body ∙ ap (λ (n : ℕ). length path - n) (sym r.many)) first alone none_passed old many)

@@ -81,19 +81,20 @@ pub record IsDottedBefore (table : List Part) (s : Document) (key : ℕ) : Type 
   pub before : first < key
   pub origin : is_keyval_origin (origin_of (table ++ last ∷ []) s) ≡ true
 
--- The path of this node has a value on a line with these numbers, and its key has so many parts, several; a remove of
--- it is not refused.
-pub record IsKeysRemoval (profile : Profile) (path : List Part) (s : Document) (node : NodeId) (line : LineNumbers)
-    (keys : ℕ) : Type 0 where
-  pub allowed : refusal profile limit s (remove path) ≡ None
-  pub number : IsNodeOf path s node
-  pub value : value_number_of path s ≡ Some line.value
-  pub info : ValueInfo
-  pub stored : slice_get (numbered.values s) line.value ≡ Some info
-  pub owned : info.owner ≡ owner.Line line.statement
-  pub first : info.first_key ≡ line.key
-  pub many : info.keys ≡ keys
-  pub several : keys ≡ 1 → ⊥
+-- The path has a node and a value on a line with these numbers, and its key has so many parts, several; a remove of it
+-- is not refused.
+pub record IsKeysRemoval (profile : Profile) (path : List Part) (s : Document) (line : LineNumbers) (keys : ℕ) : Type 0
+  where
+    pub node : NodeId
+    pub allowed : refusal profile limit s (remove path) ≡ None
+    pub number : IsNodeOf path s node
+    pub value : value_number_of path s ≡ Some line.value
+    pub info : ValueInfo
+    pub stored : slice_get (numbered.values s) line.value ≡ Some info
+    pub owned : info.owner ≡ owner.Line line.statement
+    pub first : info.first_key ≡ line.key
+    pub many : info.keys ≡ keys
+    pub several : keys ≡ 1 → ⊥
 
 -- ---- where the text is cut
 

@@ -154,18 +154,19 @@ RemoveTakesKeys =
 -- ---- the same of a line whose key goes on from tables of dotted keys
 
 -- The second document has one line more, after these lines: by keys of which so many are passed it gives this path this
--- fact, and the first of the others has an unsaid path in the first document.
-pub record HasDotsAt (d more : Document) (path : List Part) (fact : Fact) (passed : ℕ) (before : List Line) : Type 0
+-- value, and the first of the others has an unsaid path in the first document.
+pub record HasDotsAt (d more : Document) (path : List Part) (value : Value) (passed : ℕ) (before : List Line) : Type 0
   where
     pub line : HasDotsMore d more
     pub after : line.before ≡ filter_map line_statement before
     pub place : new_path line.before line.passed line.first ++ map key line.further ≡ path
     pub count : length line.passed ≡ passed
-    pub gives : line.fact ≡ fact
+    pub gives : line.fact ≡ body_fact value.body
+    pub holds : line.nested ≡ value.nested
     pub unsaid : IsUnsaid d (new_path line.before line.passed line.first)
 
--- After these lines is a keyval with this path, of whose keys so many are passed and the others are these, with nothing
--- in its value.
+-- After these lines is a keyval with this path and this value, of whose keys so many are passed and the others are
+-- these.
 pub record IsDotsLineOf (s : Document) (path : List Part) (before : List Line) (value : Value) : Type 0 where
   pub line : Line
   pub after : List Line
@@ -177,7 +178,6 @@ pub record IsDotsLineOf (s : Document) (path : List Part) (before : List Line) (
   pub content : line.content ≡ keyval name value
   pub place : (reading_after_lines start before).body ++ step 0 (Some name) ≡ path
   pub parts : keys_of name.key ≡ passed ++ first ∷ further
-  pub empty : value.nested ≡ none
 
 -- the path of the first of its keys that is not passed
 abbrev pub first_path : List Line → List (List ℕ) → List ℕ → List Part
@@ -191,8 +191,8 @@ InsertAddsDots =
     → AllByRecursion IsUtf8 (keys_in path) → refusal profile limit s (insert path value) ≡ None
     → path ≡ holder path (mentions_in s) ++ map key (first ∷ further)
     → end_of s (holder path (mentions_in s)) ≡ None
-    → last_line (leads_dotted (holder path (mentions_in s))) start (lines s) ≡ Some i → value.nested ≡ none
-    → HasDotsAt s (edited_document s (insert path value)) path (body_fact value.body)
+    → last_line (leads_dotted (holder path (mentions_in s))) start (lines s) ≡ Some i
+    → HasDotsAt s (edited_document s (insert path value)) path value
     (length (holder path (mentions_in s)) - length (reading_at i (lines s)).body) (take (suc i) (lines s))
 
 -- A remove of such a line takes it, or what it says, where no other key part names the path of the first key that is
@@ -202,4 +202,4 @@ RemoveTakesDots =
     (s : Document) (path : List Part) (before : List Line) (value : Value) → ObeysRules (marks (mentions_in s))
     → (line : IsDotsLineOf s path before value)
     → mark_count (first_path before line.passed line.first) (mentions_in s) ≡ 1
-    → HasDotsAt (edited_document s (remove path)) s path (body_fact value.body) (length line.passed) before
+    → HasDotsAt (edited_document s (remove path)) s path value (length line.passed) before

@@ -106,17 +106,16 @@ pub fn remove_takes_keys()
     ensures { keyvals.RemoveTakesKeys }
 {}
 
-/// An `insert` of one new key or of several, with nothing inside its value, into a table that dotted keys make gives a
-/// document with one line more, after the last one that leads through that table. The keys of the line first pass the
-/// tables from the line's body to that one; then come the new ones. The old document says nothing of the first new
-/// key's path, or of a path below it.
+/// An `insert` of one new key or of several into a table that dotted keys make gives a document with one line more,
+/// after the last one that leads through that table. The keys of the line first pass the tables from the line's body to
+/// that one; then come the new ones. The old document says nothing of the first new key's path, or of a path below it.
 pub fn insert_adds_dots()
     ensures { keyvals.InsertAddsDots }
 {}
 
-/// A `remove` of a line with a keyval, with nothing inside its value, gives a document of which the old one has one
-/// line more, and which says nothing of the path of one of its keys, if the old one obeys the rules and no other key
-/// part in it names that path. The keys before that one are those that the line passes.
+/// A `remove` of a line with a keyval gives a document of which the old one has one line more, and which says nothing
+/// of the path of one of its keys, if the old one obeys the rules and no other key part in it names that path. The keys
+/// before that one are those that the line passes.
 pub fn remove_takes_dots()
     ensures { keyvals.RemoveTakesDots }
 {}

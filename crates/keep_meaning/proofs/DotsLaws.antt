@@ -1,15 +1,17 @@
 -- A line more whose key goes on from tables of dotted keys: what it says (`dots_numbered`), and which nodes there are
--- without what its passed keys say (`dots_nodes`).
+-- without what its passed keys say (`dots_given`).
 --
 -- The line says one mention of each passed key, and then what a line of its new keys says, where so many key parts come
 -- before it. So without those mentions the document says what a line of new keys adds to one in which the numbers of
 -- key parts from the line on are greater by so many (`parts_nodes`).
 --
--- Theorems: `dots_numbered`, `dots_nodes`; `dots_taken`: the nodes without those of the new keys; `dots_are_found`.
+-- Theorems: `dots_numbered`, `dots_given`; `dots_nodes`: with nothing in the value; `dots_taken`: the nodes without
+-- those of the new keys; `dots_are_found`.
 use Rattle.std.proofs.Common.{◌≡◌, ℕ, suc, ◌+◌, ◌-◌, ◌≤◌, false, List, [], ◌∷◌, ◌++◌, length, map, refl, sym, ap}
 use Rattle.std.proofs.Common.{ap₂, ◌∙◌, arith, append_assoc, length-append}
 use Rattle.std.proofs.lemmas.List.Sums.{fold-append}
-use Rattle.keep_syntax.specs.Tree.{Document}
+use Rattle.keep_syntax.specs.Numbered.{part_count, value_count}
+use Rattle.keep_syntax.specs.Tree.{Document, Entries, none}
 use Rattle.keep_path.specs.Dots.{after_parts, totals_after_parts, with_keys as with_key_nodes, with_parts_from}
 use Rattle.keep_path.specs.NodeInfos.{NodeInfos}
 use Rattle.keep_path.specs.NodesBelow.{Totals, shifted}
@@ -22,40 +24,41 @@ use Rattle.keep_meaning.specs.KeysMore.{IsUnsaid}
 use Rattle.keep_meaning.specs.LinesMore.{node_infos, nodes_after, numbers_after}
 use Rattle.keep_meaning.specs.Marks.{Mention, Reading, below, dotted, keyval, reading_after, start}
 use Rattle.keep_meaning.specs.Marks.{value as mentions_value}
-use Rattle.keep_meaning.specs.Meaning.{keyed_mentions}
+use Rattle.keep_meaning.specs.Meaning.{entries_mentions, keyed_mentions, valued_mentions}
 use Rattle.keep_meaning.specs.Nodes.{fact_kind, is_node, mention_of, node_paths}
 use Rattle.keep_meaning.specs.OtherValues.{IsSaidBefore, totals_of}
 use Rattle.keep_meaning.proofs.CountLemmas.{numbered_mentions-append}
 pub use Rattle.keep_meaning.proofs.DotMentionLemmas.{dot_mentions, parts_later}
 use Rattle.keep_meaning.proofs.DotMentionLemmas.{count_dots, passed_first}
-use Rattle.keep_meaning.proofs.KeyChainLemmas.{below_below}
-use Rattle.keep_meaning.proofs.KeyRunLaws.{key_added, keys_added, with_keys}
-use Rattle.keep_meaning.proofs.KeysLaws.{line_next, said_next}
+use Rattle.keep_meaning.proofs.KeyChainLemmas.{keys_are_alone}
+use Rattle.keep_meaning.proofs.KeyRunLaws.{key_added, line_added, run_added, run_below, run_number, run_taken}
+use Rattle.keep_meaning.proofs.KeyRunLaws.{with_info, with_more}
+use Rattle.keep_meaning.proofs.FirstKeyLemmas.{deep_first, first_kind, first_nested, first_node_kind, first_place}
+use Rattle.keep_meaning.proofs.FirstKeyLemmas.{first_said, is_first_place, says_first, says_table}
+use Rattle.keep_meaning.proofs.KeysLaws.{more_next, more_said}
 use Rattle.keep_meaning.proofs.LineFoundLaws.{statement_is_found}
 use Rattle.keep_meaning.proofs.LineLaws.{after_higher, after_line, before_line, before_lower, mentions_old}
 use Rattle.keep_meaning.proofs.LineLaws.{met_before_line, numbered_old}
-use Rattle.keep_meaning.proofs.LineNodeLemmas.{Renumbering, infos_of, line_of, mentions_later, renumbered_nodes}
+use Rattle.keep_meaning.proofs.LineNodeLemmas.{Renumbering, infos_of, line_of, mentions_later, path_of}
+use Rattle.keep_meaning.proofs.LineNodeLemmas.{renumbered_nodes}
 use Rattle.keep_meaning.proofs.LineNumberLemmas.{AllOf, IsHigher, IsLower, all_of, few_from, later, later_numbered}
 use Rattle.keep_meaning.proofs.LineNumberLemmas.{numbered_other, with_count}
 use Rattle.keep_meaning.proofs.NamedLemmas.{all_map}
 use Rattle.keep_meaning.proofs.NumberLemmas.{numbered_from-append}
-use Rattle.keep_meaning.proofs.RunLaws.{shifted_past}
-use Rattle.keep_meaning.proofs.RunLemmas.{high_shifts, low_stays, said_by_run}
+use Rattle.keep_meaning.proofs.NumberLemmas.{valued-entries}
+use Rattle.keep_meaning.proofs.PlaceLemmas.{marked-entries}
+use Rattle.keep_meaning.proofs.RunLaws.{named, shifted_past}
+use Rattle.keep_meaning.proofs.RunLemmas.{IsDeeper, count_alone, deeper, deeper_inside, high_shifts, low_stays}
+use Rattle.keep_meaning.proofs.RunLemmas.{said_by_run}
 use Rattle.keep_meaning.proofs.LineNumberLemmas.{all_join}
 use Rattle.keep_meaning.proofs.LineNumberLemmas.{higher_mentions}
 use Rattle.std.proofs.Common.{subst, Some}
-use Rattle.std.specs.List.{list_any}
-use Rattle.std.proofs.lemmas.List.{length-map}
+use Rattle.keep_types.specs.declared.node.Kind.{Kind}
 use Rattle.keep_types.specs.declared.node.Kind.TheVariants as kind
-use Rattle.keep_path.specs.NodeInfos.{LineNumbers, line_info, root_infos, without_node}
-use Rattle.keep_path.specs.NodesBelow.{AreBelow, one_more, with_numbers, with_value}
-use Rattle.keep_path.specs.Path.{same_path}
-use Rattle.keep_meaning.specs.Meaning.{mentions_in}
-use Rattle.keep_meaning.proofs.AloneTakenLemmas.{AreTaken, alone_taken}
-use Rattle.keep_meaning.proofs.CountLemmas.{paths-nodes_in}
-use Rattle.keep_meaning.proofs.KeyRunLaws.{gone, keys_below, keys_number, keys_taken}
-use Rattle.keep_meaning.proofs.LineLaws.{as_many, few_before}
-use Rattle.keep_meaning.proofs.MetLemmas.{node_met}
+use Rattle.keep_path.specs.NodeInfos.{LineNumbers, root_infos, with_table, without_node}
+use Rattle.keep_path.specs.NodesBelow.{AreBelow, one_more, with_value}
+use Rattle.keep_meaning.specs.Fact as fact
+use Rattle.keep_meaning.specs.Nodes.{node_number}
 
 -- ---- more key parts
 
@@ -95,6 +98,14 @@ none_shifted (m ∷ ns) =
     keys)
     (none_shifted ns)
 
+-- Among the nodes u the one of this path has the number `at`, and the nodes are `was` once it and those below it go.
+pub record AreTaken (u was : NodeInfos) (path : List Part) (at : ℕ) (line : LineNumbers) (old new : Totals) : Type 0
+  where
+    pub number : node_number u.paths path ≡ Some at
+    pub gone : ℕ
+    pub below : AreBelow u.paths at gone
+    pub back : was ≡ without_node (with_value u at gone old new root_infos kind.Table) at line
+
 -- ---- the documents
 
 module _ (d more : Document) (line : HasDotsMore d more)
@@ -130,8 +141,19 @@ module _ (d more : Document) (line : HasDotsMore d more)
   abbrev ys : List Numbered
   ys = map later_numbered later_ws
 
+  -- what is in the value
+  abbrev inner : List Mention
+  inner = entries_mentions 0 line.nested
+
   abbrev stated : List Mention
-  stated = record { path = []; kind = mentions_value line.fact } ∷ []
+  stated = valued_mentions (mentions_value line.fact) inner
+
+  -- how many values and key parts come after the first new key, where so many keys do
+  abbrev v : ℕ
+  v = value_count line.nested
+
+  abbrev parts_after : List (List ℕ) → ℕ
+  parts_after further = length further + part_count line.nested
 
   -- what the passed keys say
   abbrev pub ds : List Numbered
@@ -139,28 +161,14 @@ module _ (d more : Document) (line : HasDotsMore d more)
 
   -- what the line's new keys say, and what comes after
   abbrev said_by : List (List ℕ) → List Numbered
-  said_by [] = record { mention = record { path = p; kind = mentions_value line.fact }; before = c' } ∷ ys
-  said_by (k ∷ ks) =
-      said_by_run c' p dotted (keyed_mentions (k ∷ ks) stated) ++ map (shifted_past 0 0 0 (length (k ∷ ks))) ys
+  said_by further =
+      said_by_run c' p (first_kind further line.fact) (first_nested further line.fact inner)
+      ++ map (shifted_past 0 0 v (parts_after further)) ys
 
   abbrev pub rest : List Numbered
   rest = said_by line.further
 
   -- ---- what is said
-
-  new_said : (further : List (List ℕ))
-      → numbered_mentions c' (map (below at) (keyed_mentions (line.first ∷ further) stated))
-      ++ map (shifted_past 0 0 0 (length further)) ys
-      ≡ said_by further
-  new_said [] =
-      ap (λ (l : List Numbered).
-      record { mention = record { path = p; kind = mentions_value line.fact }; before = c' } ∷ l) (none_shifted ys)
-  new_said (k ∷ ks) =
-      let own : Mention = record { path = p; kind = dotted } in
-      ap (λ (l : List Mention).
-      (record { mention = own; before = c' } ∷ numbered_mentions (count_with_mention c' own) l)
-      ++ map (shifted_past 0 0 0 (length (k ∷ ks))) ys)
-      (below_below at (key line.first ∷ []) (keyed_mentions (k ∷ ks) stated))
 
   abbrev its_mentions : List Mention
   its_mentions = map (below r.body) (keyed_mentions (line.passed ++ line.first ∷ line.further) stated)
@@ -171,13 +179,15 @@ module _ (d more : Document) (line : HasDotsMore d more)
   its_are : its_mentions ≡ dot_mentions r.body line.passed ++ its_last
   its_are = passed_first r.body line.passed line.first line.further stated
 
-  next_is : next_count c its_mentions ≡ with_keys (length line.further) (later c')
+  next_is : next_count c its_mentions ≡ with_more v (parts_after line.further) (later c')
   next_is =
       ap (next_count c) its_are
       ∙ ap (λ (e : Count). record { statements = e.statements + 1; values = e.values; keys = e.keys })
       (fold-append count_with_mention c (dot_mentions r.body line.passed) its_last
       ∙ ap (λ (e : Count). count_after e its_last) (count_dots c r.body line.passed))
-      ∙ line_next c' at line.first line.further line.fact
+      ∙ more_next c' at line.first line.further line.fact inner
+      ∙ ap₂ (λ (a b : ℕ). with_more a (length line.further + b) (later c')) (valued-entries 0 line.nested)
+      (marked-entries 0 line.nested)
 
   pub dots_numbered : numbered_in more ≡ xs ++ (ds ++ rest)
   dots_numbered =
@@ -188,12 +198,14 @@ module _ (d more : Document) (line : HasDotsMore d more)
       (ap (numbered_mentions c) its_are ∙ numbered_mentions-append c (dot_mentions r.body line.passed) its_last
       ∙ ap (λ (e : Count). ds ++ numbered_mentions e its_last) (count_dots c r.body line.passed))
       (ap (λ (e : Count). numbered_from e r line.after) next_is
-      ∙ said_next c' r (length line.further) line.after
-      ∙ ap (λ (l : List Numbered). map (shifted_past 0 0 0 (length line.further)) (map later_numbered l))
+      ∙ more_said c' r v (parts_after line.further) line.after
+      ∙ ap (λ (l : List Numbered). map (shifted_past 0 0 v (parts_after line.further)) (map later_numbered l))
       (numbered_other (parts_later m) (parts_with m) (λ e. refl) c r line.after))
       ∙ ap (λ (l : List Numbered). xs ++ l)
-      (append_assoc ds (numbered_mentions c' its_last) (map (shifted_past 0 0 0 (length line.further)) ys)
-      ∙ ap (λ (l : List Numbered). ds ++ l) (new_said line.further))
+      (append_assoc ds (numbered_mentions c' its_last) (map (shifted_past 0 0 v (parts_after line.further)) ys)
+      ∙ ap (λ (ms : List Mention).
+      ds ++ (numbered_mentions c' ms ++ map (shifted_past 0 0 v (parts_after line.further)) ys))
+      (first_said at line.first line.further line.fact inner))
 
   -- ---- the nodes of the new keys
 
@@ -238,83 +250,122 @@ module _ (d more : Document) (line : HasDotsMore d more)
   abbrev old_totals : Totals
   old_totals = totals_after_parts m (totals_of d)
 
-  keys_are : (totals_of more).keys ≡ suc old_totals.keys + length line.further
+  keys_are : (totals_of more).keys ≡ suc old_totals.keys + parts_after line.further
   keys_are = omega (arith, line.keys, length-append line.passed (line.first ∷ line.further))
 
-  nodes_by : (further : List (List ℕ)) → (totals_of more).keys ≡ suc old_totals.keys + length further
-      → infos_of (xs ++ said_by further)
-      ≡ with_key_nodes (with_parts_from c.keys m (node_infos d)) (nodes_after line.before)
-      (after_parts m (numbers_after line.before)) p further (fact_kind line.fact) old_totals (totals_of more)
-  nodes_by [] keys =
-      key_added c' xs later_ws lower' higher' few' p none_there line.fact
+  abbrev lifted : NodeInfos
+  lifted = with_parts_from c.keys m (node_infos d)
+
+  abbrev its_numbers : LineNumbers
+  its_numbers = after_parts m (numbers_after line.before)
+
+  its_deep : (further : List (List ℕ)) → AllOf IsDeeper (first_nested further line.fact inner)
+  its_deep further = deep_first further line.fact inner (deeper_inside 0 line.nested)
+
+  -- with the first new key alone, of a node of this kind
+  abbrev pub with_first : NodeInfos → Kind → NodeInfos
+  with_first t k =
+      with_info t (nodes_after line.before) its_numbers p (named c' (first_place line.further) k)
+
+  -- what is said below it, alone
+  abbrev pub inside_first : NodeInfos
+  inside_first =
+      infos_of (numbered_mentions (count_alone (first_kind line.further line.fact))
+      (first_nested line.further line.fact inner))
+
+  pub dots_given : infos_of (xs ++ rest)
+      ≡ with_value (with_first lifted kind.Table) (nodes_after line.before) 0 (one_more old_totals) (totals_of more)
+      inside_first (first_node_kind line.further line.fact)
+  dots_given =
+      run_added c' xs later_ws lower' higher' few' p none_there line.fact (first_place line.further)
+      (is_first_place line.further) (first_kind line.further line.fact) (first_kind line.further fact.table)
+      (first_node_kind line.further line.fact) kind.Table (says_first p c' line.further line.fact)
+      (says_table p c' line.further) (first_nested line.further line.fact inner) (its_deep line.further) v
+      (parts_after line.further) old_totals (totals_of more) line.values keys_are
+      ∙ ap₂ (λ (t : NodeInfos) (n : ℕ).
+      with_value (with_info t n (line_of c') p (named c' (first_place line.further) kind.Table)) n 0
+      (one_more old_totals) (totals_of more) inside_first (first_node_kind line.further line.fact)) parts_nodes met
+
+  -- ---- with nothing in the value
+
+  abbrev said_alone : List (List ℕ) → List Numbered
+  said_alone further =
+      said_by_run c' p (first_kind further line.fact) (first_nested further line.fact [])
+      ++ map (shifted_past 0 0 0 (length further + 0)) ys
+
+  nodes_by : (further : List (List ℕ)) → (totals_of more).values ≡ suc old_totals.values
+      → (totals_of more).keys ≡ suc old_totals.keys + length further
+      → infos_of (xs ++ said_alone further)
+      ≡ with_key_nodes lifted (nodes_after line.before) its_numbers p further (fact_kind line.fact) old_totals
+      (totals_of more)
+  nodes_by [] values keys =
+      ap (λ (l : List Numbered).
+      infos_of (xs ++ record { mention = record { path = p; kind = mentions_value line.fact }; before = c' } ∷ l))
+      (none_shifted ys)
+      ∙ key_added c' xs later_ws lower' higher' few' p none_there line.fact
       ∙ ap₂ (λ (t : NodeInfos) (n : ℕ).
       with_key_nodes t n (line_of c') p [] (fact_kind line.fact) old_totals (totals_of more)) parts_nodes met
-  nodes_by (k ∷ ks) keys =
-      keys_added c' xs later_ws lower' higher' few' p none_there line.fact k ks old_totals (totals_of more) line.values
-      keys
+  nodes_by (k ∷ ks) values keys =
+      line_added c' xs later_ws lower' higher' few' p none_there line.fact k ks [] tt 0 (length (k ∷ ks) + 0) old_totals
+      (totals_of more) (omega (arith, values)) (omega (arith, keys))
       ∙ ap₂ (λ (t : NodeInfos) (n : ℕ).
-      with_key_nodes t n (line_of c') p (k ∷ ks) (fact_kind line.fact) old_totals (totals_of more)) parts_nodes met
+      with_value (with_table t n (line_of c') p) n 0 (one_more old_totals) (totals_of more)
+      (infos_of (numbered_mentions (count_alone dotted) (keyed_mentions (k ∷ ks)
+      (valued_mentions (mentions_value line.fact) [])))) kind.Table) parts_nodes met
+      ∙ ap (λ (u : NodeInfos).
+      with_value (with_table lifted (nodes_after line.before) its_numbers p) (nodes_after line.before) 0
+      (one_more old_totals) (totals_of more) u kind.Table) (keys_are_alone line.fact k ks)
 
-  pub dots_nodes : infos_of (xs ++ rest)
+  said_by_none : line.nested ≡ none → rest ≡ said_alone line.further
+  said_by_none empty =
+      ap (λ (es : Entries).
+      said_by_run c' p (first_kind line.further line.fact)
+      (first_nested line.further line.fact (entries_mentions 0 es))
+      ++ map (shifted_past 0 0 (value_count es) (length line.further + part_count es)) ys) empty
+
+  pub dots_nodes : line.nested ≡ none
+      → infos_of (xs ++ rest)
       ≡ with_key_nodes (with_parts_from c.keys m (node_infos d)) (nodes_after line.before)
       (after_parts m (numbers_after line.before)) p line.further (fact_kind line.fact) old_totals (totals_of more)
-  dots_nodes = nodes_by line.further keys_are
+  dots_nodes empty =
+      ap (λ (l : List Numbered). infos_of (xs ++ l)) (said_by_none empty)
+      ∙ nodes_by line.further (omega (arith, line.values, ap value_count empty))
+      (omega (arith, keys_are, ap part_count empty))
 
   -- ---- and back
 
-  few : nodes_after line.before ≤ length (node_infos d).paths
-  few = few_before d line.before line.after line.old
-
-  -- no node has the first new key's path, or one below it
-  no_node : (q : List Part) → list_any (same_path (p ++ q)) (node_infos d).paths ≡ false
-  no_node q =
-      ap (list_any (same_path (p ++ q))) (paths-nodes_in d) ∙ node_met (p ++ q) (mentions_in d) ∙ unsaid q
-
   abbrev AreGone : NodeInfos → Type 0
   AreGone u =
-      AreTaken u (with_parts_from c.keys m (node_infos d)) p (nodes_after line.before)
-      (after_parts m (numbers_after line.before)) (totals_of more) (one_more old_totals)
+      AreTaken u lifted p (nodes_after line.before) its_numbers (totals_of more) (one_more old_totals)
 
-  taken_by : (further : List (List ℕ)) → (totals_of more).keys ≡ suc old_totals.keys + length further
-      → AreGone (infos_of (xs ++ said_by further))
-  taken_by [] keys =
-      let t : NodeInfos = with_parts_from c.keys m (node_infos d) in
-      let l : LineNumbers = after_parts m (numbers_after line.before) in
-      let all : (totals_of more).keys ≡ suc old_totals.keys = omega (arith, keys) in
-      let same : totals_of more ≡ one_more old_totals =
-      ap₂ (λ (v k : ℕ). let n : Totals = record { values = v; keys = k } in n) line.values all in
-      subst AreGone (sym (nodes_by [] keys))
-      (alone_taken t (nodes_after line.before) l p (line_info l (fact_kind line.fact)) (totals_of more)
-      (one_more old_totals) same few
-      (omega (
-        arith,
-        few,
-        as_many d line.before line.after line.old,
-        length-map (node_infos d).infos (with_numbers (λ v. v) (shifted c.keys 0 m)),
-      ))
-      no_node)
-  taken_by (k ∷ ks) keys = record {
-    number = keys_number c' xs later_ws lower' higher' few' p none_there line.fact k ks old_totals (totals_of more)
-        line.values keys
-        ∙ ap Some met;
-    gone = gone c' xs later_ws lower' higher' few' p none_there line.fact k ks old_totals (totals_of more) line.values
-        keys;
-    below = subst (λ (n : ℕ). AreBelow (infos_of (xs ++ said_by (k ∷ ks))).paths n
-        (gone c' xs later_ws lower' higher' few' p none_there line.fact k ks old_totals (totals_of more) line.values
-        keys)) met
-        (keys_below c' xs later_ws lower' higher' few' p none_there line.fact k ks old_totals (totals_of more)
-        line.values keys);
-    back = sym parts_nodes
-        ∙ keys_taken c' xs later_ws lower' higher' few' p none_there line.fact k ks old_totals (totals_of more)
-        line.values keys
-        ∙ ap (λ (n : ℕ).
-        without_node (with_value (infos_of (xs ++ said_by (k ∷ ks))) n
-        (gone c' xs later_ws lower' higher' few' p none_there line.fact k ks old_totals (totals_of more) line.values
-        keys) (totals_of more) (one_more old_totals) root_infos kind.Table) n (line_of c')) met;
-  }
+  abbrev its_gone : ℕ
+  its_gone = length (deeper (map path_of (first_nested line.further line.fact inner)))
 
   pub dots_taken : AreGone (infos_of (xs ++ rest))
-  dots_taken = taken_by line.further keys_are
+  dots_taken = record {
+    number = run_number c' xs later_ws lower' higher' few' p none_there line.fact (first_place line.further)
+        (is_first_place line.further) (first_kind line.further line.fact) (first_kind line.further fact.table)
+        (first_node_kind line.further line.fact) kind.Table (says_first p c' line.further line.fact)
+        (says_table p c' line.further) (first_nested line.further line.fact inner) (its_deep line.further) v
+        (parts_after line.further) old_totals (totals_of more) line.values keys_are
+        ∙ ap Some met;
+    gone = its_gone;
+    below = subst (λ (n : ℕ). AreBelow (infos_of (xs ++ rest)).paths n its_gone) met
+        (run_below c' xs later_ws lower' higher' few' p none_there line.fact (first_place line.further)
+        (is_first_place line.further) (first_kind line.further line.fact) (first_kind line.further fact.table)
+        (first_node_kind line.further line.fact) kind.Table (says_first p c' line.further line.fact)
+        (says_table p c' line.further) (first_nested line.further line.fact inner) (its_deep line.further) v
+        (parts_after line.further) old_totals (totals_of more) line.values keys_are);
+    back = sym parts_nodes
+        ∙ run_taken c' xs later_ws lower' higher' few' p none_there line.fact (first_place line.further)
+        (is_first_place line.further) (first_kind line.further line.fact) (first_kind line.further fact.table)
+        (first_node_kind line.further line.fact) kind.Table (says_first p c' line.further line.fact)
+        (says_table p c' line.further) (first_nested line.further line.fact inner) (its_deep line.further) v
+        (parts_after line.further) old_totals (totals_of more) line.values keys_are
+        ∙ ap (λ (n : ℕ).
+        without_node (with_value (infos_of (xs ++ rest)) n its_gone (totals_of more) (one_more old_totals) root_infos
+        kind.Table) n (line_of c')) met;
+  }
 
   -- ---- what comes after the passed keys has no lower number of a value
 
@@ -328,20 +379,16 @@ module _ (d more : Document) (line : HasDotsMore d more)
         low,
       )) later_ws higher'
 
-  late_by : (further : List (List ℕ)) → AllOf IsLate (said_by further)
-  late_by [] = (omega arith, late_ys)
-  late_by (k ∷ ks) =
-      let run : List Mention = record { path = p; kind = dotted }
-      ∷ map (below p) (keyed_mentions (k ∷ ks) stated) in
-      let zs : List Numbered = map (shifted_past 0 0 0 (length (k ∷ ks))) ys in
-      all_join IsLate (numbered_mentions c' run) zs
+  pub late_rest : AllOf IsLate rest
+  late_rest =
+      let run : List Mention = record { path = p; kind = first_kind line.further line.fact }
+      ∷ map (below p) (first_nested line.further line.fact inner) in
+      let after : Numbered → Numbered = shifted_past 0 0 v (parts_after line.further) in
+      all_join IsLate (numbered_mentions c' run) (map after ys)
       (all_of (IsHigher c') IsLate (λ n h. h.value) (numbered_mentions c' run)
       (higher_mentions c' c' run
       (record { statement = omega arith; value = omega arith; key = omega arith })))
-      (all_map IsLate IsLate (shifted_past 0 0 0 (length (k ∷ ks))) (λ n h. omega (arith, h)) ys late_ys)
-
-  pub late_rest : AllOf IsLate rest
-  late_rest = late_by line.further
+      (all_map IsLate IsLate after (λ n h. omega (arith, h)) ys late_ys)
 
 pub dots_are_found : DotsAreFound
 dots_are_found d more line obeys = statement_is_found d line.before line.after line.old obeys

@@ -4,8 +4,8 @@
 -- The line says a run of mentions at its first key's path and below it (`numbered_more`), so the laws of such lists say
 -- what its nodes are.
 --
--- Theorems: `keys_add_nodes`, `keys_add_value_nodes`, `keys_take_nodes`, `keys_are_found`; `line_next`: the count after
--- a line of several keys.
+-- Theorems: `keys_add_nodes`, `keys_add_value_nodes`, `keys_take_nodes`, `keys_are_found`; `more_next`: the count after
+-- a line of such keys.
 use Rattle.std.proofs.Common.{◌≡◌, ℕ, ◌+◌, false, List, [], ◌∷◌, ◌++◌, length, map, refl}
 use Rattle.std.proofs.Common.{sym, ap, ap₂, subst, ◌∙◌, arith, Some}
 use Rattle.keep_types.specs.declared.node.Kind.TheVariants as kind
@@ -28,7 +28,7 @@ use Rattle.keep_meaning.specs.Meaning.{entries_mentions, keyed_mentions, valued_
 use Rattle.keep_meaning.specs.Nodes.{fact_kind, is_node, mention_of, node_number, node_paths}
 use Rattle.keep_meaning.specs.OtherValues.{IsSaidBefore, nodes_in_value, totals_of}
 use Rattle.keep_meaning.proofs.KeyRunLaws.{line_added, line_below, line_number, line_said, line_taken, more_with}
-use Rattle.keep_meaning.proofs.KeyRunLaws.{same_count, with_keys, with_more}
+use Rattle.keep_meaning.proofs.KeyRunLaws.{same_count, with_more}
 use Rattle.keep_meaning.proofs.KeyChainLemmas.{below_below, keys_are_alone}
 use Rattle.keep_meaning.proofs.KeyValueLemmas.{keys_hold_value}
 use Rattle.keep_meaning.proofs.LineFoundLaws.{statement_is_found}
@@ -47,7 +47,7 @@ use Rattle.std.proofs.Common.{suc}
 -- ---- a line of several keys
 
 -- after a line of these keys, in any body, with this in its value
-more_next : (c : Count) (body : List Part) (first : List ℕ) (ks : List (List ℕ)) (f : Fact) (inner : List Mention)
+pub more_next : (c : Count) (body : List Part) (first : List ℕ) (ks : List (List ℕ)) (f : Fact) (inner : List Mention)
     → next_count c (map (below body) (keyed_mentions (first ∷ ks) (valued_mentions (mentions_value f) inner)))
     ≡ with_more (valued inner) (length ks + marked inner) (later c)
 more_next c body first ks f inner =
@@ -66,25 +66,12 @@ more_next c body first ks f inner =
     ms = map (below body) all
 
 -- what is said after a line
-more_said : (c : Count) (r : Reading) (v n : ℕ) (ss : List Statement)
+pub more_said : (c : Count) (r : Reading) (v n : ℕ) (ss : List Statement)
     → numbered_from (with_more v n (later c)) r ss
     ≡ map (shifted_past 0 0 v n) (map later_numbered (numbered_from c r ss))
 more_said c r v n ss =
     numbered_other (with_more v n) (more_with v n) (λ e. refl) (later c) r ss
     ∙ ap (map (shifted_past 0 0 v n)) (numbered_later c r ss)
-
--- with nothing in the value
-pub line_next : (c : Count) (body : List Part) (first : List ℕ) (ks : List (List ℕ)) (f : Fact)
-    → next_count c (map (below body) (keyed_mentions (first ∷ ks) (record { path = []; kind = mentions_value f } ∷ [])))
-    ≡ with_keys (length ks) (later c)
-line_next c body first ks f =
-    let keys : length ks + 0 ≡ length ks = omega arith in
-    more_next c body first ks f [] ∙ ap (λ (n : ℕ). with_keys n (later c)) keys
-
-pub said_next : (c : Count) (r : Reading) (n : ℕ) (ss : List Statement)
-    → numbered_from (with_keys n (later c)) r ss
-    ≡ map (shifted_past 0 0 0 n) (map later_numbered (numbered_from c r ss))
-said_next c r n ss = more_said c r 0 n ss
 
 -- ---- the documents
 

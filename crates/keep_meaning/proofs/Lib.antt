@@ -27,8 +27,8 @@ pub mod KeyChainLemmas
 pub mod DotMentionLemmas
 pub mod KeyValueLemmas
 pub mod KeyRunLaws
+pub mod FirstKeyLemmas
 pub mod KeysLaws
-pub mod AloneTakenLemmas
 pub mod DotsLaws
 pub mod DotMarkLemmas
 pub mod BodyLaws

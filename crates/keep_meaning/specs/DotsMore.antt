@@ -1,9 +1,10 @@
 -- One line more whose key goes on from tables of dotted keys that are there: a document that says the same as another,
--- and such a keyval, with nothing in its value.
+-- and such a keyval.
 use Rattle.std.specs.Prelude.{◌≡◌, ℕ, suc, ◌+◌, ◌<◌, ◌≤◌, ◌↔◌, All, IsTrue, List, [], ◌∷◌, ◌++◌, length, map, Some}
 use Rattle.std.specs.Prelude.{slice_index_or}
 use Rattle.keep_types.specs.declared.node.Origin.TheVariants as origin
-use Rattle.keep_syntax.specs.Tree.{Document}
+use Rattle.keep_syntax.specs.Numbered.{part_count, value_count}
+use Rattle.keep_syntax.specs.Tree.{Document, Entries, none}
 use Rattle.keep_path.specs.Dots.{after_parts, totals_after_parts, with_dots, with_keys, with_parts_from}
 use Rattle.keep_path.specs.KeysAlone.{paths_below}
 use Rattle.keep_path.specs.NodeInfos.{no_info}
@@ -13,13 +14,13 @@ use Rattle.keep_meaning.specs.Fact.{Fact}
 use Rattle.keep_meaning.specs.KeysMore.{IsUnsaid}
 use Rattle.keep_meaning.specs.LinesMore.{is_met_from, node_infos, nodes_after, numbers_after}
 use Rattle.keep_meaning.specs.Marks.{Statement, keyval, marks, reading_after, start, value}
-use Rattle.keep_meaning.specs.Meaning.{keyed_mentions, mentions_in}
+use Rattle.keep_meaning.specs.Meaning.{entries_mentions, keyed_mentions, mentions_in, valued_mentions}
 use Rattle.keep_meaning.specs.Nodes.{fact_kind, infos_in, node_number}
 use Rattle.keep_meaning.specs.OtherValues.{totals_of}
 use Rattle.keep_meaning.specs.Rules.{ObeysRules}
 
 -- The second document has one line more: after the keys that it passes it has new ones, and states this fact at their
--- end.
+-- end, with these entries in the value.
 pub record HasDotsMore (d more : Document) : Type 0 where
   pub before : List Statement
   pub after : List Statement
@@ -27,12 +28,14 @@ pub record HasDotsMore (d more : Document) : Type 0 where
   pub first : List ℕ
   pub further : List (List ℕ)
   pub fact : Fact
+  pub nested : Entries
   pub old : statements_in d ≡ before ++ after
   pub new : statements_in more
-      ≡ before ++ keyval (keyed_mentions (passed ++ first ∷ further) (record { path = []; kind = value fact } ∷ []))
+      ≡ before
+      ++ keyval (keyed_mentions (passed ++ first ∷ further) (valued_mentions (value fact) (entries_mentions 0 nested)))
       ∷ after
-  pub values : (totals_of more).values ≡ suc (totals_of d).values
-  pub keys : (totals_of more).keys ≡ (totals_of d).keys + length (passed ++ first ∷ further)
+  pub values : (totals_of more).values ≡ suc (totals_of d).values + value_count nested
+  pub keys : (totals_of more).keys ≡ (totals_of d).keys + (length (passed ++ first ∷ further) + part_count nested)
 
 -- the path of the first new key of a line with these statements before it, and those of the keys that it passes
 abbrev pub new_path : List Statement → List (List ℕ) → List ℕ → List Part
@@ -50,13 +53,14 @@ pub record AreDotted (d : Document) (few : ℕ) (paths : List (List Part)) (ids 
   pub numbers : map (node_number (node_infos d).paths) paths ≡ map Some ids
   pub dotted : All (IsDotted d few) ids
 
--- Such a line, where the first new key's path is unsaid, gives the nodes of the new keys, and the tables that it passes
--- one mention more.
+-- Such a line, where the first new key's path is unsaid and nothing is in its value, gives the nodes of the new keys,
+-- and the tables that it passes one mention more.
 abbrev pub DotsAddNodes : Type 0
 DotsAddNodes =
     (d more : Document) (line : HasDotsMore d more) (ids : List ℕ)
     → AreDotted d (nodes_after line.before) (passed_paths line.before line.passed) ids
     → IsUnsaid d (new_path line.before line.passed line.first)
+    → line.nested ≡ none
     → node_infos more
     ≡ with_dots (numbers_after line.before).value ids
     (with_keys (with_parts_from (numbers_after line.before).key (length line.passed) (node_infos d))

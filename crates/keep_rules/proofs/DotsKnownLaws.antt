@@ -1,6 +1,6 @@
 -- A line more that passes tables of dotted keys gives the nodes of its new keys, and these tables one mention more.
 --
--- Without what the passed keys say there are the nodes of the new keys (`dots_nodes`). A passed table is met before the
+-- Without what the passed keys say there are the nodes of the new keys (`dots_given`). A passed table is met before the
 -- line, so among these nodes it has the number that it had (`number_kept`), and it is a table of dotted keys still
 -- (`table_kept`). So each passed key gives it one mention more (`dots_added`).
 --
@@ -16,7 +16,7 @@ use Rattle.std.proofs.lemmas.List.Edits.{get_or-insert_below, length-insert}
 use Rattle.keep_types.specs.declared.node.Kind.{Kind}
 use Rattle.keep_types.specs.declared.node.NodeInfo.{NodeInfo}
 use Rattle.keep_types.specs.declared.node.Origin.TheVariants as origin
-use Rattle.keep_syntax.specs.Tree.{Document}
+use Rattle.keep_syntax.specs.Tree.{Document, none}
 use Rattle.keep_path.specs.Dots.{after_parts, totals_after_parts, with_keys, with_parts_from}
 use Rattle.keep_path.specs.KeysAlone.{paths_below}
 use Rattle.keep_path.specs.NodeInfos.{LineNumbers, NodeInfos, later_number, no_info, renumbered, renumbered_origin}
@@ -34,24 +34,25 @@ use Rattle.std.proofs.lemmas.List.{length-set}
 use Rattle.std.proofs.lemmas.List.Elements.{All-head, All-tail}
 use Rattle.std.proofs.lemmas.List.Folds.{list_any_at}
 use Rattle.keep_types.specs.declared.node.Kind.TheVariants as kind
-use Rattle.keep_path.specs.KeysAlone.{keys_alone}
-use Rattle.keep_path.specs.NodeInfos.{dotted_info}
-use Rattle.keep_path.specs.NodesBelow.{info_beside, key_of, one_more, value_of}
+use Rattle.keep_path.specs.NodesBelow.{info_beside, key_of, one_more, value_of, with_value}
 use Rattle.keep_path.specs.Path.{same_path}
 use Rattle.keep_path.proofs.Shared.{path_decides}
 use Rattle.keep_meaning.specs.Counts.{Count, Numbered, is_mark, no_count}
 use Rattle.keep_meaning.specs.Nodes.{is_at, is_node, mention_of, node_paths, numbered_at}
 use Rattle.keep_meaning.specs.OtherValues.{IsSaidBefore}
 use Rattle.keep_meaning.proofs.CountLemmas.{mentions-numbered_from, paths-nodes}
-use Rattle.keep_meaning.proofs.DotsLaws.{c, dots_nodes, dots_numbered, few_said, late_rest, rest}
-use Rattle.keep_meaning.proofs.DotsLaws.{xs as said_before}
+use Rattle.keep_meaning.proofs.DotsLaws.{c, c', dots_given, dots_nodes, dots_numbered, few_said, inside_first}
+use Rattle.keep_meaning.proofs.DotsLaws.{late_rest, rest, xs as said_before}
 use Rattle.keep_meaning.proofs.ElementLemmas.{IsSoundStatement, sound_from, sound_statements}
+use Rattle.keep_meaning.proofs.FirstKeyLemmas.{first_node_kind, first_place}
+use Rattle.keep_meaning.proofs.KeyRunLaws.{with_info}
 use Rattle.keep_meaning.proofs.LineFoundLaws.{same_node}
 use Rattle.keep_meaning.proofs.LineLaws.{after_line, few_before, met_before_line, paths_old}
 use Rattle.keep_meaning.proofs.LineNodeLemmas.{infos_of, path_of}
 use Rattle.keep_meaning.proofs.LineNumberLemmas.{AllOf, all_left, all_of}
 use Rattle.keep_meaning.proofs.MetLemmas.{node_met}
 use Rattle.keep_meaning.proofs.NamedLemmas.{Fits, ends, ends_below}
+use Rattle.keep_meaning.proofs.RunLaws.{named as named_info}
 use Rattle.keep_rules.proofs.AllInfoLemmas.{node_paths-distinct}
 use Rattle.keep_rules.proofs.DotLemmas.{IsEarly, IsMarked}
 use Rattle.keep_rules.proofs.LookupLemmas.{number_is}
@@ -63,12 +64,10 @@ use Rattle.std.proofs.Common.{length-append}
 use Rattle.std.proofs.Common.{Option}
 use Rattle.keep_meaning.specs.Nodes.{is_root}
 use Rattle.keep_rules.proofs.DotLemmas.{AreTables}
-use Rattle.keep_path.specs.NodeInfos.{line_info}
 use Rattle.keep_path.specs.NodesBelow.{shifted}
 use Rattle.std.proofs.Common.{AllPairs}
 use Rattle.keep_path.specs.Dots.{with_dots}
 use Rattle.keep_meaning.specs.Nodes.{node_info}
-use Rattle.keep_path.specs.NodeInfos.{with_table}
 use Rattle.keep_meaning.specs.Marks.{start}
 use Rattle.keep_meaning.specs.Nodes.{node_path}
 
@@ -85,10 +84,11 @@ dot_later : (l : LineNumbers) (i : NodeInfo) → IsDot i → IsDot (renumbered l
 dot_later l i h =
     (later_number l.value h.0, ap (renumbered_origin (later_number l.statement) (later_number l.value)) h.1)
 
-module _ (t : NodeInfos) (at : ℕ) (line : LineNumbers) (p : List Part) (k : Kind) (old new : Totals)
-    (few : at ≤ length t.paths) (as_many : length t.infos ≡ length t.paths) where
-  abbrev with_new : List (List ℕ) → NodeInfos
-  with_new further = with_keys t at line p further k old new
+-- a node is put in, and a value at it
+module _ (t : NodeInfos) (at : ℕ) (line : LineNumbers) (p : List Part) (x : NodeInfo) (k : Kind) (old new : Totals)
+    (inside : NodeInfos) (few : at ≤ length t.paths) (as_many : length t.infos ≡ length t.paths) where
+  abbrev with_new : NodeInfos
+  with_new = with_value (with_info t at line p x) at 0 old new inside k
 
   longer : length (insert t.paths at p) ≡ length t.paths + 1
   longer = length-insert t.paths at p few
@@ -96,81 +96,68 @@ module _ (t : NodeInfos) (at : ℕ) (line : LineNumbers) (p : List Part) (k : Ki
   taken : length (take (suc at) (insert t.paths at p)) ≡ suc at
   taken = length-take-le (suc at) (insert t.paths at p) (omega (arith, longer, few))
 
-  -- the paths of the further keys, and those after them
-  abbrev after_them : List ℕ → List (List ℕ) → List (List Part)
-  after_them x xs =
-      map (λ (q : List Part). get_or (insert t.paths at p) at [] ++ q) (drop 1 (keys_alone (x ∷ xs) k).paths)
+  -- the paths in the value, and those after them
+  abbrev after_it : List (List Part)
+  after_it =
+      map (λ (q : List Part). get_or (insert t.paths at p) at [] ++ q) (drop 1 inside.paths)
       ++ drop (suc at + 0) (insert t.paths at p)
 
-  table_kept : (further : List (List ℕ)) (i : ℕ) → i < at
-      → (i < length (with_new further).paths) × (get_or (with_new further).paths i [] ≡ get_or t.paths i [])
-  table_kept [] i low = (omega (arith, longer, few, low), get_or-insert_below t.paths at p [] i low few)
-  table_kept (x ∷ xs) i low = (
-    omega (arith, low, taken, length-append (take (suc at) (insert t.paths at p)) (after_them x xs)),
-    get_or_append_left (take (suc at) (insert t.paths at p)) (after_them x xs) [] i (omega (arith, low, taken))
+  table_kept : (i : ℕ) → i < at → (i < length with_new.paths) × (get_or with_new.paths i [] ≡ get_or t.paths i [])
+  table_kept i low = (
+    omega (arith, low, taken, length-append (take (suc at) (insert t.paths at p)) after_it),
+    get_or_append_left (take (suc at) (insert t.paths at p)) after_it [] i (omega (arith, low, taken))
         ∙ get_or-take (suc at) (insert t.paths at p) i [] (omega (arith, low))
         ∙ get_or-insert_below t.paths at p [] i low few,
   )
 
   -- the facts about a node before the new ones
-  renumbered_kept : (x : NodeInfo) (i : ℕ) → i < at
+  renumbered_kept : (i : ℕ) → i < at
       → get_or (insert (map (renumbered later_number line) t.infos) at x) i no_info
       ≡ renumbered later_number line (get_or t.infos i no_info)
-  renumbered_kept x i low =
+  renumbered_kept i low =
       let few_infos : at ≤ length (map (renumbered later_number line) t.infos) =
       omega (arith, few, as_many, length-map t.infos (renumbered later_number line)) in
       get_or-insert_below (map (renumbered later_number line) t.infos) at x no_info i low few_infos
       ∙ get_or-map (renumbered later_number line) t.infos i no_info no_info (omega (arith, few, as_many, low))
 
-  dot_kept : (further : List (List ℕ)) (i : ℕ) → i < at → IsDot (get_or t.infos i no_info)
-      → IsDot (get_or (with_new further).infos i no_info)
-  dot_kept [] i low h =
-      subst IsDot (sym (renumbered_kept (line_info line k) i low)) (dot_later line (get_or t.infos i no_info) h)
-  dot_kept (x ∷ xs) i low h =
+  dot_kept : (i : ℕ) → i < at → IsDot (get_or t.infos i no_info) → IsDot (get_or with_new.infos i no_info)
+  dot_kept i low h =
       subst IsDot (sym is)
-      (dot_numbered (shifted (suc (value_of own)) (one_more old).values new.values)
-      (shifted (suc (key_of own)) (one_more old).keys new.keys)
+      (dot_numbered (shifted (suc (value_of own)) old.values new.values) (shifted (suc (key_of own)) old.keys new.keys)
       (renumbered later_number line (get_or t.infos i no_info))
       (dot_later line (get_or t.infos i no_info) h))
     where
       us : List NodeInfo
-      us = (with_table t at line p).infos
+      us = (with_info t at line p x).infos
 
       own : NodeInfo
       own = get_or us at no_info
 
       set_us : List NodeInfo
-      set_us = slice_set us at (record own { kind = kind.Table })
+      set_us = slice_set us at (record own { kind = k })
 
       beside : NodeInfo → NodeInfo
-      beside = info_beside own (one_more old) new
+      beside = info_beside own old new
 
       many : length us ≡ length t.infos + 1
       many =
-          length-insert (map (renumbered later_number line) t.infos) at (dotted_info line)
+          length-insert (map (renumbered later_number line) t.infos) at x
           (omega (arith, few, as_many, length-map t.infos (renumbered later_number line)))
           ∙ ap (λ (n : ℕ). n + 1) (length-map t.infos (renumbered later_number line))
 
       front : length (take (suc at) (map beside set_us)) ≡ suc at
       front =
           length-take-le (suc at) (map beside set_us)
-          (omega (
-            arith,
-            few,
-            as_many,
-            many,
-            length-map set_us beside,
-            length-set us at (record own { kind = kind.Table }),
-          ))
+          (omega (arith, few, as_many, many, length-map set_us beside, length-set us at (record own { kind = k })))
 
-      is : get_or (with_new (x ∷ xs)).infos i no_info ≡ beside (renumbered later_number line (get_or t.infos i no_info))
+      is : get_or with_new.infos i no_info ≡ beside (renumbered later_number line (get_or t.infos i no_info))
       is =
           get_or_append_left (take (suc at) (map beside set_us)) _ no_info i (omega (arith, low, front))
           ∙ get_or-take (suc at) (map beside set_us) i no_info (omega (arith, low))
           ∙ get_or-map beside set_us i no_info no_info
-          (omega (arith, low, few, as_many, many, length-set us at (record own { kind = kind.Table })))
-          ∙ ap beside (get_or-set_other us at i (record own { kind = kind.Table }) no_info (λ e. omega (arith, low, e))
-          ∙ renumbered_kept (dotted_info line) i low)
+          (omega (arith, low, few, as_many, many, length-set us at (record own { kind = k })))
+          ∙ ap beside (get_or-set_other us at i (record own { kind = k }) no_info (λ e. omega (arith, low, e))
+          ∙ renumbered_kept i low)
 
 -- ---- the document
 
@@ -217,14 +204,31 @@ module _ (d more : Document) (line : HasDotsMore d more) (ids : List ℕ)
   abbrev now : NodeInfos
   now = infos_of (its_xs ++ its_rest)
 
+  abbrev its_kind : Kind
+  its_kind = first_node_kind line.further line.fact
+
+  abbrev its_numbers : LineNumbers
+  its_numbers = after_parts (length line.passed) (numbers_after line.before)
+
+  abbrev its_path : List Part
+  its_path = new_path line.before line.passed line.first
+
+  -- the facts about the first new key's node, before its value is there
+  abbrev its_info : NodeInfo
+  its_info = named_info (c' d more line unsaid) (first_place line.further) kind.Table
+
+  abbrev inside : NodeInfos
+  inside = inside_first d more line unsaid
+
+  abbrev old_totals : Totals
+  old_totals = one_more (totals_after_parts (length line.passed) (totals_of d))
+
   abbrev new_nodes : NodeInfos
-  new_nodes =
-      with_keys lifted at (after_parts (length line.passed) (numbers_after line.before))
-      (new_path line.before line.passed line.first) line.further (fact_kind line.fact)
-      (totals_after_parts (length line.passed) (totals_of d)) (totals_of more)
+  new_nodes = with_value (with_info lifted at its_numbers its_path its_info) at 0 old_totals (totals_of more) inside
+      its_kind
 
   is : now ≡ new_nodes
-  is = dots_nodes d more line unsaid
+  is = dots_given d more line unsaid
 
   few : at ≤ length was.paths
   few = few_before d line.before line.after line.old
@@ -248,18 +252,16 @@ module _ (d more : Document) (line : HasDotsMore d more) (ids : List ℕ)
       → node_number now.paths q ≡ Some id
   number_kept q id number low =
       let kept =
-      table_kept lifted at (after_parts (length line.passed) (numbers_after line.before))
-      (new_path line.before line.passed line.first) (fact_kind line.fact)
-      (totals_after_parts (length line.passed) (totals_of d)) (totals_of more) few lifted_many line.further id low in
+      table_kept lifted at its_numbers its_path its_info its_kind old_totals (totals_of more) inside few lifted_many id
+      low in
       number_at now.paths distinct id q (omega (arith, kept.0, ap (λ (t : NodeInfos). length t.paths) is))
       (ap (λ (t : NodeInfos). get_or t.paths id []) is ∙ kept.1 ∙ (number_is was.paths q id number).1)
 
   still_dotted : (id : ℕ) → IsDotted d at id → IsDot (get_or now.infos id no_info)
   still_dotted id h =
       subst (λ (t : NodeInfos). IsDot (get_or t.infos id no_info)) (sym is)
-      (dot_kept lifted at (after_parts (length line.passed) (numbers_after line.before))
-      (new_path line.before line.passed line.first) (fact_kind line.fact)
-      (totals_after_parts (length line.passed) (totals_of d)) (totals_of more) few lifted_many line.further id h.0
+      (dot_kept lifted at its_numbers its_path its_info its_kind old_totals (totals_of more) inside few lifted_many id
+      h.0
       (subst IsDot (sym (get_or-map to_lifted was.infos id no_info no_info (omega (arith, h.0, few, as_many))))
       (dot_numbered (λ v. v) (shifted (numbers_after line.before).key 0 (length line.passed))
       (get_or was.infos id no_info) h.1)))
@@ -336,8 +338,12 @@ module _ (d more : Document) (line : HasDotsMore d more) (ids : List ℕ)
       (numbers_kept (passed_paths line.before line.passed) ids passed.numbers passed.dotted)
       (tables_kept ids passed.dotted)
 
-  nodes_more : node_infos more ≡ with_dots (numbers_after line.before).value ids new_nodes
-  nodes_more = dots_more ∙ ap (with_dots its_count.values ids) is
+  nodes_more : line.nested ≡ none
+      → node_infos more
+      ≡ with_dots (numbers_after line.before).value ids
+      (with_keys lifted at its_numbers its_path line.further (fact_kind line.fact)
+      (totals_after_parts (length line.passed) (totals_of d)) (totals_of more))
+  nodes_more empty = dots_more ∙ ap (with_dots its_count.values ids) (dots_nodes d more line unsaid empty)
 
 pub dots_add_nodes : DotsAddNodes
-dots_add_nodes d more line ids passed unsaid = nodes_more d more line ids passed unsaid
+dots_add_nodes d more line ids passed unsaid empty = nodes_more d more line ids passed unsaid empty

@@ -18,7 +18,7 @@ use Rattle.std.proofs.lemmas.List.Elements.{All-head, All-tail}
 use Rattle.std.proofs.lemmas.List.Folds.{list_any_at}
 use Rattle.std.proofs.lemmas.List.Sums.{fold-append}
 use Rattle.std.proofs.lemmas.Option.{slice_get-get_or}
-use Rattle.keep_syntax.specs.Tree.{Document}
+use Rattle.keep_syntax.specs.Tree.{Document, Entries}
 use Rattle.keep_path.specs.KeysAlone.{paths_below}
 use Rattle.keep_path.specs.NodeInfos.{no_info}
 use Rattle.keep_path.specs.Path.{Part, key, same_path}
@@ -28,12 +28,13 @@ use Rattle.keep_meaning.specs.DotsMore.{AreDotted, HasDotsMore, IsDotted, new_pa
 use Rattle.keep_meaning.specs.Fact.{Fact}
 use Rattle.keep_meaning.specs.KeysMore.{IsUnsaid}
 use Rattle.keep_meaning.specs.LinesMore.{node_infos, nodes_after}
-use Rattle.keep_meaning.specs.Marks.{Mention, MentionKind, below, dotted, elements_of, entered_path, marks}
+use Rattle.keep_meaning.specs.Marks.{Mention, MentionKind, elements_of, entered_path, marks}
 use Rattle.keep_meaning.specs.Marks.{mentions_from, reading_after, role_of, start, value}
-use Rattle.keep_meaning.specs.Meaning.{keyed_mentions, mentions_in}
+use Rattle.keep_meaning.specs.Meaning.{entries_mentions, keyed_mentions, mentions_in, valued_mentions}
 use Rattle.keep_meaning.specs.Nodes.{infos_in, is_at, is_element, is_node, node_info, node_number, node_path}
 use Rattle.keep_meaning.specs.Nodes.{node_paths, nodes_in, paths_with}
 use Rattle.keep_meaning.specs.Rules.{ObeysRules}
+use Rattle.keep_meaning.proofs.FirstKeyLemmas.{first_kind, first_nested, first_said}
 use Rattle.keep_meaning.proofs.Shared.{body_has_no_element, body_is_node, node_met, paths-nodes_in, same_node}
 use Rattle.keep_rules.specs.Descents.{dotted_mentions}
 use Rattle.keep_rules.specs.LinesNested.{DotsAreNested, DotsLeaveNested, NodesAreNested}
@@ -41,8 +42,9 @@ use Rattle.keep_rules.specs.Nested.{AreNested}
 use Rattle.keep_rules.specs.RoleStates.{mention_roles}
 use Rattle.keep_rules.proofs.DottedRoleLemmas.{dotted_is_barred}
 use Rattle.keep_rules.proofs.ElementLemmas.{tables_dotted}
-use Rattle.keep_rules.proofs.InsideValueLemmas.{AreClosed, IsInside, closed_keys, inside_keys}
-use Rattle.keep_rules.proofs.KeyWalkLemmas.{below-below, keyed-past}
+use Rattle.keep_rules.proofs.InsideValueLemmas.{AreClosed, IsInside, closed_keys, inside_closed, inside_keys}
+use Rattle.keep_rules.proofs.InsideValueLemmas.{inside_known}
+use Rattle.keep_rules.proofs.KeyWalkLemmas.{keyed-past}
 use Rattle.keep_rules.proofs.LineNestedLaws.{may_follow}
 use Rattle.keep_rules.proofs.LookupLemmas.{number_is}
 use Rattle.keep_rules.proofs.NestedGrowthLemmas.{AreEntered, IsClosed, IsThere, there_number}
@@ -131,38 +133,22 @@ module _ (before again after : List Mention)
 
 -- ---- the run of the first new key
 
--- what the line says of that key, and what it says below it
-abbrev first_kind : Fact → List (List ℕ) → MentionKind
-first_kind f [] = value f
-first_kind f (k ∷ ks) = dotted
+run_plain : (ks : List (List ℕ)) (f : Fact) → is_element (first_kind ks f) ≡ false
+run_plain [] f = refl
+run_plain (k ∷ ks) f = refl
 
-abbrev further_said : Fact → List (List ℕ) → List Mention
-further_said f [] = []
-further_said f (k ∷ ks) = keyed_mentions (k ∷ ks) (record { path = []; kind = value f } ∷ [])
+run_bare : (ks : List (List ℕ)) (f : Fact) → may_follow (cons_option (role_of (first_kind ks f)) []) ≡ false
+run_bare [] f = refl
+run_bare (k ∷ ks) f = refl
 
-run_said : (at : List Part) (k : List ℕ) (f : Fact) (ks : List (List ℕ))
-    → map (below at) (keyed_mentions (k ∷ ks) (record { path = []; kind = value f } ∷ []))
-    ≡ run (at ++ key k ∷ []) (first_kind f ks) (further_said f ks)
-run_said at k f [] = refl
-run_said at k f (l ∷ ks) =
-    ap (λ (ms : List Mention). record { path = at ++ key k ∷ []; kind = dotted } ∷ ms)
-    (below-below at (key k ∷ []) (further_said f (l ∷ ks)))
+run_known : (ks : List (List ℕ)) (f : Fact) (es : Entries)
+    → AllByRecursion IsInside (first_nested ks f (entries_mentions 0 es))
+run_known [] f es = inside_known 0 es
+run_known (k ∷ ks) f es = inside_keys k ks f (entries_mentions 0 es) (inside_known 0 es)
 
-run_plain : (f : Fact) (ks : List (List ℕ)) → is_element (first_kind f ks) ≡ false
-run_plain f [] = refl
-run_plain f (k ∷ ks) = refl
-
-run_bare : (f : Fact) (ks : List (List ℕ)) → may_follow (cons_option (role_of (first_kind f ks)) []) ≡ false
-run_bare f [] = refl
-run_bare f (k ∷ ks) = refl
-
-run_known : (f : Fact) (ks : List (List ℕ)) → AllByRecursion IsInside (further_said f ks)
-run_known f [] = tt
-run_known f (k ∷ ks) = inside_keys k ks f [] tt
-
-run_above : (f : Fact) (ks : List (List ℕ)) → AreClosed (further_said f ks)
-run_above f [] = λ p ps more said. absurd cc
-run_above f (k ∷ ks) = closed_keys k ks f [] (λ p ps more said. absurd cc)
+run_above : (ks : List (List ℕ)) (f : Fact) (es : Entries) → AreClosed (first_nested ks f (entries_mentions 0 es))
+run_above [] f es = inside_closed 0 es
+run_above (k ∷ ks) f es = closed_keys k ks f (entries_mentions 0 es) (inside_closed 0 es)
 
 -- ---- the paths that keys pass
 
@@ -221,14 +207,25 @@ module _ (d more : Document) (line : HasDotsMore d more) (ids : List ℕ) (obeys
   abbrev dots : List Mention
   dots = dotted_mentions body line.passed
 
-  abbrev last : Mention
-  last = record { path = []; kind = value line.fact }
+  -- what is in the value
+  abbrev inner : List Mention
+  inner = entries_mentions 0 line.nested
+
+  abbrev valued : List Mention
+  valued = valued_mentions (value line.fact) inner
 
   abbrev said : List Mention
-  said = keyed_mentions (line.passed ++ line.first ∷ line.further) (last ∷ [])
+  said = keyed_mentions (line.passed ++ line.first ∷ line.further) valued
+
+  -- what the line says of its first new key, and what it says below it
+  abbrev its_kind : MentionKind
+  its_kind = first_kind line.further line.fact
+
+  abbrev its_nested : List Mention
+  its_nested = first_nested line.further line.fact inner
 
   abbrev new_run : List Mention
-  new_run = run path (first_kind line.fact line.further) (further_said line.fact line.further)
+  new_run = run path its_kind its_nested
 
   said_old : mentions_in d ≡ mx ++ my
   said_old = said_without d line.before line.after line.old
@@ -237,8 +234,8 @@ module _ (d more : Document) (line : HasDotsMore d more) (ids : List ℕ) (obeys
   said_more =
       said_new d line.before line.after line.old more said line.new
       ∙ ap (λ (ms : List Mention). mx ++ (ms ++ my))
-      (keyed-past body line.passed line.first line.further (last ∷ [])
-      ∙ ap (λ (ms : List Mention). dots ++ ms) (run_said holder line.first line.fact line.further))
+      (keyed-past body line.passed line.first line.further valued
+      ∙ ap (λ (ms : List Mention). dots ++ ms) (first_said holder line.first line.further line.fact inner))
       ∙ ap (λ (ms : List Mention). mx ++ ms) (append_assoc dots new_run my)
       ∙ sym (append_assoc mx dots (new_run ++ my))
 
@@ -328,9 +325,9 @@ module _ (d more : Document) (line : HasDotsMore d more) (ids : List ℕ) (obeys
   nested_with nested =
       subst (AreNested (mentions_in more)) (sym (tables_same d line.before line.after line.old more said line.new))
       (subst (λ (ms : List Mention). AreNested ms tables) (sym said_more)
-      (nested_more path (mx ++ dots) my (first_kind line.fact line.further) (further_said line.fact line.further)
-      (run_known line.fact line.further) (run_above line.fact line.further) (run_plain line.fact line.further)
-      (run_bare line.fact line.further) (λ r. mid_node (path ++ r) ∙ unsaid r) holder (key line.first) refl
+      (nested_more path (mx ++ dots) my its_kind its_nested (run_known line.further line.fact line.nested)
+      (run_above line.further line.fact line.nested) (run_plain line.further line.fact)
+      (run_bare line.further line.fact) (λ r. mid_node (path ++ r) ∙ unsaid r) holder (key line.first) refl
       (mid_node holder ∙ plain_holder.0) tables (λ t some. mid_node t ∙ tables_named d t some)
       (λ t some. mid_node (entered_path tables t) ∙ elements_named d t some)
       (child_of_none tables holder line.first plain_holder.1) (mid_nested nested)))
@@ -354,9 +351,9 @@ module _ (d more : Document) (line : HasDotsMore d more) (ids : List ℕ) (obeys
 
   mid_left : NodesAreNested more → AreNested mid tables
   mid_left nested =
-      nested_less path (mx ++ dots) my (first_kind line.fact line.further) (further_said line.fact line.further)
-      (run_known line.fact line.further) (run_above line.fact line.further) (run_plain line.fact line.further)
-      (run_bare line.fact line.further) (λ r. mid_node (path ++ r) ∙ unsaid r) holder (key line.first) refl
+      nested_less path (mx ++ dots) my its_kind its_nested (run_known line.further line.fact line.nested)
+      (run_above line.further line.fact line.nested) (run_plain line.further line.fact)
+      (run_bare line.further line.fact) (λ r. mid_node (path ++ r) ∙ unsaid r) holder (key line.first) refl
       (mid_node holder ∙ plain_holder.0) tables (λ t some. mid_node t ∙ tables_named d t some)
       (λ t some. mid_node (entered_path tables t) ∙ elements_named d t some)
       (child_of_none tables holder line.first plain_holder.1)

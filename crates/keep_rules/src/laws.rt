@@ -15,17 +15,17 @@ pub fn line_nested()
     ensures left { spec.LineLeavesNested }
 {}
 
-/// With one line more, a keyval of several key parts, of which nothing is said at the first one's path or below it, and
-/// with nothing in its value, the nodes of a document that obeys the definition rules are nested as its headers say, if
-/// those of the document without it are; and back.
+/// With one line more, a keyval of several key parts, of which nothing is said at the first one's path or below it, the
+/// nodes of a document that obeys the definition rules are nested as its headers say, if those of the document without
+/// it are; and back.
 pub fn keys_nested()
     ensures nested { spec.KeysAreNested }
     ensures left { spec.KeysLeaveNested }
 {}
 
 /// With one line more, a keyval whose key goes on from tables of dotted keys that are met before it to a key of which
-/// nothing is said, nor below it, and with nothing in its value, the nodes of a document that obeys the definition
-/// rules are nested as its headers say, if those of the document without it are; and back.
+/// nothing is said, nor below it, the nodes of a document that obeys the definition rules are nested as its headers
+/// say, if those of the document without it are; and back.
 pub fn dots_nested()
     ensures nested { spec.DotsAreNested }
     ensures left { spec.DotsLeaveNested }
@@ -46,7 +46,8 @@ pub fn last_line_known()
 
 /// With one line more, whose key goes on from tables of dotted keys to a key with a new path, and with nothing in its
 /// value, the facts about all nodes are those of the document without it, with the nodes of the new keys, and with one
-/// mention more of each of these tables; and so they are back, in a document that obeys the definition rules.
+/// mention more of each of these tables. Whatever is in the value, so they are back, in a document that obeys the
+/// definition rules.
 pub fn dots_known()
     ensures added { DotsAddNodes }
     ensures taken { DotsTakeNodes }

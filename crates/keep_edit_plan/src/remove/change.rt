@@ -66,7 +66,7 @@ impl<'a> DocumentRef<'a> {
             key: value.first_key,
         };
         if value.keys != 1 {
-            return self.removed_keys(path, node, line, value.keys);
+            return self.removed_keys(path, line, value.keys);
         }
         if self.index.child_count(node) == 0 {
             return Some(IndexChange::RemovedLine { node, line });
@@ -76,19 +76,18 @@ impl<'a> DocumentRef<'a> {
     }
 
     /// What a removal changes of the index, if that is a line less with so many keys, several, of which nothing else
-    /// names one. The keys before that one are passed: then nothing may be in the value, and their tables of dotted
-    /// keys have to stay such tables, and to be met before the line. It takes no memory.
+    /// names one. The keys before that one are passed: their tables of dotted keys have to stay such tables, and to be
+    /// met before the line. It takes no memory.
     fn removed_keys(
         &self,
         path: &Path,
-        node: NodeId,
         line: LineNumbers,
         keys: usize,
     ) -> Option<IndexChange<'static>>
         requires { (s : tree.Document) × IsTextOfTree self.now s
-            × IsKeysRemoval self.now.profile path.now s node line keys }
+            × IsKeysRemoval self.now.profile path.now s line keys }
         ensures { (s : tree.Document) → IsTextOfTree self.now s
-            → IsKeysRemoval self.now.profile path.now s node line keys
+            → IsKeysRemoval self.now.profile path.now s line keys
             → IfSome result (IsIndexChange s (edited_document s (remove path.now))) }
     {
         let totals = totals_of(self.syntax);
@@ -101,9 +100,7 @@ impl<'a> DocumentRef<'a> {
                 totals,
             });
         }
-        if self.index.child_count(node) != 0
-            || !self.is_dotted_before(path, first.before, line.key)
-        {
+        if !self.is_dotted_before(path, first.before, line.key) {
             return None;
         }
         Some(IndexChange::RemovedKeys {

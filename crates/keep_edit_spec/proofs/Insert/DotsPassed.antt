@@ -6,12 +6,11 @@ use Rattle.std.proofs.Common.{◌≡◌, ℕ, suc, ◌-◌, ◌<◌, Bool, true,
 use Rattle.std.proofs.Common.{append_assoc, length-append, arith, Some, inl, inr, refl, sym, ap, subst, ◌∙◌}
 use Rattle.std.specs.List.{filter_map, list_any}
 use Rattle.std.proofs.lemmas.List.{append_cancel_left, length-map}
-use Rattle.keep_syntax.specs.Tree.{Document}
+use Rattle.keep_syntax.specs.Tree.{Document, Value}
 use Rattle.keep_path.specs.KeysAlone.{paths_below}
 use Rattle.keep_path.specs.Path.{Part, key, same_path}
 use Rattle.keep_meaning.specs.Counts.{line_statement}
 use Rattle.keep_meaning.specs.DotsMore.{HasDotsMore, new_path, passed_paths}
-use Rattle.keep_meaning.specs.Fact.{Fact}
 use Rattle.keep_meaning.specs.Marks.{Mention, Reading, Statement, below, mentions, reading_after, start}
 use Rattle.keep_meaning.specs.Meaning.{lines, lines_mentions, mentions_in}
 use Rattle.keep_meaning.specs.Nodes.{is_at, is_node}
@@ -41,13 +40,13 @@ pub record PassesTo (s more : Document) (body a : List Part) (first : List ℕ) 
 one_first : (k l : List ℕ) (ks ls : List (List ℕ)) → k ∷ ks ≡ l ∷ ls → (k ≡ l) × (ks ≡ ls)
 one_first k l ks ls e = (let first : k ≡ l = cc in first, let rest : ks ≡ ls = cc in rest)
 
-pub passed_to_holder : (s more : Document) (path : List Part) (first : List ℕ) (further : List (List ℕ)) (fact : Fact)
-    (i : ℕ) → path ≡ holder path (mentions_in s) ++ map key (first ∷ further)
+pub passed_to_holder : (s more : Document) (path : List Part) (first : List ℕ) (further : List (List ℕ))
+    (value : Value) (i : ℕ) → path ≡ holder path (mentions_in s) ++ map key (first ∷ further)
     → last_line (leads_dotted (holder path (mentions_in s))) start (lines s) ≡ Some i
-    → (added : HasDotsAt s more path fact
+    → (added : HasDotsAt s more path value
     (length (holder path (mentions_in s)) - length (reading_at i (lines s)).body) (take (suc i) (lines s)))
     → PassesTo s more (reading_at i (lines s)).body (holder path (mentions_in s)) first further added.line
-passed_to_holder s more path first further fact i new found added =
+passed_to_holder s more path first further value i new found added =
     let a : List Part = holder path (mentions_in s) in
     let body : List Part = (reading_at i (lines s)).body in
     let there : IsDottedLine s a i = dotted_line s a i found in

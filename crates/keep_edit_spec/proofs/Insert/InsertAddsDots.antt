@@ -11,16 +11,17 @@ use Rattle.std.specs.Prelude.{IsUtf8}
 use Rattle.std.specs.List.{AllByRecursion}
 use Rattle.std.proofs.lemmas.List.{length-map, take-append-drop}
 use Rattle.keep_types.specs.declared.leaf.Profile.{Profile}
-use Rattle.keep_syntax.specs.Tree.{Entries, Value, Line, Document, keyval}
+use Rattle.keep_syntax.specs.Tree.{Value, Line, Document, keyval}
 use Rattle.keep_path.specs.Path.{Part, key}
 use Rattle.keep_meaning.specs.Counts.{statements_in}
 use Rattle.keep_meaning.specs.DotsMore.{new_path}
 use Rattle.keep_meaning.specs.KeysMore.{IsUnsaid}
 use Rattle.keep_meaning.specs.Marks as marks
 use Rattle.keep_meaning.specs.Marks.{reading_after, start, value as kinds_value}
-use Rattle.keep_meaning.specs.Meaning.{body_fact, keyed_mentions, keys_of, line_of, lines, mentions_in}
+use Rattle.keep_meaning.specs.Meaning.{body_fact, entries_mentions, keyed_mentions, keys_of, line_of, lines}
+use Rattle.keep_meaning.specs.Meaning.{mentions_in, valued_mentions}
 use Rattle.keep_edit_spec.specs.Edits.{at_line, change, edited_document, end_of, insert, name_with}
-use Rattle.keep_edit_spec.specs.KeyvalLines.{HasDotsAt, InsertAddsDots, bare_value}
+use Rattle.keep_edit_spec.specs.KeyvalLines.{HasDotsAt, InsertAddsDots}
 use Rattle.keep_edit_spec.specs.Lines.{last_line, leads_dotted, reading_at}
 use Rattle.keep_edit_spec.specs.Look.{holder, keys_in}
 use Rattle.keep_edit_spec.specs.Refusals.{refusal}
@@ -33,7 +34,7 @@ use Rattle.keep_edit_spec.proofs.Insert.InsertLine.{later_keys}
 use Rattle.keep_edit_spec.proofs.Insert.LinePut as line
 use Rattle.keep_edit_spec.proofs.Insert.NewKeys as keys
 use Rattle.keep_edit_spec.proofs.Rename.KeyTexts.{key_texts}
-use Rattle.keep_edit_spec.proofs.Values.LineCounts.{HasMore, line_counts}
+use Rattle.keep_edit_spec.proofs.Values.LineCounts.{HasMoreWith, value_counts}
 
 -- The path is new, and in the document are the lines up to the last one that leads through its holder, number i.
 module _ (profile : Profile) (limit : ℕ) (s : Document) (path : List Part) (first : List ℕ) (further : List (List ℕ))
@@ -49,7 +50,7 @@ module _ (profile : Profile) (limit : ℕ) (s : Document) (path : List Part) (fi
   body = (reading_at i (lines s)).body
 
   abbrev then : Document
-  then = edited_document s (insert path (bare_value value))
+  then = edited_document s (insert path value)
 
   abbrev before : List Line
   before = take (suc i) (lines s)
@@ -86,9 +87,9 @@ module _ (profile : Profile) (limit : ℕ) (s : Document) (path : List Part) (fi
   edited : statements_in then
       ≡ statements_of before
       ++ marks.keyval (keyed_mentions (passed ++ first ∷ further)
-      (record { path = []; kind = kinds_value (body_fact value.body) } ∷ []))
+      (valued_mentions (kinds_value (body_fact value.body)) (entries_mentions 0 value.nested)))
       ∷ statements_of after
-  edited = line.edited s path there.first (there.prefix ++ first ∷ further) value (suc i) changes few means
+  edited = line.edited_with s path there.first (there.prefix ++ first ∷ further) value (suc i) changes few means value
 
   -- ---- its keys
 
@@ -115,12 +116,11 @@ module _ (profile : Profile) (limit : ℕ) (s : Document) (path : List Part) (fi
     length-map passed key,
   )
 
-  -- of a value that may be put there, the line alone
-  dots_added : HasDotsAt s then path (body_fact value.body) (length a - length body) before
+  dots_added : HasDotsAt s then path value (length a - length body) before
   dots_added =
-      let counts : HasMore s then _ =
-      line_counts s then (statements_of before) (statements_of after) there.first (there.prefix ++ first ∷ further)
-      (body_fact value.body) old edited in
+      let counts : HasMoreWith s then _ value.nested =
+      value_counts s then (statements_of before) (statements_of after) there.first (there.prefix ++ first ∷ further)
+      (body_fact value.body) value.nested old edited in
       record {
         line = record {
           before = statements_of before;
@@ -129,6 +129,7 @@ module _ (profile : Profile) (limit : ℕ) (s : Document) (path : List Part) (fi
           first = first;
           further = further;
           fact = body_fact value.body;
+          nested = value.nested;
           old = old;
           new = edited;
           values = counts.values;
@@ -139,14 +140,10 @@ module _ (profile : Profile) (limit : ℕ) (s : Document) (path : List Part) (fi
             ∙ append_assoc a (key first ∷ []) (map key further) ∙ sym new;
         count = so_many;
         gives = refl;
+        holds = refl;
         unsaid = unsaid;
       }
 
 pub insert_adds_dots : InsertAddsDots
-insert_adds_dots profile limit s path first further value i utf8 allowed new ends found empty =
-    let with_entries : Entries → Document =
-    λ es. edited_document s (insert path (record { body = value.body; nested = es })) in
-    let passed : ℕ = length (holder path (mentions_in s)) - length (reading_at i (lines s)).body in
-    subst (λ (es : Entries).
-    HasDotsAt s (with_entries es) path (body_fact value.body) passed (take (suc i) (lines s))) (sym empty)
-    (dots_added profile limit s path first further value i utf8 allowed new ends found)
+insert_adds_dots profile limit s path first further value i utf8 allowed new ends found =
+    dots_added profile limit s path first further value i utf8 allowed new ends found

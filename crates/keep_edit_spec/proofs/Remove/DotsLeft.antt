@@ -209,7 +209,7 @@ module _ (s : Document) (path : List Part) (before : List Line) (value : Value)
 
   -- ---- the line that the law tells
 
-  module _ (taken : HasDotsAt now s path (body_fact value.body) (length h.passed) before) where
+  module _ (taken : HasDotsAt now s path value (length h.passed) before) where
     abbrev line : HasDotsMore now s
     line = taken.line
 
@@ -329,7 +329,7 @@ module _ (s : Document) (path : List Part) (before : List Line) (value : Value)
 
     -- ---- the tables that the line passes
 
-    module _ (taken : HasDotsAt now s path (body_fact value.body) (length h.passed) before) where
+    module _ (taken : HasDotsAt now s path value (length h.passed) before) where
       pub tables_named : AllOf (IsNamed (mentions taken.line.before))
           (passed_paths taken.line.before taken.line.passed)
       tables_named =

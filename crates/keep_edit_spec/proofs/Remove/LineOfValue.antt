@@ -1,7 +1,7 @@
 -- The line on which the value of a path is (`IsLineValue`): where its key has one part it is a line of which
 -- `RemoveTakesValue` speaks, and where no node is below the value, too, one of which `RemoveTakesLine` does. Where its
--- key has several parts, it is one of which `RemoveTakesKeys` does; with some of them passed, and no node below the
--- value, one of which `RemoveTakesDots` does. Its numbers are those that the syntax has with the value.
+-- key has several parts, it is one of which `RemoveTakesKeys` does; with some of them passed, one of which
+-- `RemoveTakesDots` does. Its numbers are those that the syntax has with the value.
 --
 -- A value in which something is nested has a node below it (`childless`), so here nothing is. What the syntax counts
 -- before a line are the statements, the values and the key parts that the lines before it say (`lines_counted`).
@@ -213,10 +213,10 @@ module _ (path : List Part) (s : Document) (pre rest : List Ended) (was : s.ende
         v.keys,
       )
 
-  pub dots_line_of_value : (n : ℕ) → n < v.own.keys → children path (node_paths (mentions_in s)) ≡ []
+  pub dots_line_of_value : (n : ℕ) → n < v.own.keys
       → (line : IsDotsLineOf s path (map line_of pre) held) × (length line.passed ≡ n)
       × (v.own.keys ≡ length (line.passed ++ line.first ∷ line.further))
-  dots_line_of_value n few alone =
+  dots_line_of_value n few =
       let many : v.own.keys ≡ length (keys_of name.key) =
       v.keys ∙ ap suc (sym (length-map name.key.more further_value)) in
       let c : IsCutAt (keys_of name.key) n = cut_at (keys_of name.key) n (omega (arith, few, many)) in (
@@ -231,7 +231,6 @@ module _ (path : List Part) (s : Document) (pre rest : List Ended) (was : s.ende
           content = v.its_line.content;
           place = v.its_line.named;
           parts = c.whole;
-          empty = empty alone;
         },
         c.many,
         many ∙ ap (λ (ks : List (List ℕ)). length ks) c.whole,

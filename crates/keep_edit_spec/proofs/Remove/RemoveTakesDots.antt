@@ -10,7 +10,7 @@ use Rattle.std.proofs.Common.{◌≡◌, ℕ, ◌<◌, List, [], ◌∷◌, ◌+
 use Rattle.std.proofs.Common.{length-append, arith, inl}
 use Rattle.std.specs.List.{cons_option}
 use Rattle.std.proofs.lemmas.List.{map-append}
-use Rattle.keep_syntax.specs.Tree.{Content, Entries, Value, Line, Document}
+use Rattle.keep_syntax.specs.Tree.{Content, Value, Line, Document}
 use Rattle.keep_path.specs.Path.{Part, key}
 use Rattle.keep_meaning.specs.Counts.{statements_in}
 use Rattle.keep_meaning.specs.DotsMore.{new_path}
@@ -35,7 +35,7 @@ use Rattle.keep_edit_spec.proofs.Common.Stops.{keyed_stops, stops}
 use Rattle.keep_edit_spec.proofs.Common.UnsaidPaths.{unsaid_below}
 use Rattle.keep_edit_spec.proofs.Remove.LineTaken.{rules, said_left, statements_left}
 use Rattle.keep_edit_spec.proofs.Rename.RenameOnce.{Once, once_after, once_counted, once_right}
-use Rattle.keep_edit_spec.proofs.Values.LineCounts.{HasMore, line_counts}
+use Rattle.keep_edit_spec.proofs.Values.LineCounts.{HasMoreWith, value_counts}
 
 -- a path is no prefix of a shorter one
 shorter : (p q : List Part) → length q < length p → Reaches p q → ⊥
@@ -151,14 +151,11 @@ module _ (s : Document) (path : List Part) (before : List Line) (value : Value)
 
   -- ---- the line
 
-  abbrev said_with : List (List ℕ) → Entries → Statement
-  said_with ks es =
-      marks.keyval (keyed_mentions ks (valued_mentions (kinds_value (body_fact value.body)) (entries_mentions 0 es)))
-
   abbrev said_of : List (List ℕ) → List Statement
   said_of ks =
       statements_of before
-      ++ marks.keyval (keyed_mentions ks (record { path = []; kind = kinds_value (body_fact value.body) } ∷ []))
+      ++ marks.keyval (keyed_mentions ks
+      (valued_mentions (kinds_value (body_fact value.body)) (entries_mentions 0 value.nested)))
       ∷ statements_of h.after
 
   pub old : statements_in now ≡ statements_of before ++ statements_of h.after
@@ -168,19 +165,17 @@ module _ (s : Document) (path : List Part) (before : List Line) (value : Value)
   new_keys =
       ap statements_of h.here ∙ statements-append before (h.line ∷ h.after)
       ∙ ap (λ (c : Content). statements_of before ++ cons_option (statement_of c) (statements_of h.after)) h.content
-      ∙ ap (λ (es : Entries).
-      statements_of before ++ said_with (keys_of h.name.key) es ∷ statements_of h.after) h.empty
 
   pub new : statements_in s ≡ said_of (h.passed ++ h.first ∷ h.further)
   new = new_keys ∙ ap said_of h.parts
 
-  pub counts : HasMore now s (length (h.passed ++ h.first ∷ h.further))
+  pub counts : HasMoreWith now s (length (h.passed ++ h.first ∷ h.further)) value.nested
   counts =
-      subst (HasMore now s) (ap (λ (ks : List (List ℕ)). length ks) h.parts)
-      (line_counts now s (statements_of before) (statements_of h.after) (key_value h.name.key.first)
-      (map further_value h.name.key.more) (body_fact value.body) old new_keys)
+      subst (λ (n : ℕ). HasMoreWith now s n value.nested) (ap (λ (ks : List (List ℕ)). length ks) h.parts)
+      (value_counts now s (statements_of before) (statements_of h.after) (key_value h.name.key.first)
+      (map further_value h.name.key.more) (body_fact value.body) value.nested old new_keys)
 
-  taken : HasDotsAt now s path (body_fact value.body) (length h.passed) before
+  taken : HasDotsAt now s path value (length h.passed) before
   taken =
       record {
         line = record {
@@ -190,6 +185,7 @@ module _ (s : Document) (path : List Part) (before : List Line) (value : Value)
           first = h.first;
           further = h.further;
           fact = body_fact value.body;
+          nested = value.nested;
           old = old;
           new = new;
           values = counts.values;
@@ -204,6 +200,7 @@ module _ (s : Document) (path : List Part) (before : List Line) (value : Value)
             ∙ h.place;
         count = refl;
         gives = refl;
+        holds = refl;
         unsaid = unsaid;
       }
 
