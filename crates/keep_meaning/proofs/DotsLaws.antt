@@ -11,7 +11,7 @@ use Rattle.std.proofs.Common.{◌≡◌, ℕ, suc, ◌+◌, ◌-◌, ◌≤◌, 
 use Rattle.std.proofs.Common.{ap₂, ◌∙◌, arith, append_assoc, length-append}
 use Rattle.std.proofs.lemmas.List.Sums.{fold-append}
 use Rattle.keep_syntax.specs.Numbered.{part_count, value_count}
-use Rattle.keep_syntax.specs.Tree.{Document, Entries, none}
+use Rattle.keep_syntax.specs.Tree.{Document, Entries, Value, none}
 use Rattle.keep_path.specs.Dots.{after_parts, totals_after_parts, with_keys as with_key_nodes, with_parts_from}
 use Rattle.keep_path.specs.NodeInfos.{NodeInfos}
 use Rattle.keep_path.specs.NodesBelow.{Totals, shifted}
@@ -19,14 +19,14 @@ use Rattle.keep_path.specs.Path.{Part, key}
 use Rattle.keep_meaning.specs.Counts.{Count, Numbered, count_after}
 use Rattle.keep_meaning.specs.Counts.{count_from, count_with_mention, next_count, no_count}
 use Rattle.keep_meaning.specs.Counts.{numbered_from, numbered_in, numbered_mentions}
-use Rattle.keep_meaning.specs.DotsMore.{DotsAreFound, HasDotsMore, new_path}
-use Rattle.keep_meaning.specs.KeysMore.{IsUnsaid}
+use Rattle.keep_meaning.specs.DotsMore.{DotsAreFound, HasDotsMore, new_path, with_valued_keys}
+use Rattle.keep_meaning.specs.KeysMore.{IsUnsaid, keys_with_value}
 use Rattle.keep_meaning.specs.LinesMore.{node_infos, nodes_after, numbers_after}
 use Rattle.keep_meaning.specs.Marks.{Mention, Reading, below, dotted, keyval, reading_after, start}
 use Rattle.keep_meaning.specs.Marks.{value as mentions_value}
 use Rattle.keep_meaning.specs.Meaning.{entries_mentions, keyed_mentions, valued_mentions}
 use Rattle.keep_meaning.specs.Nodes.{fact_kind, is_node, mention_of, node_paths}
-use Rattle.keep_meaning.specs.OtherValues.{IsSaidBefore, totals_of}
+use Rattle.keep_meaning.specs.OtherValues.{IsSaidBefore, nodes_in_value, totals_of}
 use Rattle.keep_meaning.proofs.CountLemmas.{numbered_mentions-append}
 pub use Rattle.keep_meaning.proofs.DotMentionLemmas.{dot_mentions, parts_later}
 use Rattle.keep_meaning.proofs.DotMentionLemmas.{count_dots, passed_first}
@@ -35,6 +35,7 @@ use Rattle.keep_meaning.proofs.KeyRunLaws.{key_added, line_added, run_added, run
 use Rattle.keep_meaning.proofs.KeyRunLaws.{with_info, with_more}
 use Rattle.keep_meaning.proofs.FirstKeyLemmas.{deep_first, first_kind, first_nested, first_node_kind, first_place}
 use Rattle.keep_meaning.proofs.FirstKeyLemmas.{first_said, is_first_place, says_first, says_table}
+use Rattle.keep_meaning.proofs.KeyValueLemmas.{keys_hold_value}
 use Rattle.keep_meaning.proofs.KeysLaws.{more_next, more_said}
 use Rattle.keep_meaning.proofs.LineFoundLaws.{statement_is_found}
 use Rattle.keep_meaning.proofs.LineLaws.{after_higher, after_line, before_line, before_lower, mentions_old}
@@ -55,7 +56,7 @@ use Rattle.keep_meaning.proofs.LineNumberLemmas.{higher_mentions}
 use Rattle.std.proofs.Common.{subst, Some}
 use Rattle.keep_types.specs.declared.node.Kind.{Kind}
 use Rattle.keep_types.specs.declared.node.Kind.TheVariants as kind
-use Rattle.keep_path.specs.NodeInfos.{LineNumbers, root_infos, with_table, without_node}
+use Rattle.keep_path.specs.NodeInfos.{LineNumbers, root_infos, with_node, with_table, without_node}
 use Rattle.keep_path.specs.NodesBelow.{AreBelow, one_more, with_value}
 use Rattle.keep_meaning.specs.Fact as fact
 use Rattle.keep_meaning.specs.Nodes.{node_number}
@@ -262,10 +263,11 @@ module _ (d more : Document) (line : HasDotsMore d more)
   its_deep : (further : List (List ℕ)) → AllOf IsDeeper (first_nested further line.fact inner)
   its_deep further = deep_first further line.fact inner (deeper_inside 0 line.nested)
 
-  -- with the first new key alone, of a node of this kind
-  abbrev pub with_first : NodeInfos → Kind → NodeInfos
-  with_first t k =
-      with_info t (nodes_after line.before) its_numbers p (named c' (first_place line.further) k)
+  -- with the first new key alone
+  abbrev pub with_first : NodeInfos → NodeInfos
+  with_first t =
+      with_info t (nodes_after line.before) its_numbers p
+      (named c' (first_place line.further) (first_node_kind line.further line.fact))
 
   -- what is said below it, alone
   abbrev pub inside_first : NodeInfos
@@ -274,17 +276,50 @@ module _ (d more : Document) (line : HasDotsMore d more)
       (first_nested line.further line.fact inner))
 
   pub dots_given : infos_of (xs ++ rest)
-      ≡ with_value (with_first lifted kind.Table) (nodes_after line.before) 0 (one_more old_totals) (totals_of more)
+      ≡ with_value (with_first lifted) (nodes_after line.before) 0 (one_more old_totals) (totals_of more)
       inside_first (first_node_kind line.further line.fact)
   dots_given =
       run_added c' xs later_ws lower' higher' few' p none_there line.fact (first_place line.further)
-      (is_first_place line.further) (first_kind line.further line.fact) (first_kind line.further fact.table)
-      (first_node_kind line.further line.fact) kind.Table (says_first p c' line.further line.fact)
-      (says_table p c' line.further) (first_nested line.further line.fact inner) (its_deep line.further) v
-      (parts_after line.further) old_totals (totals_of more) line.values keys_are
+      (is_first_place line.further) (first_kind line.further line.fact) (first_kind line.further line.fact)
+      (first_node_kind line.further line.fact) (first_node_kind line.further line.fact)
+      (says_first p c' line.further line.fact) (says_first p c' line.further line.fact)
+      (first_nested line.further line.fact inner) (its_deep line.further) v (parts_after line.further) old_totals
+      (totals_of more) line.values keys_are
       ∙ ap₂ (λ (t : NodeInfos) (n : ℕ).
-      with_value (with_info t n (line_of c') p (named c' (first_place line.further) kind.Table)) n 0
+      with_value (with_info t n (line_of c') p
+      (named c' (first_place line.further) (first_node_kind line.further line.fact))) n 0
       (one_more old_totals) (totals_of more) inside_first (first_node_kind line.further line.fact)) parts_nodes met
+
+  -- ---- with this in the value
+
+  valued_by : (further : List (List ℕ)) (held : Value) → line.nested ≡ held.nested
+      → with_value (with_info lifted (nodes_after line.before) its_numbers p
+      (named c' (first_place further) (first_node_kind further line.fact))) (nodes_after line.before) 0
+      (one_more old_totals) (totals_of more)
+      (infos_of (numbered_mentions (count_alone (first_kind further line.fact)) (first_nested further line.fact inner)))
+      (first_node_kind further line.fact)
+      ≡ with_valued_keys lifted (nodes_after line.before) its_numbers p further (fact_kind line.fact)
+      (nodes_in_value held) old_totals (totals_of more)
+  valued_by [] held same =
+      ap (λ (es : Entries).
+      with_value (with_node lifted (nodes_after line.before) its_numbers p (fact_kind line.fact))
+      (nodes_after line.before) 0 (one_more old_totals) (totals_of more)
+      (infos_of (numbered_mentions (count_alone (mentions_value line.fact)) (entries_mentions 0 es)))
+      (fact_kind line.fact)) same
+  valued_by (k ∷ ks) held same =
+      ap (λ (u : NodeInfos).
+      with_value (with_table lifted (nodes_after line.before) its_numbers p) (nodes_after line.before) 0
+      (one_more old_totals) (totals_of more) u kind.Table)
+      (keys_hold_value line.fact inner (deeper_inside 0 line.nested) k ks
+      ∙ ap (λ (es : Entries). keys_with_value (k ∷ ks) (fact_kind line.fact)
+      (infos_of (numbered_mentions (count_alone (mentions_value line.fact)) (entries_mentions 0 es)))) same)
+
+  pub dots_valued : (held : Value) → line.nested ≡ held.nested
+      → infos_of (xs ++ rest)
+      ≡ with_valued_keys (with_parts_from c.keys m (node_infos d)) (nodes_after line.before)
+      (after_parts m (numbers_after line.before)) p line.further (fact_kind line.fact) (nodes_in_value held) old_totals
+      (totals_of more)
+  dots_valued held same = dots_given ∙ valued_by line.further held same
 
   -- ---- with nothing in the value
 

@@ -2,21 +2,24 @@
 -- and such a keyval.
 use Rattle.std.specs.Prelude.{◌≡◌, ℕ, suc, ◌+◌, ◌<◌, ◌≤◌, ◌↔◌, All, IsTrue, List, [], ◌∷◌, ◌++◌, length, map, Some}
 use Rattle.std.specs.Prelude.{slice_index_or}
+use Rattle.keep_types.specs.declared.node.Kind.{Kind}
+use Rattle.keep_types.specs.declared.node.Kind.TheVariants as kind
 use Rattle.keep_types.specs.declared.node.Origin.TheVariants as origin
 use Rattle.keep_syntax.specs.Numbered.{part_count, value_count}
-use Rattle.keep_syntax.specs.Tree.{Document, Entries, none}
+use Rattle.keep_syntax.specs.Tree.{Document, Entries, Value, none}
 use Rattle.keep_path.specs.Dots.{after_parts, totals_after_parts, with_dots, with_keys, with_parts_from}
 use Rattle.keep_path.specs.KeysAlone.{paths_below}
-use Rattle.keep_path.specs.NodeInfos.{no_info}
+use Rattle.keep_path.specs.NodeInfos.{LineNumbers, NodeInfos, no_info, with_node, with_table}
+use Rattle.keep_path.specs.NodesBelow.{Totals, one_more, with_value}
 use Rattle.keep_path.specs.Path.{Part, key}
 use Rattle.keep_meaning.specs.Counts.{statements_in}
 use Rattle.keep_meaning.specs.Fact.{Fact}
-use Rattle.keep_meaning.specs.KeysMore.{IsUnsaid}
+use Rattle.keep_meaning.specs.KeysMore.{IsUnsaid, keys_with_value}
 use Rattle.keep_meaning.specs.LinesMore.{is_met_from, node_infos, nodes_after, numbers_after}
 use Rattle.keep_meaning.specs.Marks.{Statement, keyval, marks, reading_after, start, value}
 use Rattle.keep_meaning.specs.Meaning.{entries_mentions, keyed_mentions, mentions_in, valued_mentions}
 use Rattle.keep_meaning.specs.Nodes.{fact_kind, infos_in, node_number}
-use Rattle.keep_meaning.specs.OtherValues.{totals_of}
+use Rattle.keep_meaning.specs.OtherValues.{nodes_in_value, totals_of}
 use Rattle.keep_meaning.specs.Rules.{ObeysRules}
 
 -- The second document has one line more: after the keys that it passes it has new ones, and states this fact at their
@@ -66,6 +69,28 @@ DotsAddNodes =
     (with_keys (with_parts_from (numbers_after line.before).key (length line.passed) (node_infos d))
     (nodes_after line.before) (after_parts (length line.passed) (numbers_after line.before))
     (new_path line.before line.passed line.first) line.further (fact_kind line.fact)
+    (totals_after_parts (length line.passed) (totals_of d)) (totals_of more))
+
+-- with the nodes of the new keys, as `with_keys` of keep_path tells it, and those of the value below that of the last
+abbrev pub with_valued_keys : NodeInfos → ℕ → LineNumbers → List Part → List (List ℕ) → Kind → NodeInfos → Totals
+    → Totals → NodeInfos
+with_valued_keys t at line path [] k inside old new =
+    with_value (with_node t at line path k) at 0 (one_more old) new inside k
+with_valued_keys t at line path (x ∷ xs) k inside old new =
+    with_value (with_table t at line path) at 0 (one_more old) new (keys_with_value (x ∷ xs) k inside) kind.Table
+
+-- With this in its value, it gives the nodes of the value below that of the last key.
+abbrev pub DotsAddValueNodes : Type 0
+DotsAddValueNodes =
+    (d more : Document) (line : HasDotsMore d more) (ids : List ℕ)
+    → AreDotted d (nodes_after line.before) (passed_paths line.before line.passed) ids
+    → IsUnsaid d (new_path line.before line.passed line.first)
+    → (v : Value) → line.nested ≡ v.nested
+    → node_infos more
+    ≡ with_dots (numbers_after line.before).value ids
+    (with_valued_keys (with_parts_from (numbers_after line.before).key (length line.passed) (node_infos d))
+    (nodes_after line.before) (after_parts (length line.passed) (numbers_after line.before))
+    (new_path line.before line.passed line.first) line.further (fact_kind line.fact) (nodes_in_value v)
     (totals_after_parts (length line.passed) (totals_of d)) (totals_of more))
 
 -- The place of the first new node is found by the facts about the others: from there on they are first met after the

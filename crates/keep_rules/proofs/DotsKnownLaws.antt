@@ -4,7 +4,7 @@
 -- line, so among these nodes it has the number that it had (`number_kept`), and it is a table of dotted keys still
 -- (`table_kept`). So each passed key gives it one mention more (`dots_added`).
 --
--- Theorems: `dots_add_nodes`; `dots_more`: the same, by the list of what is said.
+-- Theorems: `dots_add_nodes`, `dots_add_value_nodes`; `dots_more`: the same, by the list of what is said.
 use Rattle.std.proofs.Common.{◌≡◌, ℕ, suc, ◌+◌, ◌<◌, ◌≤◌, Bool, true}
 use Rattle.std.proofs.Common.{false, cond, List, [], ◌∷◌, ◌++◌, get_or, length, map}
 use Rattle.std.proofs.Common.{refl, sym, ap, ap₂, subst, ◌∙◌, arith, Some}
@@ -16,17 +16,18 @@ use Rattle.std.proofs.lemmas.List.Edits.{get_or-insert_below, length-insert}
 use Rattle.keep_types.specs.declared.node.Kind.{Kind}
 use Rattle.keep_types.specs.declared.node.NodeInfo.{NodeInfo}
 use Rattle.keep_types.specs.declared.node.Origin.TheVariants as origin
-use Rattle.keep_syntax.specs.Tree.{Document, none}
+use Rattle.keep_syntax.specs.Tree.{Document, Value, none}
 use Rattle.keep_path.specs.Dots.{after_parts, totals_after_parts, with_keys, with_parts_from}
 use Rattle.keep_path.specs.KeysAlone.{paths_below}
 use Rattle.keep_path.specs.NodeInfos.{LineNumbers, NodeInfos, later_number, no_info, renumbered, renumbered_origin}
 use Rattle.keep_path.specs.NodesBelow.{Totals, with_numbers}
 use Rattle.keep_path.specs.Path.{Part, key}
-use Rattle.keep_meaning.specs.DotsMore.{AreDotted, DotsAddNodes, HasDotsMore, IsDotted, new_path, passed_paths}
+use Rattle.keep_meaning.specs.DotsMore.{AreDotted, DotsAddNodes, DotsAddValueNodes, HasDotsMore, IsDotted, new_path}
+use Rattle.keep_meaning.specs.DotsMore.{passed_paths, with_valued_keys}
 use Rattle.keep_meaning.specs.KeysMore.{IsUnsaid}
 use Rattle.keep_meaning.specs.LinesMore.{node_infos, nodes_after, numbers_after}
 use Rattle.keep_meaning.specs.Nodes.{fact_kind, node_number}
-use Rattle.keep_meaning.specs.OtherValues.{totals_of}
+use Rattle.keep_meaning.specs.OtherValues.{nodes_in_value, totals_of}
 use Rattle.std.proofs.Common.{◌≢◌}
 use Rattle.std.specs.Prelude.{◌||◌, drop}
 use Rattle.std.proofs.lemmas.Bool.{or_left}
@@ -41,8 +42,8 @@ use Rattle.keep_meaning.specs.Counts.{Count, Numbered, is_mark, no_count}
 use Rattle.keep_meaning.specs.Nodes.{is_at, is_node, mention_of, node_paths, numbered_at}
 use Rattle.keep_meaning.specs.OtherValues.{IsSaidBefore}
 use Rattle.keep_meaning.proofs.CountLemmas.{mentions-numbered_from, paths-nodes}
-use Rattle.keep_meaning.proofs.DotsLaws.{c, c', dots_given, dots_nodes, dots_numbered, few_said, inside_first}
-use Rattle.keep_meaning.proofs.DotsLaws.{late_rest, rest, xs as said_before}
+use Rattle.keep_meaning.proofs.DotsLaws.{c, c', dots_given, dots_nodes, dots_numbered, dots_valued, few_said}
+use Rattle.keep_meaning.proofs.DotsLaws.{inside_first, late_rest, rest, xs as said_before}
 use Rattle.keep_meaning.proofs.ElementLemmas.{IsSoundStatement, sound_from, sound_statements}
 use Rattle.keep_meaning.proofs.FirstKeyLemmas.{first_node_kind, first_place}
 use Rattle.keep_meaning.proofs.KeyRunLaws.{with_info}
@@ -215,7 +216,7 @@ module _ (d more : Document) (line : HasDotsMore d more) (ids : List ℕ)
 
   -- the facts about the first new key's node, before its value is there
   abbrev its_info : NodeInfo
-  its_info = named_info (c' d more line unsaid) (first_place line.further) kind.Table
+  its_info = named_info (c' d more line unsaid) (first_place line.further) its_kind
 
   abbrev inside : NodeInfos
   inside = inside_first d more line unsaid
@@ -345,5 +346,15 @@ module _ (d more : Document) (line : HasDotsMore d more) (ids : List ℕ)
       (totals_after_parts (length line.passed) (totals_of d)) (totals_of more))
   nodes_more empty = dots_more ∙ ap (with_dots its_count.values ids) (dots_nodes d more line unsaid empty)
 
+  nodes_valued : (v : Value) → line.nested ≡ v.nested
+      → node_infos more
+      ≡ with_dots (numbers_after line.before).value ids
+      (with_valued_keys lifted at its_numbers its_path line.further (fact_kind line.fact) (nodes_in_value v)
+      (totals_after_parts (length line.passed) (totals_of d)) (totals_of more))
+  nodes_valued v same = dots_more ∙ ap (with_dots its_count.values ids) (dots_valued d more line unsaid v same)
+
 pub dots_add_nodes : DotsAddNodes
 dots_add_nodes d more line ids passed unsaid empty = nodes_more d more line ids passed unsaid empty
+
+pub dots_add_value_nodes : DotsAddValueNodes
+dots_add_value_nodes d more line ids passed unsaid v same = nodes_valued d more line ids passed unsaid v same

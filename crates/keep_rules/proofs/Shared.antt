@@ -13,5 +13,5 @@ pub use Rattle.keep_rules.proofs.StatementKnownLaws.{statement_is_known}
 pub use Rattle.keep_rules.proofs.ValueLaws.{in_wide, strict_value}
 pub use Rattle.keep_rules.proofs.ValueNestedLaws.{empty_has_no_child, value_is_nested}
 pub use Rattle.keep_rules.proofs.PathNumberLaws.{has_number, number_at, paths_differ}
-pub use Rattle.keep_rules.proofs.DotsKnownLaws.{dots_add_nodes}
+pub use Rattle.keep_rules.proofs.DotsKnownLaws.{dots_add_nodes, dots_add_value_nodes}
 pub use Rattle.keep_rules.proofs.DotsLessLaws.{dots_take_nodes}

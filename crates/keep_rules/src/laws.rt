@@ -1,7 +1,7 @@
 //! Laws of the nodes where a line or a header is more, or another value is in the place of one, each the contract of a
 //! function that does nothing.
 ghost use Rattle.keep_meaning.specs.DotsLess.{DotsTakeNodes};
-ghost use Rattle.keep_meaning.specs.DotsMore.{DotsAddNodes};
+ghost use Rattle.keep_meaning.specs.DotsMore.{DotsAddNodes, DotsAddValueNodes};
 ghost use Rattle.keep_rules.specs.LinesNested as spec;
 ghost use Rattle.keep_rules.specs.StatementsNested as headers;
 ghost use Rattle.keep_rules.specs.StatementsKnown as known;
@@ -44,12 +44,13 @@ pub fn last_line_known()
     ensures { known.LastLineIsKnown }
 {}
 
-/// With one line more, whose key goes on from tables of dotted keys to a key with a new path, and with nothing in its
-/// value, the facts about all nodes are those of the document without it, with the nodes of the new keys, and with one
-/// mention more of each of these tables. Whatever is in the value, so they are back, in a document that obeys the
-/// definition rules.
+/// With one line more, whose key goes on from tables of dotted keys to a key with a new path, the facts about all nodes
+/// are those of the document without it, with the nodes of the new keys, and below the last of these those in its
+/// value, if there are any, and with one mention more of each of these tables; and so they are back, in a document that
+/// obeys the definition rules.
 pub fn dots_known()
     ensures added { DotsAddNodes }
+    ensures valued { DotsAddValueNodes }
     ensures taken { DotsTakeNodes }
 {}
 
