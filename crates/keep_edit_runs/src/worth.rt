@@ -7,6 +7,7 @@ use crate::before::Before;
 use crate::filled::key_after_headers;
 use crate::filled_tables::is_key_below;
 use crate::outline::{SeenAs, Steps};
+use crate::runs::MOST_AT_ONCE;
 use keep_edit_plan::Edit;
 use keep_rules::{Origin, Path, Step};
 use keep_syntax::{Owner, STANDARD_DEPTH, Span};
@@ -15,6 +16,9 @@ use keep_syntax::{Owner, STANDARD_DEPTH, Span};
 const READING: usize = 100_000;
 /// Of no more edits it is looked up whether they are too few to be made at once, before that is tried.
 const FEW: usize = 32;
+
+/// So many edits of several kinds are often made at once, and one more for each 500 bytes of the text.
+const SOON: usize = 70;
 
 /// Whether the keys of a path begin with those of a header, so that it may be of what the header makes.
 fn begins_with(path: &Path, keys: &[String]) -> bool {
@@ -59,6 +63,14 @@ fn up_to_other(edits: &[Edit], most: usize) -> Option<usize>
     }
     let count = edits.len();
     if count > most { None } else { Some(count) }
+}
+
+/// Whether an edit is there and inserts what is below a table.
+fn is_insert_below(edit: Option<&Edit>, table: &Steps) -> bool {
+    let Some(Edit::Insert(path, _)) = edit else {
+        return false;
+    };
+    path.len() > table.len() && agree(&Steps::of(path), table, table.len())
 }
 
 /// Whether an edit comes back to what the one before it inserted, set, renamed or removed, and does another thing to
@@ -149,11 +161,12 @@ impl Before<'_> {
         requires { 0 < length edits.now }
         ensures { IfSome result (λ few. (0 < few) × (few ≤ length edits.now)) }
     {
-        let few = self.up_to_end(edits)?;
-        if self.is_worth_reading(&edits[..few]) {
-            return None;
+        if let Some(few) = self.up_to_end(edits) {
+            if !self.is_worth_reading(&edits[..few]) {
+                return Some(few);
+            }
         }
-        Some(few)
+        if self.opens_run(edits) { Some(1) } else { None }
     }
 
     /// Whether edits take longer one by one than to read the text anew after all of them. It looks at no more of them
@@ -168,6 +181,41 @@ impl Before<'_> {
             }
             if let Edit::Table(_) | Edit::Element(_) = edit {
                 header = Some(edit);
+            }
+        }
+        false
+    }
+
+    /// Whether the first of these edits takes less time alone: it makes a table by its dotted keys, below which a later
+    /// one soon inserts more, which would end the run that this one begins. The sooner the later one comes, the less
+    /// likely is it that another edit ends the run before it. Where the second edit makes such a table too, there may
+    /// be many, so they are not made one by one.
+    fn opens_run(&self, edits: &[Edit]) -> bool
+        requires { 0 < length edits.now }
+    {
+        if self.part_of_reading(&edits[0], None) > READING / 10 {
+            return false;
+        }
+        let soon = (SOON + self.text.len() / 500).min(MOST_AT_ONCE);
+        self.opens_table(edits, 0, soon) && !(edits.len() > 1 && self.opens_table(edits, 1, soon))
+    }
+
+    /// Whether the edit with that number makes a table by its dotted keys, below which one of so many after it inserts
+    /// more, and not the next one: those that come next are made at once with it.
+    fn opens_table(&self, edits: &[Edit], number: usize, count: usize) -> bool
+        requires { number < length edits.now }
+    {
+        let edit = &edits[number];
+        let (Edit::Insert(path, _), SeenAs::FirstKey(first)) = (edit, self.seen_as(edit)) else {
+            return false;
+        };
+        let table = Steps::first(path, first);
+        if first >= path.len() || is_insert_below(edits.get(number + 1), &table) {
+            return false;
+        }
+        for later in number + 1..edits.len().min(number.saturating_add(count)) {
+            if is_insert_below(edits.get(later), &table) {
+                return true;
             }
         }
         false
