@@ -13,7 +13,7 @@ inserts into tables that dotted keys make. Some are of lines that come to one by
 come below them at the end of the text, some of new tables and elements, each with keys of its own, some of lines that come in the place
 of others or right before them, some of new tables that dotted keys make, each with keys in a row. A fifth of the lines that are
 changed have a comment. Values are set and keys renamed again, values are set that were inserted, and edits of entries come back to a
-value, which goes on in the row. Among the edits are some that end it: one that is refused, any other of a path that was there before,
+value, which goes on in the row. Some lists are of keys that are inserted and removed in turn. Among the edits are some that end it: one that is refused, any other of a path that was there before,
 one that is in another's, one that adds a line at the place of a line of another table.
 """
 import sys
@@ -50,7 +50,7 @@ class Run:
         self.entries = [tuple(it.rsplit(b"\t", 1)) for it in self.ran([b"list"], self.text).stdout.split(b"\n")[:-1]]
         kinds = (self.inserts, self.items, self.removes, self.sections, self.sets, self.renames, self.tables, self.elements)
         kinds += (self.gone_elements, self.gone_below, self.dotted, self.brought, self.in_any_order, self.below, self.filled)
-        kinds += (self.in_place, self.parts, self.more_keys, self.before_taken) + 3 * (self.all_kinds,)
+        kinds += (self.in_place, self.parts, self.more_keys, self.before_taken, self.undone) + 3 * (self.all_kinds,)
         self.edits = (getattr(self, kind) if kind else self.random.choice(kinds))()
         if self.random.random() < 0.1:
             self.add_returns(-1)
@@ -328,6 +328,20 @@ class Run:
         for number, path in enumerate(values):
             op = random.choice((b"set", b"rename", b"remove"))
             edits.append(edit_of(op, path, value_of(random) if op == b"set" else None, b"new_%d" % number if op == b"rename" else None))
+        return edits
+
+    def undone(self):
+        """New keys, each removed by the next edit, of any table; now and then another edit comes between, or another key goes. In half of
+        the lists there are new tables that dotted keys make."""
+        random, edits, given = self.random, [], []
+        tables = [it for nest in (self.with_dotted() if random.random() < 0.5 else []) for it in nest]
+        tables += [b"", *self.of_kind(b"table")] * (1 + len(tables) // 4)
+        several, more = random.choice((0, 0.3)), random.choice((0, 0, 0.05))
+        while len(edits) < self.many:
+            edits.append(self.insert_or_set(given, more, random.choice(tables), len(edits), several))
+            if random.random() < more:
+                edits.append(self.insert_or_set(given, 0.5, random.choice(tables), len(edits), several))
+            edits.append(edit_of(b"remove", random.choice(given) if random.random() < more / 5 else given[-1]))
         return edits
 
     def items(self):

@@ -116,6 +116,9 @@ impl Document {
         ensures next { IfOk result (λ next. next ≡ run.now.end) }
         ensures number { IfErr result (λ stop. stop.0 < length edits.now) }
     {
+        if run.changes.len() == 0 {
+            return Ok(run.end);
+        }
         let Some(document) = self.with_changes(&run.changes) else {
             return self.apply_up_to(edits, first, run.end);
         };

@@ -51,3 +51,4 @@ mod ElementsAlone
 mod KeysLetIn
 mod MoreKeySteps
 mod SameRuns
+mod UndoneSteps

@@ -60,7 +60,7 @@ zip_more (y ∷ ys) zero d x (z ∷ zs) e lt is h r = absurd h
 zip_more (y ∷ ys) (suc i) d x [] e lt is h r = absurd h
 zip_more (y ∷ ys) (suc i) d x (z ∷ zs) e lt is h r = (h.0, zip_more ys i d x zs e (omega arith) is h.1 r)
 
-growth_more : (es : List law.Edit) (e : law.Edit) → growth_of (es ++ e ∷ []) ≡ growth_of es + given_size e + 12
+pub growth_more : (es : List law.Edit) (e : law.Edit) → growth_of (es ++ e ∷ []) ≡ growth_of es + given_size e + 12
 growth_more [] e = omega arith
 growth_more (x ∷ es) e = omega (arith, growth_more es e)
 

@@ -18,3 +18,4 @@ pub mod FilledTables
 pub mod Next
 pub mod Counts
 pub mod Tail
+pub mod Undone

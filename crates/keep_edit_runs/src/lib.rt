@@ -45,6 +45,7 @@ mod seen_headers;
 mod seen_paths;
 mod set_again;
 mod tail;
+mod undone;
 mod value_after;
 mod worth;
 

@@ -11,7 +11,7 @@ use keep_edit_plan::Edit;
 /// How a list goes on from one of its edits.
 #[derive(Drop)]
 pub enum Next {
-    /// These are made at once.
+    /// These are made at once. If they change nothing, the document is as it was.
     AtOnce(Run),
     /// Those up to the one with this number are made one by one.
     OneByOne { end: usize },
@@ -24,6 +24,9 @@ impl Before<'_> {
         ensures further { (first < end_of result) × (end_of result ≤ length edits.now) }
         ensures made { GoesOnTo edits.now first self.now result }
     {
+        if let Some(run) = self.undone_run(edits, first) {
+            return Next::AtOnce(run);
+        }
         if let Some(few) = self.too_few(&edits[first..]) {
             return Next::OneByOne { end: first + few };
         }
@@ -38,6 +41,9 @@ impl Before<'_> {
         ensures further { (first < end_of result) × (end_of result ≤ length edits.now) }
         ensures made { GoesOnTo edits.now first self.now result }
     {
+        if let Some(run) = self.undone_run(edits, first) {
+            return Next::AtOnce(run);
+        }
         if let Some(few) = self.too_few(&edits[first..]) {
             if first + few < edits.len() {
                 return Next::OneByOne { end: first + few };
