@@ -12,9 +12,10 @@ Most lists are of edits of one kind, a fifth of them of edits of all kinds in tu
 inserts into tables that dotted keys make. Some are of lines that come to one byte in an order that jumps, some of headers and of keys that
 come below them at the end of the text, some of new tables and elements, each with keys of its own, some of lines that come in the place
 of others or right before them, some of new tables that dotted keys make, each with keys in a row. A fifth of the lines that are
-changed have a comment. Values are set and keys renamed again, values are set that were inserted, and edits of entries come back to a
-value, which goes on in the row. Some lists are of keys that are inserted and removed in turn. Among the edits are some that end it: one that is refused, any other of a path that was there before,
-one that is in another's, one that adds a line at the place of a line of another table.
+changed have a comment. Values are set and keys renamed again, values are set and keys renamed that were inserted, and edits of entries come
+back to a value, which goes on in the row. Some lists are of keys that are inserted and removed in turn. Among the edits are some that end
+it: one that is refused, any other of a path that was there before, one that is in another's, one that adds a line at the place of a line of
+another table.
 """
 import sys
 from pathlib import Path
@@ -50,7 +51,7 @@ class Run:
         self.entries = [tuple(it.rsplit(b"\t", 1)) for it in self.ran([b"list"], self.text).stdout.split(b"\n")[:-1]]
         kinds = (self.inserts, self.items, self.removes, self.sections, self.sets, self.renames, self.tables, self.elements)
         kinds += (self.gone_elements, self.gone_below, self.dotted, self.brought, self.in_any_order, self.below, self.filled)
-        kinds += (self.in_place, self.parts, self.more_keys, self.before_taken, self.undone) + 3 * (self.all_kinds,)
+        kinds += (self.in_place, self.parts, self.more_keys, self.before_taken, self.undone, self.line_keys) + 3 * (self.all_kinds,)
         self.edits = (getattr(self, kind) if kind else self.random.choice(kinds))()
         if self.random.random() < 0.1:
             self.add_returns(-1)
@@ -95,6 +96,37 @@ class Run:
                 continue
             table = random.choice(tables if random.random() < 0.995 else [b"", *(path for path, _ in self.entries)])
             edits.append(self.insert_or_set(given, later, table, number, several))
+        return edits
+
+    def line_keys(self):
+        """New keys, nearly all of tables with a header, each of them renamed by the next edit, or by one after that, and some renamed
+        again or set in between; now and then to a key that was there, or to its own. In half of the lists some inserts give several
+        keys, or other edits come between; in a third of them some newlines have a carriage return."""
+        random, edits, given = self.random, [], []
+        several, others = random.choice((0, 0.2)), random.choice((0, 0.2))
+        tables = [b"", *(it for it in self.of_kind(b"table") if b"[%s]\n" % it in self.text or it.endswith(b"]"))]
+        if random.random() < 0.3:
+            self.add_returns(random.choice((1, 3, -1)))
+        while len(edits) < self.many:
+            number = len(edits)
+            if given and random.random() < others:
+                at, name = random.randrange(len(given)), random.choice(KEYS) + b"_then_%d" % number
+                edits.append(random.choice((edit_of(b"rename", given[at], key=name), edit_of(b"set", given[at], value_of(random)),
+                                            edit_of(b"table", b"tables_%d" % number), edit_of(b"remove", given[at]))))
+                if b"rename" in edits[-1][:30]:
+                    given[at] = b".".join([*given[at].split(b".")[:-1], name])
+                continue
+            table = random.choice(tables if random.random() < 0.99 else [path for path, _ in self.entries] or [b""])
+            path = self.new_path(table, number, several)
+            edits.append(edit_of(b"insert", path, value_of(random)))
+            for turn in range(random.choice((0, 1, 1, 1, 1, 2, 3))):
+                if random.random() < 0.2:
+                    edits.append(edit_of(b"set", path, value_of(random)))
+                name = random.choice(KEYS) + b"_as_%d" % (number + turn if random.random() < 0.98 else number // 2)
+                name = path.rpartition(b".")[2] if random.random() < 0.01 else name
+                edits.append(edit_of(b"rename", path, key=name))
+                path = b".".join([*path.split(b".")[:-1], name])
+            given.append(path)
         return edits
 
     def with_dotted(self):

@@ -18,13 +18,14 @@ use Rattle.keep_edit_plan.specs.declared.text_edit.TextEdit.{TextEdit}
 use Rattle.keep_edit_runs.specs.Again.{AllowAgain, IsAgainHere, IsPutAgain, LetsAgain, edit_of, outlines_of}
 use Rattle.keep_edit_plan.specs.Reading.{IsTextOfTree, ProfiledText}
 use Rattle.keep_edit_runs.specs.Newlines.{LeavesHere}
-use Rattle.keep_edit_runs.specs.Runs.{Allows, IsRunTo, outlined}
+use Rattle.keep_edit_runs.specs.Runs.{Allows, IsRunTo, LeavesAlone, outlined}
 use Rattle.keep_edit_runs.specs.declared.added_lines.AddedLines.{AddedLines}
 use Rattle.keep_edit_runs.specs.declared.again.Again.{Again}
 use Rattle.keep_edit_runs.specs.declared.again.Again.TheVariants as again
 use Rattle.keep_edit_runs.specs.declared.outline.Outline.{Outline}
 use Rattle.keep_edit_runs.proofs.InsertAgainSteps.{IsAlike, each_instead, inserted_again}
 use Rattle.keep_edit_runs.proofs.InsertAgainSteps.{done_there as line_there}
+use Rattle.keep_edit_runs.proofs.LineKeySteps.{done_there as line_key_there, renamed_there}
 use Rattle.keep_edit_runs.proofs.RenameAgainSteps.{done_there as key_there, renamed_again}
 use Rattle.keep_edit_runs.proofs.RunSteps.{AreMadeTo}
 use Rattle.keep_edit_runs.proofs.SetAgainSteps.{IsDoneThere, changes_again, each_replaced}
@@ -35,6 +36,8 @@ pub each_put : (P : TextChange → Type 0) (a : Again) (old new : List TextChang
 each_put P (again.Value t) old new is all its = each_replaced P old new (change_of t) is all its
 each_put P (again.Key o t) old new is all its = each_replaced P old new (change_of t) is all its
 each_put P (again.Line number was t) old new is all its =
+    each_instead P old new (change_of was) (change_of t) is all its
+each_put P (again.LineKey o giving was t) old new is all its =
     each_instead P old new (change_of was) (change_of t) is all its
 
 -- what is known of all edits before, and not of one alone
@@ -64,6 +67,10 @@ made_once_more edits first end now outlines changes new adds d x (again.Line num
     subst (λ (os : List Outline). AreMadeTo edits first (suc end) now os new adds) (sym (append-nil outlines))
     (inserted_again edits first end now outlines changes new adds d x was t so_far lt here is
     (alike now P outlines t allow seen) lets put)
+made_once_more edits first end now outlines changes new adds d x (again.LineKey o giving was t) P so_far lt here is
+    allow lets seen put =
+    renamed_there edits first end now outlines changes new adds d x o was t so_far lt here is
+    (alike now P outlines t allow.0 seen) (All-weaker P (λ y. LeavesAlone y o) allow.1 outlines seen) lets put
 
 -- ---- in the document after the edits
 
@@ -87,6 +94,13 @@ module _ (s : Document) (edits : List Edit) (n : ℕ) (old now : ProfiledText) (
   done_once_more (again.Line number was t) is allow lets put =
       line_there s edits n old now before outlines changes new adds read h d x lt here was t is
       (alike now P outlines t allow seen) lets put
+      (each_instead (λ b. IsUtf8 b.new) changes new (change_of was) (change_of t) put utf8
+      (IsUtf8-string_bytes t.new))
+      (each_instead (IsChangeIn now.text) changes new (change_of was) (change_of t) put within
+      (change_in now.text t is.within))
+  done_once_more (again.LineKey o giving was t) is allow lets put =
+      line_key_there s edits n old now before outlines changes new adds read h d x lt here o was t is
+      (alike now P outlines t allow.0 seen) (All-weaker P (λ y. LeavesAlone y o) allow.1 outlines seen) lets put
       (each_instead (λ b. IsUtf8 b.new) changes new (change_of was) (change_of t) put utf8
       (IsUtf8-string_bytes t.new))
       (each_instead (IsChangeIn now.text) changes new (change_of was) (change_of t) put within

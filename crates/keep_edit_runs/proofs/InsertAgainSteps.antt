@@ -65,24 +65,26 @@ insert_alone path v w (law.append_table ks) h = h
 insert_alone path v w (law.append_element ks) h = h
 
 -- What one of them sets, or renames, it sets with another insert in the place of one.
-set_in_more : (q path : List Part) (v w : Value) (c d : TextChange) (later earlier : List MadeEdit)
+pub set_in_more : (q path other : List Part) (v w : Value) (c d : TextChange) (later earlier : List MadeEdit)
     → IsSetIn q (later ++ made (law.insert path v) c ∷ earlier)
-    → IsSetIn q (later ++ made (law.insert path w) d ∷ earlier)
-set_in_more q path v w c d [] earlier (inl (value, same)) = absurd cc
-set_in_more q path v w c d [] earlier (inr h) = inr h
-set_in_more q path v w c d (x ∷ later) earlier (inl its) = inl its
-set_in_more q path v w c d (x ∷ later) earlier (inr h) = inr (set_in_more q path v w c d later earlier h)
+    → IsSetIn q (later ++ made (law.insert other w) d ∷ earlier)
+set_in_more q path other v w c d [] earlier (inl (value, same)) = absurd cc
+set_in_more q path other v w c d [] earlier (inr h) = inr h
+set_in_more q path other v w c d (x ∷ later) earlier (inl its) = inl its
+set_in_more q path other v w c d (x ∷ later) earlier (inr h) =
+    inr (set_in_more q path other v w c d later earlier h)
 
-rename_in_more : (q path : List Part) (v w : Value) (c d : TextChange) (later earlier : List MadeEdit)
+pub rename_in_more : (q path other : List Part) (v w : Value) (c d : TextChange) (later earlier : List MadeEdit)
     → IsRenameIn q (later ++ made (law.insert path v) c ∷ earlier)
-    → IsRenameIn q (later ++ made (law.insert path w) d ∷ earlier)
-rename_in_more q path v w c d [] earlier (inl (name, same)) = absurd cc
-rename_in_more q path v w c d [] earlier (inr h) = inr h
-rename_in_more q path v w c d (x ∷ later) earlier (inl its) = inl its
-rename_in_more q path v w c d (x ∷ later) earlier (inr h) = inr (rename_in_more q path v w c d later earlier h)
+    → IsRenameIn q (later ++ made (law.insert other w) d ∷ earlier)
+rename_in_more q path other v w c d [] earlier (inl (name, same)) = absurd cc
+rename_in_more q path other v w c d [] earlier (inr h) = inr h
+rename_in_more q path other v w c d (x ∷ later) earlier (inl its) = inl its
+rename_in_more q path other v w c d (x ∷ later) earlier (inr h) =
+    inr (rename_in_more q path other v w c d later earlier h)
 
 -- what holds of each edit holds with one where another was
-with_one : (P : MadeEdit → Type 0) (m by : MadeEdit) (later earlier : List MadeEdit) → P by
+pub with_one : (P : MadeEdit → Type 0) (m by : MadeEdit) (later earlier : List MadeEdit) → P by
     → All P (later ++ m ∷ earlier) → All P (later ++ by ∷ earlier)
 with_one P m by [] earlier its h = All-cons P by earlier its (All-tail P m earlier h)
 with_one P m by (x ∷ later) earlier its h =
@@ -198,13 +200,13 @@ module _ (s : Document) (edits : List Edit) (n : ℕ) (old now : ProfiledText) (
   set_in : (q : List Part) → IsSetIn q h.ms → IsSetIn q ms
   set_in q there =
       subst (IsSetIn q) (sym r.exchanged.other)
-      (set_in_more q again.path r.value again.more (change_of was) (change_of t) r.exchanged.later r.exchanged.earlier
-      (subst (IsSetIn q) r.exchanged.all there))
+      (set_in_more q again.path again.path r.value again.more (change_of was) (change_of t) r.exchanged.later
+      r.exchanged.earlier (subst (IsSetIn q) r.exchanged.all there))
 
   rename_in : (q : List Part) → IsRenameIn q h.ms → IsRenameIn q ms
   rename_in q there =
       subst (IsRenameIn q) (sym r.exchanged.other)
-      (rename_in_more q again.path r.value again.more (change_of was) (change_of t) r.exchanged.later
+      (rename_in_more q again.path again.path r.value again.more (change_of was) (change_of t) r.exchanged.later
       r.exchanged.earlier (subst (IsRenameIn q) r.exchanged.all there))
 
   -- the line is at its place, and of its table

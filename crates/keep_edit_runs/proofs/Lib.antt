@@ -20,6 +20,7 @@ mod RunSteps
 mod SetAgainSteps
 mod RenameAgainSteps
 mod InsertAgainSteps
+mod LineKeySteps
 mod AgainSteps
 mod AheadLists
 mod AheadSteps

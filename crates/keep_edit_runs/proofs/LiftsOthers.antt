@@ -721,6 +721,7 @@ module _ (edits : List Edit) (first end : ℕ) (now : ProfiledText) (old : Kinds
           ))
       by clear (again.Key o t) is nothing put fresh = alone_lifts (no_ends nothing)
       by clear (again.Line number was t) is nothing put fresh = alone_lifts (no_ends nothing)
+      by clear (again.LineKey o giving was t) is nothing put fresh = alone_lifts (no_ends nothing)
 
 -- ---- as the code goes
 

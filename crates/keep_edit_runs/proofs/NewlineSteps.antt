@@ -12,7 +12,7 @@ use Rattle.keep_edit_spec.specs.TextChanges.{TextChange}
 use Rattle.keep_edit_plan.specs.Reading.{IsTextOfTree, ProfiledText}
 use Rattle.keep_edit_plan.specs.TextEdits.{change_of}
 use Rattle.keep_edit_plan.specs.declared.text_edit.TextEdit.{TextEdit}
-use Rattle.keep_edit_runs.specs.Again.{AllowAgain}
+use Rattle.keep_edit_runs.specs.Again.{AllowAgain, AllowLine}
 use Rattle.keep_edit_runs.specs.KindsRun.{DoesAgain, IsAppended, LetsAgainBefore, LetsChange}
 use Rattle.keep_edit_runs.specs.Newlines.{IsNewlineOf, LeavesBy, LeavesEndBy, LeavesEndHere, LeavesHere}
 use Rattle.keep_edit_runs.specs.SeenPaths.{IsSeen}
@@ -28,12 +28,17 @@ pub leave_here : (now : ProfiledText) (s : Document) → IsTextOfTree now s → 
 leave_here now s read = All-weaker (LeavesHere now) (LeavesNewline s) (λ c leaves. leaves s read)
 
 module _ (now : ProfiledText) (newline : Newline) (known : IsNewlineOf now newline) where
+  line_here : (P : Outline → Type 0) (t : TextEdit) → AllowLine (LeavesBy newline) P t
+      → AllowLine (LeavesHere now) P t
+  line_here P t (inl leaves) = inl (known.changes (change_of t) leaves)
+  line_here P t (inr inserts) = inr inserts
+
   pub allow_here : (P : Outline → Type 0) (a : Again) → AllowAgain (LeavesBy newline) P a
       → AllowAgain (LeavesHere now) P a
   allow_here P (again.Value t) allowed = allowed
   allow_here P (again.Key o t) allowed = allowed
-  allow_here P (again.Line number was t) (inl leaves) = inl (known.changes (change_of t) leaves)
-  allow_here P (again.Line number was t) (inr inserts) = inr inserts
+  allow_here P (again.Line number was t) allowed = line_here P t allowed
+  allow_here P (again.LineKey o giving was t) (line, alone) = (line_here P t line, alone)
 
   pub lets_here : (blocks : List Block) (len : ℕ) (e : law.Edit) (t : TextEdit)
       → LetsChange (LeavesBy newline) blocks len e t → LetsChange (LeavesHere now) blocks len e t
@@ -46,6 +51,7 @@ module _ (now : ProfiledText) (newline : Newline) (known : IsNewlineOf now newli
   again_here blocks (again.Value t) (inr leaves) = inr (known.changes (change_of t) leaves)
   again_here blocks (again.Key o t) none = none
   again_here blocks (again.Line number was t) none = none
+  again_here blocks (again.LineKey o giving was t) none = none
 
   pub does_here : (old : KindsRun) (a : Again) (new : KindsRun) → DoesAgain (LeavesBy newline) old a new
       → DoesAgain (LeavesHere now) old a new

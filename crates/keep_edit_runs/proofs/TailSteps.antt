@@ -296,8 +296,9 @@ module _ (edits : List Edit) (first number : ℕ) (now : ProfiledText) (old new 
             (ap₂ (λ (k m : ℕ). nat_lt 0 m && (k + m == n)) (sym put.at) (sym put.size) ∙ was))
         by (inr clear) (again.Key o t) none put = inl (same_end puts.does.tail none)
         by (inr clear) (again.Line k was t) none put = inl (same_end puts.does.tail none)
+        by (inr clear) (again.LineKey o k was t) none put = inl (same_end puts.does.tail none)
 
-    -- what others see anew of it is a rename, where nothing is at the end
+    -- what others see anew of it is a rename or an insert, where nothing is at the end
     again_apart : (a : Again) → LetsAgainBefore (LeavesHere now) old.tail.blocks.items a
         → (old.tail.blocks.items ≡ [])
         ⊎ All (λ o. All (λ y. LeavesAlone y o) old.tail.outlines.items) (outlines_of a)
@@ -305,12 +306,14 @@ module _ (edits : List Edit) (first number : ℕ) (now : ProfiledText) (old new 
         inr (All-nil (λ (o : Outline). All (λ y. LeavesAlone y o) old.tail.outlines.items))
     again_apart (again.Key o t) none = inl none
     again_apart (again.Line k was t) none = inl none
+    again_apart (again.LineKey o k was t) none = inl none
 
     again_given : (a : Again) → IsAgainHere now x old.so_far.outlines.items old.so_far.changes a
         → (e : law.Edit) × IsEdit x e
     again_given (again.Value t) is = (is.edit, is.is)
     again_given (again.Key o t) is = (law.rename (beside is.path is.name) is.more, is.is)
     again_given (again.Line k was t) is = (law.set is.path is.more, is.is)
+    again_given (again.LineKey o k was t) is = (law.rename is.path is.name, is.is)
 
     pub goes_again : AreMadeIn edits first (suc number) now new
     goes_again =

@@ -17,6 +17,8 @@ use crate::outline::Outline;
 use crate::seen::SeenKeys;
 use crate::seen_paths::SeenPaths;
 use keep_edit_plan::{Edit, Planner, TextEdit};
+use keep_rules::Path;
+use std::cell::OnceCell;
 
 /// What an edit does that an earlier one did, with its change of the text, which comes in the place of that one's.
 #[derive(Drop)]
@@ -28,10 +30,14 @@ pub enum Again<'a> {
     /// It sets a value that an edit inserts, at the path for which a number stands: that edit's change, and its own,
     /// which inserts this value.
     Line(u64, TextEdit, TextEdit),
+    /// It renames the key of a line that an edit adds. What stands for it inserts the line's value at the new path, and
+    /// the edit with this number in the list gave that: that line's change, and its own, which adds this line.
+    LineKey(Outline<'a>, usize, TextEdit, TextEdit),
 }
 
 impl Before<'_> {
-    /// What an edit does again that these edits, some of a list, are known to do.
+    /// What an edit does again that these edits, some of a list, are known to do. If it renames the key of a line, the
+    /// new path is kept in the room for it.
     pub(crate) fn again<'a>(
         &self,
         so_far: &AtOnce<'a>,
@@ -39,6 +45,7 @@ impl Before<'_> {
         planner: &mut Planner,
         edits: &[Edit],
         edit: &'a Edit,
+        room: Option<&'a OnceCell<Path>>,
     ) -> Option<Again<'a>>
         requires { planner.old ≡ self.now }
         ensures again { IfSome result
@@ -51,8 +58,13 @@ impl Before<'_> {
         if let Some((outline, change)) = self.rename_again(so_far, edit) {
             return Some(Again::Key(outline, change));
         }
-        let (number, earlier, change) = self.line_again(so_far, planner, edits, edit)?;
-        Some(Again::Line(number, earlier, change))
+        if let Some((number, earlier, change)) = self.line_again(so_far, planner, edits, edit) {
+            return Some(Again::Line(number, earlier, change));
+        }
+        let (outline, giving, earlier, change) = self.line_key_again(
+            so_far, planner, edits, edit, room,
+        )?;
+        Some(Again::LineKey(outline, giving, earlier, change))
     }
 }
 
@@ -81,6 +93,10 @@ impl<'a> AtOnce<'a> {
             Again::Line(path, earlier, change) => {
                 lines.has_no_follower() && self.exchange(newline, number, path, &earlier, change)
             }
+            Again::LineKey(outline, giving, earlier, change) => {
+                lines.has_no_follower()
+                    && self.rename_line(newline, giving, outline, &earlier, change)
+            }
         }
     }
 }
@@ -97,6 +113,11 @@ impl<'a> SeenKeys<'a> {
             Again::Value(_) => true,
             Again::Key(outline, _) => self.allow(outline) && self.add(outline).unwrap_or(false),
             Again::Line(_, _, change) => self.is_of_inserts() || newline.is_left_by(change),
+            Again::LineKey(outline, _, _, change) => {
+                (self.is_of_inserts() || newline.is_left_by(change))
+                    && self.leaves_alone(outline)
+                    && self.add(outline).unwrap_or(false)
+            }
         }
     }
 }
@@ -112,6 +133,11 @@ impl<'a> SeenPaths<'a> {
             Again::Value(_) => true,
             Again::Key(outline, _) => self.allow(outline) && self.add(outline).unwrap_or(false),
             Again::Line(_, _, change) => newline.is_left_by(change),
+            Again::LineKey(outline, _, _, change) => {
+                newline.is_left_by(change)
+                    && self.leave_alone(outline)
+                    && self.add(outline).unwrap_or(false)
+            }
         }
     }
 }

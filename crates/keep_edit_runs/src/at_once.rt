@@ -182,8 +182,42 @@ impl<'a> AtOnce<'a> {
             → (self.old.leave_newline ≡ true) × LeavesBy newline (change_of change) }
         ensures refused { result ≡ false → self.new.changes ≡ self.old.changes }
     {
+        self.values.insert(path, number).is_ok() && self.put_instead(newline, earlier, change)
+    }
+
+    /// Adds what stands for an edit that gives another key to a line, with its change in the place of that line's. The
+    /// edit with this number in the list gave the line's value. Returns whether the other change is there; if not, no
+    /// change has come in the place of one.
+    pub fn rename_line(
+        &mut self,
+        newline: Newline,
+        giving: usize,
+        outline: Outline<'a>,
+        earlier: &TextEdit,
+        change: TextEdit,
+    ) -> bool
+        ensures changes { IsTrue result
+            → HasInstead self.old.changes (change_of earlier.now) (change_of change) self.new.changes }
+        ensures outlines { IsTrue result → self.new.outlines.items ≡ self.old.outlines.items ++ outline.entry ∷ [] }
+        ensures newline { IsTrue result → self.new.leave_newline ≡ true
+            → (self.old.leave_newline ≡ true) × LeavesBy newline (change_of change) }
+        ensures refused { result ≡ false → self.new.changes ≡ self.old.changes }
+    {
+        self.add_outline(giving, outline) && self.put_instead(newline, earlier, change)
+    }
+
+    /// Puts a change in the place of another. Returns whether the other is there; if not, no change has come in the
+    /// place of one.
+    fn put_instead(&mut self, newline: Newline, earlier: &TextEdit, change: TextEdit) -> bool
+        ensures changes { IsTrue result
+            → HasInstead self.old.changes (change_of earlier.now) (change_of change) self.new.changes }
+        ensures outlines { self.new.outlines.items ≡ self.old.outlines.items }
+        ensures newline { IsTrue result → self.new.leave_newline ≡ true
+            → (self.old.leave_newline ≡ true) × LeavesBy newline (change_of change) }
+        ensures refused { result ≡ false → self.new.changes ≡ self.old.changes }
+    {
         let is_left = newline.is_left_by(&change);
-        if self.values.insert(path, number).is_err() || !self.changes.exchange(earlier, change) {
+        if !self.changes.exchange(earlier, change) {
             return false;
         }
         if !is_left {

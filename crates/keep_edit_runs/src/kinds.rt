@@ -17,6 +17,8 @@ use crate::runs::MOST_AT_ONCE;
 use crate::tail::Tail;
 use keep_edit_plan::{Edit, TextEdit};
 use keep_edit_spec::LineKind;
+use keep_rules::Path;
+use std::cell::OnceCell;
 
 /// To copy so many bytes counts as to compare one pair of edits.
 const BYTES_A_PAIR: usize = 64;
@@ -40,11 +42,12 @@ impl Before<'_> {
         ensures made { MakeChanges edits.now first result.end self.now result.changes }
         ensures within { All (IsChangeIn self.now.text) result.changes }
     {
+        let end = edits.len().min(first.saturating_add(MOST_AT_ONCE));
+        let room = self.room_for_paths(edits, first, end);
         let mut run = KindsRun::new(self.alloc(), self.as_ref(), self.most_pairs());
         let len = self.text.len();
-        let end = edits.len().min(first.saturating_add(MOST_AT_ONCE));
         for number in first..end {
-            if !self.goes_on(&mut run, edits, number) {
+            if !self.goes_on(&mut run, edits, number, room.get(number - first)) {
                 return run.up_to(self.alloc(), first, number, len);
             }
         }
@@ -54,7 +57,13 @@ impl Before<'_> {
     /// Whether a run goes on with the edit that has this number: its change is made with the others then. If it does
     /// not, they have not changed. It does not with a header below which a key comes next: from that on, new tables and
     /// elements with their keys are made at once, and no run of another kind could go on past that key.
-    fn goes_on<'a>(&self, run: &mut KindsRun<'a>, edits: &'a [Edit], number: usize) -> bool
+    fn goes_on<'a>(
+        &self,
+        run: &mut KindsRun<'a>,
+        edits: &'a [Edit],
+        number: usize,
+        room: Option<&'a OnceCell<Path>>,
+    ) -> bool
         requires few { number < length edits.now }
         requires run { IsRunOn self.now run.old }
         requires elsewhere { AreElsewhere run.old.gone.arrays.items run.old.so_far.outlines.items }
@@ -72,7 +81,14 @@ impl Before<'_> {
             return self.take_element(run, edit);
         }
         if run.gone.is_empty() {
-            let again = self.again(&run.so_far, &mut run.opened, &mut run.planner, edits, edit);
+            let again = self.again(
+                &run.so_far,
+                &mut run.opened,
+                &mut run.planner,
+                edits,
+                edit,
+                room,
+            );
             if let Some(again) = again {
                 return run.put_again(self.newline, number, again);
             }

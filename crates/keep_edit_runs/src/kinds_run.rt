@@ -85,8 +85,8 @@ impl<'a> KindsRun<'a> {
     }
 
     /// Puts the change of an edit, which has this number in the list, in the place of an earlier one. Returns whether
-    /// it did; if not, no change has come in the place of one. A key is renamed again, and an inserted value set, only
-    /// where nothing comes at the end of the text.
+    /// it did; if not, no change has come in the place of one. A key is renamed again, and an inserted value set or
+    /// its key renamed, only where nothing comes at the end of the text.
     pub fn put_again(&mut self, newline: Newline, number: usize, again: Again<'a>) -> bool
         ensures done { IsTrue result → DoesAgain (LeavesBy newline) self.old again.entry self.new }
         ensures run { (now : ProfiledText) → IsNewlineOf now newline → IsRunOn now self.old → IsTrue result
@@ -108,7 +108,7 @@ impl<'a> KindsRun<'a> {
         }
         match again {
             Again::Value(change) => newline.is_left_by(change),
-            Again::Key(_, _) | Again::Line(_, _, _) => false,
+            Again::Key(_, _) | Again::Line(_, _, _) | Again::LineKey(_, _, _, _) => false,
         }
     }
 

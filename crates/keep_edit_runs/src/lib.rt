@@ -38,6 +38,7 @@ mod one_kind;
 mod opened;
 mod outline;
 mod renamed;
+mod renamed_line;
 mod runs;
 mod sections;
 mod seen;

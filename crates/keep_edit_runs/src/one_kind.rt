@@ -21,16 +21,24 @@ impl Before<'_> {
         ensures made { MakeChanges edits.now first result.end self.now result.changes }
         ensures within { All (IsChangeIn self.now.text) result.changes }
     {
+        let end = edits.len().min(first.saturating_add(MOST_AT_ONCE));
+        let room = self.room_for_paths(edits, first, end);
         let mut so_far = AtOnce::new(self.alloc());
         let mut opened = OpenValues::new(self.alloc());
         let mut planner = Planner::new(self.alloc(), self.as_ref());
         let mut keys = SeenKeys::new(self.alloc(), self.outline_of(&edits[first]));
         let mut lines = AddedLines::new(self.alloc());
         let mut left = self.most_pairs();
-        let end = edits.len().min(first.saturating_add(MOST_AT_ONCE));
         for number in first..end {
             let edit = &edits[number];
-            if let Some(again) = self.again(&so_far, &mut opened, &mut planner, edits, edit) {
+            if let Some(again) = self.again(
+                &so_far,
+                &mut opened,
+                &mut planner,
+                edits,
+                edit,
+                room.get(number - first),
+            ) {
                 if !keys.allow_again(self.newline, &again) {
                     return so_far.up_to(number);
                 }

@@ -146,12 +146,31 @@ impl Before<'_> {
     }
 
     /// Whether an edit is of what a header of these keys makes, or comes back to what the one before it did. Edits of
-    /// entries of a value go on.
+    /// entries of a value go on, and so does the rename of the key of a line that was added at the end of a body.
     fn ends_row(&self, before: &Edit, edit: &Edit, keys: &[String]) -> bool {
         if !keys.is_empty() && is_of_header(edit, keys) {
             return true;
         }
-        comes_back(before, edit) && !matches!(self.seen_as(before), SeenAs::Entry)
+        comes_back(before, edit)
+            && !matches!(self.seen_as(before), SeenAs::Entry)
+            && !self.renames_line(before, edit)
+    }
+
+    /// Whether the second of two edits of one path renames the only new key of a line that the first adds at the end of
+    /// a body.
+    fn renames_line(&self, before: &Edit, edit: &Edit) -> bool {
+        let (Edit::Insert(path, _), Edit::Rename(_, _)) = (before, edit) else {
+            return false;
+        };
+        let steps = self.as_ref().reach(path).steps;
+        let Some(parent) = self.index.find_first(path, steps) else {
+            return false;
+        };
+        path.len().checked_sub(1) == Some(steps)
+            && matches!(
+                self.index.node(parent).origin,
+                Origin::Root | Origin::Header(_) | Origin::Element(_)
+            )
     }
 
     /// How many of these edits are made one by one in any case: none of them can be made at once with the one after

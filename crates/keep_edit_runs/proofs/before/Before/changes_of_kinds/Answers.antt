@@ -33,10 +33,10 @@ loop-number-preserved c =
     )
 
 -- behind the last one, all are gone through
-end_is : (c : goal.After-up_to-2) → c.loop-number.number ≡ c.min-end.result
+end_is : (c : goal.After-drop-room-2) → c.loop-number.number ≡ c.min-end.result
 end_is c = omega (arith, c.loop-number-test.false, c.loop-number.auto.number-end, c.min-end.ensures, c.requires)
 
-at_end : (c : goal.After-up_to-2) → AreMadeIn c.args.edits.now c.args.first c.min-end.result c.args.self.now
+at_end : (c : goal.After-drop-room-2) → AreMadeIn c.args.edits.now c.args.first c.min-end.result c.args.self.now
     c.loop-number.run
 at_end c =
     subst (λ (n : ℕ). AreMadeIn c.args.edits.now c.args.first n c.args.self.now c.loop-number.run) (end_is c)
