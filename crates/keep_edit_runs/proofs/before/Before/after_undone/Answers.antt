@@ -13,13 +13,12 @@ loop-end-preserved c =
     let (low, high, so_far, same) = c.loop-end.invariant in
     let lt : suc end < length edits = omega (arith, c.loop-end-test.true, high) in
     let one : end + 1 ≡ suc end = omega arith in
-    let two : suc (suc end) ≡ end + 2 = omega arith in
-    (
+    let two : suc (suc end) ≡ end + 2 = omega arith in (
       omega (arith, low),
       omega (arith, lt),
       subst (λ n. MakeChanges edits first n now []) two
-      (two_undone edits first end now c.index-edits-end.result then lt (sym c.index-edits-end.is)
-      (subst (λ n. get_or edits n then ≡ then) one (sym c.index-edits-end-in-loop-end.is))
-      (c.is_undone.ensures.undone c.if-not-is_undone.false) so_far),
+          (two_undone edits first end now c.index-edits-end.result then lt (sym c.index-edits-end.is)
+          (subst (λ n. get_or edits n then ≡ then) one (sym c.index-edits-end-in-loop-end.is))
+          (c.is_undone.ensures.undone c.if-not-is_undone.false) so_far),
       c.is_undone.ensures.planner ∙ same,
     )
