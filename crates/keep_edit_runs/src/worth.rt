@@ -284,12 +284,12 @@ impl Before<'_> {
         }
     }
 
-    /// The same of a remove: two take as long of tables, elements and lines with several keys, of which another names
-    /// the first; else 23.
+    /// The same of a remove: two take as long of tables, of elements, and of lines that are the first to make a table
+    /// of dotted keys which others make, too, since the index is built anew for them; else 23.
     fn part_of_remove(&self, path: &Path) -> usize {
         match self.origin_of(path) {
             Some(Origin::Header(_) | Origin::Element(_)) => READING / 2,
-            Some(Origin::Value(number)) if self.shares_first_key(path, number) => self
+            Some(Origin::Value(number)) if self.comes_first_in_table(path, number) => self
                 .part_of_line(number)
                 .saturating_add(READING / 2),
             Some(Origin::Value(number)) => self.part_of_line(number).saturating_add(READING / 23),
@@ -312,8 +312,9 @@ impl Before<'_> {
         Some(self.index.node(id).origin)
     }
 
-    /// Whether the value at a path has a line of its own, with several keys, of which another line names the first.
-    fn shares_first_key(&self, path: &Path, number: usize) -> bool {
+    /// Whether the value at a path has a line of its own, with several keys, of which another line names the first, and
+    /// none before it makes the table that the value is in.
+    fn comes_first_in_table(&self, path: &Path, number: usize) -> bool {
         if number >= self.syntax.value_count() {
             return false;
         }
@@ -325,9 +326,17 @@ impl Before<'_> {
             .index
             .find_first(path, path.len().saturating_sub(further))
         {
-            Some(first) => self.index.node(first).marks != 1,
+            Some(first) => self.index.node(first).marks != 1 && !self.follows_in_table(path),
             None => true,
         }
+    }
+
+    /// Whether several lines make the table that the value at a path is in, and another comes first.
+    fn follows_in_table(&self, path: &Path) -> bool {
+        let Some(table) = self.index.find_first(path, path.len().saturating_sub(1)) else {
+            return false;
+        };
+        self.index.node(table).marks > 1 && self.index.child_at(table, 0) != self.index.find(path)
     }
 
     /// What it takes to read the line again in which a value is, by its number, in parts of what it takes to read the
